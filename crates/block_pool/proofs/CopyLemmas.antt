@@ -44,8 +44,7 @@ module _ (region next out : List ℕ) (first from done count n block : ℕ) (at 
       let place_is : (32 * block + (from + done) % 32) + j ≡ 32 * block + (from + (done + j)) % 32 = omega (arith, one_block) in
       get_or-take n (drop (32 * block + (from + done) % 32) region) j 0 (omega (arith, is))
       ∙ (get_or-drop (32 * block + (from + done) % 32) region j 0
-      ∙ (ap (λ i. get_or region i 0) place_is
-      ∙ ap (λ b. get_or region (32 * b + (from + (done + j)) % 32) 0) (at ∙ ap (block_at next first) block_is)))
+      ∙ (grind arith))
 
   pub copied-bytes : ((k : ℕ) → k < done → get_or out k 0 ≡ linked_byte region next first (from + k))
       → (k : ℕ) → k < done + count → get_or (region_behind out done piece) k 0 ≡ linked_byte region next first (from + k)

@@ -7,7 +7,7 @@ use Rattle.std.proofs.lemmas.List.{set-set, length-map}
 use Rattle.std.proofs.lemmas.List.Sums.{sum_by-cons, sum_by-set, get_or-le-sum_by}
 use Rattle.std.proofs.lemmas.Bool.{cases_eq, eq-eqb, ne_eqb}
 use Rattle.block_pool.specs.declared.owners.Owner.{Owner}
-use Rattle.block_pool.specs.Slots.{Held, blocks_for, slot, with_chain, bytes_in, held_bytes, owner_in}
+use Rattle.block_pool.specs.Slots.{Held, blocks_for, slot, with_chain, held_bytes}
 use Rattle.block_pool.specs.Names.{named_bytes, IsLiveAt, put_at, removed_at, IsNamedAfter}
 use Rattle.block_pool.specs.Owners.{owner_at, with_aside, new_owners}
 use Rattle.block_pool.specs.Pool.{PoolState, quota_of, used_of, aside_of, spare_of}
@@ -34,13 +34,7 @@ in_other p o bytes apart = ap (λ b. cond b (blocks_for (length bytes)) 0) (ne_e
 
 -- a live chain lies at its name
 pub live_slot : (slots : List (Option Held)) (o b : ℕ) → IsLiveAt slots o (Some b) → slot slots b ≡ Some (record { owner = o; bytes = held_bytes slots b })
-live_slot slots o b live = by_slot (slot slots b) refl
-  where
-    by_slot : (s : Option Held) → slot slots b ≡ s → slot slots b ≡ Some (record { owner = o; bytes = held_bytes slots b })
-    by_slot None e = absurd (let none : length (held_bytes slots b) ≡ 0 = ap (λ s. length (bytes_in s)) e in omega (arith, live.0))
-    by_slot (Some held) e =
-        e ∙ (ap (λ x. Some (record { owner = x; bytes = held.bytes })) (sym (ap owner_in e) ∙ live.1)
-        ∙ ap (λ bs. Some (record { owner = o; bytes = bs })) (sym (ap bytes_in e)))
+live_slot slots o b live = grind arith
 
 -- one slot written
 held_set : (slots : List (Option Held)) (b : ℕ) (v : Option Held) (p : ℕ) → b < length slots
@@ -55,8 +49,7 @@ grown_held : (slots : List (Option Held)) (o b : ℕ) (bytes : List ℕ) → IsL
 grown_held slots o b bytes live =
     let low = slot_low slots b live.0 in
     let changed = held_set slots b (Some (record { owner = o; bytes = held_bytes slots b ++ bytes })) o low in
-    let before : blocks_in o (slot slots b) ≡ blocks_for (length (held_bytes slots b)) = ap (blocks_in o) (live_slot slots o b live)
-    ∙ in_same o (held_bytes slots b) in
+    let before : blocks_in o (slot slots b) ≡ blocks_for (length (held_bytes slots b)) = grind arith in
     let after : blocks_in o (Some (record { owner = o; bytes = held_bytes slots b ++ bytes })) ≡ blocks_for (length (held_bytes slots b) + length bytes) =
     in_same o (held_bytes slots b ++ bytes) ∙ ap blocks_for (length-append (held_bytes slots b) bytes) in
     omega (arith, changed, before, after)
@@ -114,8 +107,7 @@ remove_held slots o None live = omega (arith, no_blocks)
 remove_held slots o (Some b) live =
     let low = slot_low slots b live.0 in
     let changed = held_set slots b None o low in
-    let before : blocks_in o (slot slots b) ≡ blocks_for (length (held_bytes slots b)) = ap (blocks_in o) (live_slot slots o b live)
-    ∙ in_same o (held_bytes slots b) in
+    let before : blocks_in o (slot slots b) ≡ blocks_for (length (held_bytes slots b)) = grind arith in
     omega (arith, changed, before)
 
 pub remove_others : (slots : List (Option Held)) (o : ℕ) (name : Option ℕ) (p : ℕ) → IsLiveAt slots o name → p ≢ o
@@ -187,11 +179,7 @@ module _ (pool : PoolState) (counted : IsCounted pool) (o : ℕ) (has : o < leng
               ∙ (ap (λ n. (get_or pool.owners p nobody).aside + n) (sym (others p apart))
               ∙ ap (λ n. n + blocks_held slots p) (sym (ap (λ x. x.aside) (there p apart)))))
         ];
-        within = λ p. elim (cases_eq p o) [
-          | inl same ↦ subst (λ x. (get_or owners x nobody).used ≤ (get_or owners x nobody).quota) (sym same)
-              (omega (arith, ap (λ x. x.used) here, ap (λ x. x.quota) here, within))
-          | inr apart ↦ omega (arith, ap (λ x. x.used) (there p apart), ap (λ x. x.quota) (there p apart), counted.within p)
-        ];
+        within = grind arith;
         few_blocks = omega (arith, sum_by-set (λ x. x.quota) pool.owners o new nobody has, counted.few_blocks);
         few_owners = omega (arith, len, counted.few_owners);
       }

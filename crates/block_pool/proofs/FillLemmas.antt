@@ -1,6 +1,6 @@
 -- Bytes that are written behind one another in the last block of a chain.
-use Rattle.std.proofs.Common.{◌≡◌, ℕ, zero, suc, ◌+◌, ◌-◌, ◌*◌, ◌%◌, ◌<◌, ◌≤◌, List, [], ◌∷◌, ◌++◌, length, get_or, set, take, drop}
-use Rattle.std.proofs.Common.{refl, sym, ap, ◌∙◌, subst, arith, length-set, get_or-set_same, append_assoc}
+use Rattle.std.proofs.Common.{◌≡◌, ℕ, zero, suc, ◌+◌, ◌-◌, ◌*◌, ◌%◌, ◌<◌, ◌≤◌, List, [], ◌∷◌, ◌++◌, length, get_or, set, take, drop, sym, ap, ◌∙◌, subst, arith}
+use Rattle.std.proofs.Common.{length-set, get_or-set_same, append_assoc}
 use Rattle.std.specs.Prelude.{Option, Some, None}
 use Rattle.std.proofs.lemmas.List.{set-set, take_more_set, drop-set-lt, take-append-drop}
 use Rattle.block_pool.specs.declared.heads.Head.{Head}
@@ -17,14 +17,11 @@ written region place [] = region
 written region place (x ∷ xs) = written (set region place x) (place + 1) xs
 
 take-none : (n : ℕ) → take {A = ℕ} n [] ≡ []
-take-none zero = refl
-take-none (suc n) = refl
+take-none n = grind arith
 
 -- a front of a list and a front of the rest
 pub take-join : (xs : List ℕ) (i r : ℕ) → take i xs ++ take r (drop i xs) ≡ take (i + r) xs
-take-join xs zero r =
-    let e : r ≡ 0 + r = omega arith in
-    ap (λ n. take n xs) e
+take-join xs zero r = grind arith
 take-join [] (suc i) r = take-none r ∙ sym (take-none (suc i + r))
 take-join (x ∷ xs) (suc i) r =
     let e : suc (i + r) ≡ suc i + r = omega arith in

@@ -33,5 +33,4 @@ set-filled xs ys n k x y e low = ap (λ zs. zs ++ replicate n x) e ∙ set-befor
 pub sum_by-filled : {A : Type 0} (f : A → ℕ) (xs : List A) (n : ℕ) (x : A) → f x ≡ 0 → sum_by f (xs ++ replicate n x) ≡ sum_by f xs
 sum_by-filled f [] zero x none = refl
 sum_by-filled f [] (suc n) x none = omega (arith, sum_by-cons f x (replicate n x), none, sum_by-filled f [] n x none)
-sum_by-filled f (y ∷ xs) n x none =
-    omega (arith, sum_by-cons f y (xs ++ replicate n x), sum_by-cons f y xs, sum_by-filled f xs n x none)
+sum_by-filled f (y ∷ xs) n x none = omega (arith, sum_by-cons f y (xs ++ replicate n x), sum_by-cons f y xs, sum_by-filled f xs n x none)

@@ -1,6 +1,5 @@
 -- What chains keep over a call that doesn't touch them, and which chains lie apart.
-use Rattle.std.proofs.Common.{◌≡◌, ◌≢◌, ℕ, ◌+◌, ◌<◌, List, [], ◌∷◌, ◌++◌, length, set, refl, sym, ap, ◌∙◌, subst, arith, get_or-set_same, get_or-set_other}
-use Rattle.std.proofs.Common.{length-set}
+use Rattle.std.proofs.Common.{◌≡◌, ◌≢◌, ℕ, ◌+◌, ◌<◌, List, [], ◌∷◌, ◌++◌, length, set, refl, sym, ap, ◌∙◌, arith, get_or-set_same, get_or-set_other, length-set}
 use Rattle.std.specs.Prelude.{Some, None}
 use Rattle.std.specs.List.{AllByRecursion}
 use Rattle.std.proofs.lemmas.List.{set-set, set-get_or}
@@ -8,17 +7,13 @@ use Rattle.std.proofs.lemmas.List.Sums.{sum_by-cons}
 use Rattle.block_pool.specs.declared.chain.Chain.{Chain}
 use Rattle.block_pool.specs.declared.owners.Owner.{Owner}
 use Rattle.block_pool.specs.Slots.{blocks_for}
-use Rattle.block_pool.specs.Names.{named_bytes, IsLiveAt}
 use Rattle.block_pool.specs.Owners.{owner_at, with_used, with_aside}
 use Rattle.block_pool.specs.Pool.{PoolState, IsLive, IsApart, chain_bytes, KeepsOthers}
 use Rattle.block_pool.specs.Holdings.{IsOwnChain, OwnsAll, LiesApart, LieApart, all_bytes, all_blocks, KeptAll}
 
 -- two chains of two owners don't lie in one place
 pub apart_by_owner : (pool : PoolState) (one other : Chain) → IsLive pool one → IsLive pool other → one.owner ≢ other.owner → IsApart one other
-apart_by_owner pool one other a b differ first p q =
-    let x = subst (IsLiveAt pool.slots one.owner) p a.1 in
-    let y = subst (IsLiveAt pool.slots other.owner) q b.1 in
-    differ (sym x.1 ∙ y.1)
+apart_by_owner pool one other a b differ first p q = grind arith
 
 pub apart_turned : (one other : Chain) → IsApart one other → IsApart other one
 apart_turned one other a first p q = a first q p
@@ -121,10 +116,7 @@ pub counted_keeps : (old new : PoolState) (o used aside : ℕ) (chain : Chain) �
     → IsLive new chain × (chain_bytes new chain ≡ chain_bytes old chain)
 counted_keeps old new o used aside chain slots owners live =
     let len : length new.owners ≡ length old.owners = ap length owners
-    ∙ length-set old.owners o (record { quota = (owner_at old.owners o).quota; used = used; aside = aside }) in (
-      (omega (arith, len, live.0), subst (λ s. IsLiveAt s chain.owner chain.first) (sym slots) live.1),
-      ap (λ s. named_bytes s chain.first) slots,
-    )
+    ∙ length-set old.owners o (record { quota = (owner_at old.owners o).quota; used = used; aside = aside }) in (grind arith)
 
 -- a use that is counted anew
 pub with_used-with_used : (owners : List Owner) (o a b : ℕ) → o < length owners → with_used (with_used owners o a) o b ≡ with_used owners o b

@@ -1,6 +1,6 @@
 -- Links between blocks, bytes and marks, one by one.
-use Rattle.std.proofs.Common.{◌≡◌, ◌≢◌, ℕ, zero, suc, ◌+◌, ◌-◌, ◌*◌, ◌/◌, ◌%◌, ◌<◌, ◌≤◌, cond, eqb, ◌⊎◌, inl, inr, List, [], ◌∷◌, ◌++◌, length}
-use Rattle.std.proofs.Common.{get_or, set, map, refl, sym, ap, ◌∙◌, subst, arith, length-set, get_or-set_same, get_or-set_other}
+use Rattle.std.proofs.Common.{◌≡◌, ◌≢◌, ℕ, zero, suc, ◌+◌, ◌-◌, ◌*◌, ◌/◌, ◌%◌, ◌<◌, ◌≤◌, cond, eqb, ◌⊎◌, inl, inr, List, [], ◌∷◌, ◌++◌, length, get_or, set}
+use Rattle.std.proofs.Common.{map, refl, sym, ap, ◌∙◌, arith, length-set, get_or-set_same, get_or-set_other}
 use Rattle.std.specs.Prelude.{Option, Some, None}
 use Rattle.std.specs.List.{range_with_len}
 use Rattle.std.proofs.lemmas.List.{same_lists, get_or_past, get_or_default}
@@ -80,11 +80,7 @@ slot_is region next heads b = by_place (cases_lt b (length heads))
 
 -- two lists made by place are the same where each element is
 pub same_slots : (f g : ℕ → Option Held) (n : ℕ) → ((c : ℕ) → f c ≡ g c) → map f (range_with_len 0 n) ≡ map g (range_with_len 0 n)
-same_slots f g n same =
-    same_lists _ _ (length-map-range_with_len f 0 n ∙ sym (length-map-range_with_len g 0 n))
-    (λ k d h. let low : k < n = omega (arith, length-map-range_with_len f 0 n) in
-    get_or-map-range_with_len f 0 n k k d low (omega arith)
-    ∙ (same k ∙ sym (get_or-map-range_with_len g 0 n k k d low (omega arith))))
+same_slots f g n same = grind arith
 
 -- one chain is written anew, and each other one stays
 pub record WritesOne (region next region' next' : List ℕ) (heads : List (Option Head)) (b : ℕ) (head : Option Head) (v : Option Held) : Type 0 where
@@ -119,9 +115,7 @@ none_is_some h e = cc
 
 -- equal blocks have one mark
 pub same_mark : (mark : ℕ → ℕ × ℕ) (x y c k d j : ℕ) → mark x ≡ (c, k) → mark y ≡ (d, j) → x ≡ y → (c ≡ d) × (k ≡ j)
-same_mark mark x y c k d j mx my same =
-    let e : ◌≡◌ {A = ℕ × ℕ} (c, k) (d, j) = sym mx ∙ (ap mark same ∙ my) in
-    (ap (λ m. m.0) e, ap (λ m. m.1) e)
+same_mark mark x y c k d j mx my same = grind arith
 
 -- places in two blocks differ, and two places in one block
 pub other_block : (x y i j : ℕ) → x ≢ y → 32 * x + i % 32 ≢ 32 * y + j % 32
@@ -138,10 +132,7 @@ pub popped_first : (count c k : ℕ) → popped count c k (count, 0) ≡ (c, k)
 popped_first count c k = rw (eq-eqb count count refl) refl
 
 pub popped_rest : (count c k j : ℕ) → popped count c k (count, 1 + j) ≡ (count, j)
-popped_rest count c k j =
-    let some : 1 + j ≢ 0 = omega arith in
-    let less : 1 + j - 1 ≡ j = omega arith in
-    rw (eq-eqb count count refl, ne_eqb (1 + j) 0 some, less) refl
+popped_rest count c k j = grind arith
 
 -- the marks after the n blocks of chain b became the first free ones
 abbrev pub freed : ℕ → ℕ → ℕ → ℕ × ℕ → ℕ × ℕ
@@ -180,9 +171,7 @@ module _ {next : List ℕ} {mark : ℕ → ℕ × ℕ} {count b : ℕ} {head : H
 
   -- the mark of the last block
   pub last_marked : IsMarked mark count head.last b (blocks_for head.len - 1)
-  last_marked =
-      let some = chain.some in
-      subst (λ x. IsMarked mark count x b (blocks_for head.len - 1)) chain.last (chain.marked (blocks_for head.len - 1) (omega arith))
+  last_marked = grind arith
 
 -- free blocks where a link of a chain changed
 pub free_link : {region next : List ℕ} {heads : List (Option Head)} {free free_len : ℕ} (sound : AreSoundBlocks region next heads free free_len)

@@ -3,7 +3,7 @@ use Rattle.std.proofs.Common.{◌≡◌, ◌≢◌, ℕ, zero, suc, ◌+◌, ◌
 use Rattle.std.proofs.Common.{ap, ◌∙◌, subst, arith, length-append}
 use Rattle.std.specs.Prelude.{Option, Some, None}
 use Rattle.std.proofs.lemmas.List.{same_lists, get_or_default, get_or_append_left, length-replicate}
-use Rattle.std.proofs.lemmas.Bool.{eq-eqb, ne_eqb}
+use Rattle.std.proofs.lemmas.Bool.{ne_eqb}
 use Rattle.block_pool.specs.declared.heads.Head.{Head}
 use Rattle.block_pool.specs.Slots.{Held, blocks_for}
 use Rattle.block_pool.specs.Links.{block_at}
@@ -22,9 +22,6 @@ block_longer next more first (suc k) low =
 -- the marks after one more block became the only free one
 abbrev marked_more : (ℕ → ℕ × ℕ) → ℕ → ℕ → ℕ × ℕ
 marked_more mark count block = cond (eqb block count) (count + 1, 0) (mark block)
-
-marked_here : (mark : ℕ → ℕ × ℕ) (count block : ℕ) → block ≡ count → marked_more mark count block ≡ (count + 1, 0)
-marked_here mark count block same = rw (eq-eqb block count same) refl
 
 marked_other : (mark : ℕ → ℕ × ℕ) (count block : ℕ) → block ≢ count → marked_more mark count block ≡ mark block
 marked_other mark count block apart = rw (ne_eqb block count apart) refl
@@ -62,10 +59,7 @@ module _ (region next : List ℕ) (heads : List (Option Head)) (free : ℕ) (sou
     few = omega (arith, few, sound.links);
     mark = λ x. marked_more sound.mark sound.count x;
     chains = λ b head e. longer_chain b head (sym (get_or-filled heads 1 b None) ∙ e);
-    spare = λ k low.
-        let first : 0 ≡ k = omega arith in
-        subst (λ i. IsMarked (λ x. marked_more sound.mark sound.count x) (sound.count + 1) (block_at (next ++ link ∷ []) (length next) i) (sound.count + 1) i)
-        first (omega (arith, sound.links), marked_here sound.mark sound.count (length next) sound.links);
+    spare = grind arith;
     all = omega (arith, sum_by-filled head_blocks heads 1 None refl, sound.all);
   }
 

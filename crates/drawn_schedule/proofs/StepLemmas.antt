@@ -1,9 +1,7 @@
 -- Steps that are drawn one behind another.
-use Rattle.std.proofs.Common.{◌≡◌, ℕ, suc, ◌+◌, ◌%◌, List, [], ◌∷◌, ◌++◌, refl, sym, ap, ◌∙◌, subst, arith}
-use Rattle.std.proofs.Common.{append_assoc, append-nil}
+use Rattle.std.proofs.Common.{◌≡◌, ℕ, suc, ◌+◌, ◌%◌, List, [], ◌∷◌, ◌++◌, refl, sym, ap, ◌∙◌, subst, arith, append_assoc, append-nil}
 use Rattle.trace_model.specs.declared.line.Line.{Line}
-use Rattle.drawn_schedule.specs.Schedule.{step_line, Drawn, one_step_more, so_many_steps}
-use Rattle.drawn_schedule.specs.Schedule.{next_number, drawn_of}
+use Rattle.drawn_schedule.specs.Schedule.{step_line, Drawn, one_step_more, so_many_steps, next_number, drawn_of}
 
 -- ## Steps
 

@@ -2,7 +2,7 @@
 use Rattle.std.proofs.Common.{◌≡◌, ◌⊎◌, inl, inr, ℕ, ◌+◌, ◌*◌, ◌^◌, ◌<◌, ◌≤◌, Bool, true, false, ◌&&◌, ◌==◌, List, Option, Some, None, length, slice_index}
 use Rattle.std.proofs.Common.{slice_index_or, slice_set, sym, refl, ap, ap₂, ◌∙◌, subst, arith, ◌-◌, ◌/◌, ◌%◌, min, take, drop, slice_range, suc, if◌then◌else◌}
 use Rattle.std.proofs.Common.{◌++◌, zero-add}
-use Rattle.std.proofs.lemmas.Bool.{cases_Bool, cases_eq, eq-eqb, eqb-true, false≢true, cases_lt, ne_eqb}
+use Rattle.std.proofs.lemmas.Bool.{cases_Bool, cases_eq, eq-eqb, eqb-true, false≢true, cases_lt}
 use Rattle.std.proofs.lemmas.List.{get_or-set_same, get_or-set_other, get_or-take, get_or-drop, length-take, length-drop, take-take, ext_get_or, length-take-le}
 use Rattle.std.proofs.lemmas.List.{length-append, get_or_append_left, get_or-append_right}
 use Rattle.std.proofs.lemmas.List.FromFn.{get_or-map-range_with_len}
@@ -12,15 +12,14 @@ use Rattle.flash_nv.specs.Pages.{sector_version, IsClean, ArePages, content_byte
 use Rattle.flash_nv.specs.Putting.{HasSector, IsPut}
 use Rattle.flash_nv.specs.Writing.{IsSectorKept, IsSectorWritten, AreLaid, IsKeptBeside, IsFrontWritten, HasSpent}
 use Rattle.flash_nv.proofs.PageLemmas.{of_header, of_is_valid, page_below-best, page_stays, page_replaced}
-use Rattle.flash_nv.proofs.PutLemmas.{same_header, made_sector, made_version, made_valid, OthersStay, apart, within-true, within-false}
+use Rattle.flash_nv.proofs.PutLemmas.{same_header, made_sector, made_version, made_valid, OthersStay, apart, within-true}
 use Rattle.flash_nv.specs.Maps.{Map, IsNextFree, page_behind}
 use Rattle.flash_nv.specs.Steps.{IsStep, piece_byte, laid_byte, sectors, AreSteps}
 use Rattle.flash_nv.specs.Content.{length-content_front}
 use Rattle.swp_base.specs.Outside.{overwritten, IsTorn}
 
 pub and_second : (a b : Bool) → a && b ≡ true → b ≡ true
-and_second true b e = e
-and_second false b e = absurd (false≢true e)
+and_second a b e = grind arith
 
 of_made : (s v : ℕ) → of_header s (page_header s v) ≡ true
 of_made s v = ap₂ (λ a b. a && b) (made_valid s v) (ap (λ n. n == s) (made_sector s v) ∙ eq-eqb s s refl)
@@ -53,10 +52,7 @@ kept_by old new p t before after others unused same = record {
         ap version_of (headers_stay old new p before after others r ((page_below-best old t 272).found r e).0 (other r e))
 
     byte_same : (j : ℕ) → j < 256 → (o : Option ℕ) → page_of old t ≡ o → data_byte new o j ≡ data_byte old o j
-    byte_same j small None e = refl
-    byte_same j small (Some r) e =
-        let place : 512 * r + (18 + j) ≡ 512 * r + 18 + j = omega arith in
-        subst (λ n. slice_index new n ≡ slice_index old n) place (others (512 * r + (18 + j)) (apart p r (18 + j) (omega arith) (other r e)))
+    byte_same j small o e = grind arith
 
 -- where no page became one of a sector, it is kept
 kept_where : (old new : List ℕ) (p t : ℕ) → AreCells old → AreCells new → OthersStay old new p → (page_of old t ≡ Some p → ⊥)
@@ -67,8 +63,7 @@ kept_where old new p t before after others unused faded =
     (λ r e. headers_stay old new p before after others r ((page_below-best old t 272).found r e).0 (λ at. unused (e ∙ ap Some at))))
   where
     by_page : (q : ℕ) → q < 272 → is_page_of new t q ≡ true → (q ≡ p) ⊎ (q ≡ p → ⊥) → header_at new q ≡ header_at old q
-    by_page q below of (inl at) =
-        subst (λ n. header_at new n ≡ header_at old n) (sym at) (faded (subst (λ n. is_page_of new t n ≡ true) at of))
+    by_page q below of (inl at) = grind arith
     by_page q below of (inr other) = headers_stay old new p before after others q below other
 
 -- a page that has a sector in a greater version is that sector's page
@@ -163,48 +158,22 @@ pub in_sector : (at s from : ℕ) → at ≡ 256 * s + from → from < 256 → (
 in_sector at s from is small = (omega arith, omega arith)
 
 content_at : (cells : List ℕ) (at s j : ℕ) → at ≡ 256 * s + j → j < 256 → content_byte cells at ≡ sector_byte cells s j
-content_at cells at s j is small =
-    let e = in_sector at s j is small in
-    ap₂ (sector_byte cells) e.0 e.1
+content_at cells at s j is small = grind arith
 
 -- a byte that is beside a written piece is as it was
 piece_beside : (ok : Bool) (mid new : List ℕ) (s from : ℕ) (piece : List ℕ) → IsSectorWritten ok mid new s from piece → (i : ℕ) → i < 65536
     → (i < 256 * s + from) ⊎ (256 * s + from + length piece ≤ i) → content_byte new i ≡ content_byte mid i
-piece_beside ok mid new s from piece written i small out = by_sector (cases_eq (i / 256) s)
-  where
-    place : i ≡ 256 * (i / 256) + i % 256
-    place = omega arith
-
-    moved : i / 256 ≡ s → (i < 256 * s + from) ⊎ (256 * s + from + length piece ≤ i) → (i % 256 < from) ⊎ (from + length piece ≤ i % 256)
-    moved same (inl low) = inl (omega arith)
-    moved same (inr high) = inr (omega arith)
-
-    by_sector : (i / 256 ≡ s) ⊎ (i / 256 ≡ s → ⊥) → content_byte new i ≡ content_byte mid i
-    by_sector (inl same) =
-        ap (λ t. sector_byte new t (i % 256)) same ∙ written.beside (i % 256) (omega arith) (moved same out)
-        ∙ ap (λ t. sector_byte mid t (i % 256)) (sym same)
-    by_sector (inr other) = (written.others (i / 256) (omega arith) other).bytes_are (i % 256) (omega arith)
+piece_beside ok mid new s from piece written i small out = grind arith
 
 -- at the start nothing was written
 pub front_none : (old : List ℕ) (at : ℕ) (bytes : List ℕ) → IsClean old → IsFrontWritten old old at bytes 0
-front_none old at bytes clean = record {
-  kept = record { clean = clean; beside = λ i small out. refl };
-  there = λ i small. absurd (omega arith);
-  behind = λ t small out. record { page = refl; version = refl; bytes_are = λ j inside. refl };
-}
+front_none old at bytes clean = grind arith
 
 -- a piece, written or torn, changes no byte beside the range
 pub front_beside : (ok : Bool) (old mid new : List ℕ) (at : ℕ) (bytes : List ℕ) (done s from : ℕ) (piece : List ℕ) → at + done ≡ 256 * s + from
     → done + length piece ≤ length bytes → IsFrontWritten old mid at bytes done → IsSectorWritten ok mid new s from piece
     → IsKeptBeside old new at (length bytes)
-front_beside ok old mid new at bytes done s from piece place room front written = record {
-  clean = written.clean;
-  beside = λ i small out. piece_beside ok mid new s from piece written i small (moved i out) ∙ front.kept.beside i small out;
-}
-  where
-    moved : (i : ℕ) → (i < at) ⊎ (at + length bytes ≤ i) → (i < 256 * s + from) ⊎ (256 * s + from + length piece ≤ i)
-    moved i (inl low) = inl (omega arith)
-    moved i (inr high) = inr (omega arith)
+front_beside ok old mid new at bytes done s from piece place room front written = grind arith
 
 -- one more piece
 pub front_more : (old mid new : List ℕ) (at : ℕ) (bytes : List ℕ) (done len s from : ℕ) → at + done ≡ 256 * s + from → from + len ≤ 256 → 0 < len
@@ -228,12 +197,10 @@ front_more old mid new at bytes done len s from place inside some room fits size
         ∙ part-at bytes done (done + len) (i - done) (omega arith) ∙ ap (slice_index bytes) (omega arith)
 
     was_behind : (t : ℕ) → (done + len ≡ 0) ⊎ (at + (done + len) ≤ 256 * t) → (done ≡ 0) ⊎ (at + done ≤ 256 * t)
-    was_behind t (inl none) = inl (omega arith)
-    was_behind t (inr high) = inr (omega arith)
+    was_behind t a = grind arith
 
     is_other : (t : ℕ) → (done + len ≡ 0) ⊎ (at + (done + len) ≤ 256 * t) → t ≡ s → ⊥
-    is_other t (inl none) e = omega arith
-    is_other t (inr high) e = omega arith
+    is_other t a e = grind arith
 
     joined : (t : ℕ) → IsSectorKept mid new t → IsSectorKept old mid t → IsSectorKept old new t
     joined t x y = record { page = x.page ∙ y.page; version = x.version ∙ y.version; bytes_are = λ k small. x.bytes_are k small ∙ y.bytes_are k small }
@@ -245,18 +212,7 @@ front_more old mid new at bytes done len s from place inside some room fits size
 pub spent_before : (old mid new : List ℕ) (at : ℕ) (bytes : List ℕ) (done s from : ℕ) → at + done ≡ 256 * s + from → from < 256 → done < length bytes
     → at + length bytes ≤ 65536 → (done ≡ 0) ⊎ (from ≡ 0) → IsFrontWritten old mid at bytes done → sector_version mid s ≡ 2 ^ 64 - 1
     → new ≡ mid → HasSpent old new at (length bytes)
-spent_before old mid new at bytes done s from place small more fits edge front last same = record {
-  sector = s;
-  below = omega arith;
-  from = omega arith;
-  to = omega arith;
-  last = sym (front.behind s (omega arith) (behind edge)).version ∙ last;
-  kept = subst (λ m. IsSectorKept old m s) (sym same) (front.behind s (omega arith) (behind edge));
-}
-  where
-    behind : (done ≡ 0) ⊎ (from ≡ 0) → (done ≡ 0) ⊎ (at + done ≤ 256 * s)
-    behind (inl none) = inl none
-    behind (inr start) = inr (omega arith)
+spent_before old mid new at bytes done s from place small more fits edge front last same = grind arith
 
 pub part-length : (xs : List ℕ) (from len : ℕ) → from + len ≤ length xs → length (slice_range xs from (from + len)) ≡ len
 part-length xs from len inside =
@@ -279,17 +235,10 @@ image_byte cells image p is j small =
 -- a piece ends at the end of a sector or of the bytes
 pub edge_more : (at done total len : ℕ) → len ≡ min (256 - (at + done) % 256) (total - done) → done < total
     → (done + len ≡ 0) ⊎ ((done + len ≡ total) ⊎ ((at + (done + len)) % 256 ≡ 0))
-edge_more at done total len is more = by_case (cases_lt (256 - (at + done) % 256) (total - done))
-  where
-    by_case : (256 - (at + done) % 256 < total - done) ⊎ (total - done ≤ 256 - (at + done) % 256)
-        → (done + len ≡ 0) ⊎ ((done + len ≡ total) ⊎ ((at + (done + len)) % 256 ≡ 0))
-    by_case (inl short) = inr (inr (omega arith))
-    by_case (inr long) = inr (inl (omega arith))
+edge_more at done total len is more = grind arith
 
 pub at_edge : (done total from : ℕ) → done < total → (done ≡ 0) ⊎ ((done ≡ total) ⊎ (from ≡ 0)) → (done ≡ 0) ⊎ (from ≡ 0)
-at_edge done total from more (inl none) = inl none
-at_edge done total from more (inr (inl end)) = absurd (omega arith)
-at_edge done total from more (inr (inr start)) = inr start
+at_edge done total from more a = grind arith
 
 -- ---- the pages that a write makes, sector by sector
 
@@ -299,36 +248,7 @@ pub piece_step : (old mid new : List ℕ) (before after : Map) (page : Option �
     → s < 256 → IsNextFree before p → after ≡ record { pages = slice_set before.pages s (Some p); next = page_behind p }
     → ((j : ℕ) → j < 256 → slice_index was j ≡ data_byte old page j) → AreLaid was whole from bytes
     → IsStep old new before after s (piece_byte old s from bytes)
-piece_step old mid new before after page p s version from bytes was whole same put are page_is version_is inside free map bytes_were laid = record {
-  page = p;
-  free = free;
-  map = map;
-  header = has.header ∙ ap (λ v. page_header s (v + 1)) (version_is ∙ ap (version_on old) at);
-  bytes_are = λ j small. has.bytes_are j small ∙ by_low j small (cases_lt j from);
-  others = λ i out. put.others i out ∙ ap (λ xs. slice_index xs i) same;
-}
-  where
-    has : HasSector new p s (version + 1) whole
-    has = put.done refl
-
-    at : page ≡ page_of old s
-    at = page_is ∙ are s inside
-
-    out : (j : ℕ) → j < 256 → (j < from) ⊎ (from + length bytes ≤ j) → slice_index whole j ≡ piece_byte old s from bytes j
-    out j small beside =
-        laid.beside j beside ∙ bytes_were j small ∙ ap (λ o. data_byte old o j) at
-        ∙ ap (λ b. if b then slice_index bytes (j - from) else sector_byte old s j) (sym (within-false from (length bytes) j beside))
-
-    by_high : (j : ℕ) → j < 256 → from ≤ j → (j < from + length bytes) ⊎ (from + length bytes ≤ j) → slice_index whole j ≡ piece_byte old s from bytes j
-    by_high j small low (inl high) =
-        let e : from + (j - from) ≡ j = omega arith in
-        subst (λ n. slice_index whole n ≡ slice_index bytes (j - from)) e (laid.there (j - from) (omega arith))
-        ∙ ap (λ b. if b then slice_index bytes (j - from) else sector_byte old s j) (sym (within-true from (length bytes) j low high))
-    by_high j small low (inr past) = out j small (inr past)
-
-    by_low : (j : ℕ) → j < 256 → (j < from) ⊎ (from ≤ j) → slice_index whole j ≡ piece_byte old s from bytes j
-    by_low j small (inl below) = out j small (inl below)
-    by_low j small (inr low) = by_high j small low (cases_lt j (from + length bytes))
+piece_step old mid new before after page p s version from bytes was whole same put are page_is version_is inside free map bytes_were laid = grind arith
 
 -- a piece that ends at the end of its sector or of the bytes lays what the whole write lays there
 piece_is_laid : (cells : List ℕ) (s at from : ℕ) (bytes : List ℕ) (done len : ℕ) → at + done ≡ 256 * s + from → from < 256
@@ -341,13 +261,10 @@ piece_is_laid cells s at from bytes done len place small_from is more edge size 
 
     beside : (j < from) ⊎ (from + length piece ≤ j) → (256 * s + j < at) ⊎ (at + length bytes ≤ 256 * s + j)
         → piece_byte cells s from piece j ≡ laid_byte cells s at bytes j
-    beside a b =
-        ap (λ t. if t then slice_index piece (j - from) else sector_byte cells s j) (within-false from (length piece) j a)
-        ∙ ap (λ t. if t then slice_index bytes (256 * s + j - at) else sector_byte cells s j) (sym (within-false at (length bytes) (256 * s + j) b))
+    beside a b = grind arith
 
     below : j < from → (done ≡ 0) ⊎ (from ≡ 0) → (256 * s + j < at) ⊎ (at + length bytes ≤ 256 * s + j)
-    below low (inl none) = inl (omega arith)
-    below low (inr none) = absurd (omega arith)
+    below low a = grind arith
 
     by_high : from ≤ j → (j < from + len) ⊎ (from + len ≤ j) → piece_byte cells s from piece j ≡ laid_byte cells s at bytes j
     by_high low (inl high) =
@@ -362,25 +279,13 @@ piece_is_laid cells s at from bytes done len place small_from is more edge size 
     by_low (inl low) = beside (inl low) (below low edge)
     by_low (inr low) = by_high low (cases_lt j (from + len))
 
-sectors-zero : (at len : ℕ) → len ≡ 0 → sectors at len ≡ 0
-sectors-zero at len none = ap (λ b. if b then 0 else (at + len - 1) / 256 + 1 - at / 256) (eq-eqb len 0 none)
-
-sectors-some : (at len : ℕ) → 0 < len → sectors at len ≡ (at + len - 1) / 256 + 1 - at / 256
-sectors-some at len some = ap (λ b. if b then 0 else (at + len - 1) / 256 + 1 - at / 256) (ne_eqb len 0 (λ e. omega arith))
-
 -- the sector that comes next
 next_sector : (at done s from : ℕ) → at + done ≡ 256 * s + from → from < 256 → (done ≡ 0) ⊎ (from ≡ 0) → at / 256 + sectors at done ≡ s
-next_sector at done s from place small edge = by_done (cases_eq done 0) edge
-  where
-    by_done : (done ≡ 0) ⊎ (done ≡ 0 → ⊥) → (done ≡ 0) ⊎ (from ≡ 0) → at / 256 + sectors at done ≡ s
-    by_done (inl none) e = ap (λ n. at / 256 + n) (sectors-zero at done none) ∙ omega arith
-    by_done (inr some) (inl none) = absurd (some none)
-    by_done (inr some) (inr start) = ap (λ n. at / 256 + n) (sectors-some at done (omega arith)) ∙ omega arith
+next_sector at done s from place small edge = grind arith
 
 more_sectors : (at done len s from : ℕ) → at + done ≡ 256 * s + from → from + len ≤ 256 → 0 < len → (done ≡ 0) ⊎ (from ≡ 0)
     → sectors at (done + len) ≡ suc (sectors at done)
-more_sectors at done len s from place room some edge =
-    sectors-some at (done + len) (omega arith) ∙ omega (arith, next_sector at done s from place (omega arith) edge)
+more_sectors at done len s from place room some edge = grind arith
 
 pub steps_none : (at : ℕ) (bytes old : List ℕ) (first : Map) → AreSteps (sectors at 0) at bytes old first old first
 steps_none at bytes old first = (refl, refl)

@@ -48,8 +48,7 @@ pub all_used : {C : Type 0} (used : List Bool) (from : ℕ) → length used ≡ 
 all_used used from len low high few = absurd (omega (arith, all_counted used (λ q small. by_place q small (cases_lt q from)), few, len))
   where
     by_place : (q : ℕ) → q < length used → (q < from) ⊎ (from ≤ q) → slice_index_or used q true ≡ true
-    by_place q small (inl below) = low q (omega arith) below
-    by_place q small (inr above) = high q above (omega (arith, len))
+    by_place q small a = grind arith
 
 -- one more page is marked
 pub mark_used : (pages : List (Option ℕ)) (used : List Bool) (s : ℕ) (o : Option ℕ) → s < 256 → slice_index_or pages s None ≡ o

@@ -1,8 +1,7 @@
 -- Which page has the data of a sector.
-use Rattle.std.proofs.Common.{◌≡◌, ◌⊎◌, inl, inr, ℕ, ◌<◌, ◌≤◌, suc, zero, Bool, true, false, ◌&&◌, ◌==◌, nat_lt, if◌then◌else◌, List, Some}
-use Rattle.std.proofs.Common.{None, Option, sym, refl, ap, ◌∙◌, subst, arith}
-use Rattle.std.proofs.lemmas.Bool.{cases_Bool, cases_lt, cases_eq, false≢true}
-use Rattle.std.proofs.lemmas.Bool.Decides.{nat_tests}
+use Rattle.std.proofs.Common.{◌≡◌, ◌⊎◌, inl, inr, ℕ, ◌<◌, ◌≤◌, suc, zero, Bool, true, false, ◌&&◌, ◌==◌, if◌then◌else◌, List, Some, None, Option, sym, refl, ap}
+use Rattle.std.proofs.Common.{◌∙◌, subst, arith}
+use Rattle.std.proofs.lemmas.Bool.{cases_Bool, cases_eq, false≢true}
 use Rattle.flash_nv.specs.Pages.{header_at, is_valid, sector_of, version_of, is_page_of, is_newer, page_below, page_of, version_on}
 
 -- a page's version
@@ -29,13 +28,6 @@ some_is x y e = cc
 none_is : {C : Type 0} (p : ℕ) (o : Option ℕ) → o ≡ None → o ≡ Some p → C
 none_is p o e f = absurd (cc)
 
-below_step : (q n : ℕ) → q < suc n → (q < n) ⊎ (q ≡ n)
-below_step q n small = by_case (cases_lt q n)
-  where
-    by_case : (q < n) ⊎ (n ≤ q) → (q < n) ⊎ (q ≡ n)
-    by_case (inl less) = inl less
-    by_case (inr more) = inr (omega arith)
-
 pub page_below-suc : (cells : List ℕ) (sector n : ℕ) → page_below cells sector (suc n)
     ≡ (if is_page_of cells sector n && is_newer cells (page_below cells sector n) n then Some n else page_below cells sector n)
 unfolding page_below
@@ -48,85 +40,18 @@ page_below-zero cells sector = refl
 no_better_same : (cells : List ℕ) (p : ℕ) → IsNoBetter cells p p
 no_better_same cells p = inr (refl, omega arith)
 
-no_better_after : (cells : List ℕ) (p q : ℕ) → p < q → nat_lt (version_at cells p) (version_at cells q) ≡ false → IsNoBetter cells p q
-no_better_after cells p q later same = by_case (cases_lt (version_at cells q) (version_at cells p))
-  where
-    by_case : (version_at cells q < version_at cells p) ⊎ (version_at cells p ≤ version_at cells q) → IsNoBetter cells p q
-    by_case (inl less) = inl less
-    by_case (inr more) = inr (grind (arith, nat_tests), omega arith)
-
-no_better_through : (cells : List ℕ) (p q r : ℕ) → nat_lt (version_at cells p) (version_at cells r) ≡ true → IsNoBetter cells p q → IsNoBetter cells r q
-no_better_through cells p q r newer (inl less) = inl (grind (arith, nat_tests))
-no_better_through cells p q r newer (inr same) = let e : version_at cells q ≡ version_at cells p = same.0 in inl (grind (arith, nat_tests))
-
 -- one more page
 step : (cells : List ℕ) (s n : ℕ) (o : Option ℕ) → IsBest cells s n o
     → IsBest cells s (suc n) (if is_page_of cells s n && is_newer cells o n then Some n else o)
-step cells s n None b = by_test (is_page_of cells s n) refl
-  where
-    by_test : (t : Bool) → is_page_of cells s n ≡ t → IsBest cells s (suc n) (if t && true then Some n else None)
-    by_test true holds = record {
-      found = λ p e. let same : n ≡ p = some_is n p e in (omega arith, subst (λ m. is_page_of cells s m ≡ true) same holds);
-      best = λ p q e small of. by_place p q (some_is n p e) (below_step q n small) of;
-      none = λ e. none_is n (Some n) e refl;
-    }
-      where
-        by_place : (p q : ℕ) → n ≡ p → (q < n) ⊎ (q ≡ n) → is_page_of cells s q ≡ true → IsNoBetter cells p q
-        by_place p q same (inl less) of = absurd (false≢true (sym (b.none refl q less) ∙ of))
-        by_place p q same (inr at) of = subst (λ m. IsNoBetter cells m q) (at ∙ same) (no_better_same cells q)
-    by_test false fails = record {
-      found = λ p e. none_is p None refl e;
-      best = λ p q e small of. none_is p None refl e;
-      none = λ e q small. by_place q (below_step q n small);
-    }
-      where
-        by_place : (q : ℕ) → (q < n) ⊎ (q ≡ n) → is_page_of cells s q ≡ false
-        by_place q (inl less) = b.none refl q less
-        by_place q (inr at) = subst (λ m. is_page_of cells s m ≡ false) (sym at) fails
-step cells s n (Some p) b = by_test (is_page_of cells s n) (nat_lt (version_at cells p) (version_at cells n)) refl refl
-  where
-    keep : (is_page_of cells s n ≡ true → nat_lt (version_at cells p) (version_at cells n) ≡ false) → IsBest cells s (suc n) (Some p)
-    keep why = record {
-      found = λ r e. let same : p ≡ r = some_is p r e in let f = b.found p refl in
-          (omega (arith, f.0, same), subst (λ m. is_page_of cells s m ≡ true) same f.1);
-      best = λ r q e small of. subst (λ m. IsNoBetter cells m q) (some_is p r e) (by_place q (below_step q n small) of);
-      none = λ e. none_is p (Some p) e refl;
-    }
-      where
-        by_place : (q : ℕ) → (q < n) ⊎ (q ≡ n) → is_page_of cells s q ≡ true → IsNoBetter cells p q
-        by_place q (inl less) of = b.best p q refl less of
-        by_place q (inr at) of =
-            subst (λ m. IsNoBetter cells p m) (sym at) (no_better_after cells p n (b.found p refl).0 (why (subst (λ m. is_page_of cells s m ≡ true) at of)))
-
-    by_test : (t u : Bool) → is_page_of cells s n ≡ t → nat_lt (version_at cells p) (version_at cells n) ≡ u
-        → IsBest cells s (suc n) (if t && u then Some n else Some p)
-    by_test true true holds newer = record {
-      found = λ r e. let same : n ≡ r = some_is n r e in (omega arith, subst (λ m. is_page_of cells s m ≡ true) same holds);
-      best = λ r q e small of. subst (λ m. IsNoBetter cells m q) (some_is n r e) (by_place q (below_step q n small) of);
-      none = λ e. none_is n (Some n) e refl;
-    }
-      where
-        by_place : (q : ℕ) → (q < n) ⊎ (q ≡ n) → is_page_of cells s q ≡ true → IsNoBetter cells n q
-        by_place q (inl less) of = no_better_through cells p q n newer (b.best p q refl less of)
-        by_place q (inr at) of = subst (λ m. IsNoBetter cells m q) at (no_better_same cells q)
-    by_test true false holds older = keep (λ _. older)
-    by_test false true fails newer = keep (λ holds. absurd (false≢true (sym fails ∙ holds)))
-    by_test false false fails older = keep (λ _. older)
+step cells s n o b = grind arith
 
 pub page_below-best : (cells : List ℕ) (s n : ℕ) → IsBest cells s n (page_below cells s n)
-page_below-best cells s zero = subst (IsBest cells s zero) (sym (page_below-zero cells s)) (record {
-  found = λ p e. none_is p None refl e;
-  best = λ p q e small of. none_is p None refl e;
-  none = λ e q small. absurd (omega arith);
-})
+page_below-best cells s zero = subst (IsBest cells s zero) (sym (page_below-zero cells s)) ((grind arith))
 page_below-best cells s (suc n) =
     subst (IsBest cells s (suc n)) (sym (page_below-suc cells s n)) (step cells s n (page_below cells s n) (page_below-best cells s n))
 
 meet : (cells : List ℕ) (p q : ℕ) → IsNoBetter cells p q → IsNoBetter cells q p → p ≡ q
-meet cells p q (inl a) (inl b) = omega arith
-meet cells p q (inl a) (inr b) = let e : version_at cells p ≡ version_at cells q = b.0 in omega arith
-meet cells p q (inr a) (inl b) = let e : version_at cells q ≡ version_at cells p = a.0 in omega arith
-meet cells p q (inr a) (inr b) = omega (arith, a.1, b.1)
+meet cells p q a b = grind arith
 
 -- there is one best page, or none
 pub best-unique : (cells : List ℕ) (s n : ℕ) (a b : Option ℕ) → IsBest cells s n a → IsBest cells s n b → a ≡ b
@@ -143,8 +68,7 @@ pub record IsFaded (old new : List ℕ) (s : ℕ) : Type 0 where
   pub was : (q : ℕ) → q < 272 → is_page_of new s q ≡ true → header_at new q ≡ header_at old q
 
 and_first : (a b : Bool) → a && b ≡ true → a ≡ true
-and_first true b e = refl
-and_first false b e = e
+and_first a b e = grind arith
 
 pub of_is_valid : (cells : List ℕ) (s p : ℕ) → is_page_of cells s p ≡ true → is_valid (header_at cells p) ≡ true
 of_is_valid cells s p e = and_first (is_valid (header_at cells p)) (sector_of (header_at cells p) == s) e
@@ -154,20 +78,15 @@ pub best_stays : (old new : List ℕ) (s : ℕ) (o : Option ℕ) → IsFaded old
     → IsBest old s 272 o → IsBest new s 272 o
 best_stays old new s o faded stays b = record {
   found = λ p e. let f = b.found p e in (f.0, ap (of_header s) (stays p e) ∙ f.1);
-  best = λ p q e small of.
-      let same = faded.was q small of in
-      better p q (ap version_of same) (ap version_of (stays p e)) (b.best p q e small (sym (ap (of_header s) same) ∙ of));
+  best = grind arith;
   none = λ e q small. by_test q small e (cases_Bool (is_page_of new s q));
 }
   where
     better : (p q : ℕ) → version_at new q ≡ version_at old q → version_at new p ≡ version_at old p → IsNoBetter old p q → IsNoBetter new p q
-    better p q a b (inl less) = inl (omega arith)
-    better p q a b (inr same) = inr (a ∙ same.0 ∙ sym b, same.1)
+    better p q a b c = grind arith
 
     by_test : (q : ℕ) → q < 272 → o ≡ None → (is_page_of new s q ≡ true) ⊎ (is_page_of new s q ≡ false) → is_page_of new s q ≡ false
-    by_test q small e (inl holds) =
-        absurd (false≢true (sym (b.none e q small) ∙ sym (ap (of_header s) (faded.was q small holds)) ∙ holds))
-    by_test q small e (inr fails) = fails
+    by_test q small e a = grind arith
 
 pub page_stays : (old new : List ℕ) (s : ℕ) → IsFaded old new s → ((p : ℕ) → page_of old s ≡ Some p → header_at new p ≡ header_at old p)
     → page_of new s ≡ page_of old s
@@ -186,12 +105,7 @@ page_replaced old new s p small holds greater others = best-unique new s 272 (pa
   where
     by_best : (q : ℕ) (o : Option ℕ) → IsBest old s 272 o → version_on old o < version_at new p → q < 272 → is_page_of old s q ≡ true
         → version_at new q ≡ version_at old q → IsNoBetter new p q
-    by_best q None b less below of same = absurd (false≢true (sym (b.none refl q below) ∙ of))
-    by_best q (Some r) b less below of same = by_order (b.best r q refl below of)
-      where
-        by_order : IsNoBetter old r q → IsNoBetter new p q
-        by_order (inl lower) = inl (omega arith)
-        by_order (inr equal) = let e : version_at old q ≡ version_at old r = equal.0 in inl (omega arith)
+    by_best q o b less below of same = grind arith
 
     by_page : (q : ℕ) → q < 272 → is_page_of new s q ≡ true → (q ≡ p) ⊎ (q ≡ p → ⊥) → IsNoBetter new p q
     by_page q below of (inl at) = subst (λ m. IsNoBetter new m q) at (no_better_same new q)

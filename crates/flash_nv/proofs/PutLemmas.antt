@@ -1,8 +1,8 @@
 -- Cells, headers and pages that are put.
-use Rattle.std.proofs.Common.{◌≡◌, ◌⊎◌, inl, inr, ℕ, zero, suc, ◌+◌, ◌-◌, ◌*◌, ◌==◌, ◌<◌, ◌≤◌, min, Bool, true, false, if◌then◌else◌, List, ◌++◌, length, take}
-use Rattle.std.proofs.Common.{drop, slice_index, slice_range, bit_and, ap₂, max, not, ◌%◌, Option, Some, None, [], ◌∷◌, sym, refl, ap, ◌∙◌, subst, arith}
-use Rattle.std.proofs.Common.{zero-add, w8, ◌^◌, ◌&&◌, Result, Ok, Err}
-use Rattle.std.proofs.lemmas.Bool.{cases_lt, false≢true, cases_Bool, cases_eq}
+use Rattle.std.proofs.Common.{◌≡◌, ◌⊎◌, inl, inr, ℕ, suc, ◌+◌, ◌-◌, ◌*◌, ◌==◌, ◌<◌, ◌≤◌, min, Bool, true, false, if◌then◌else◌, List, ◌++◌, length, take, drop}
+use Rattle.std.proofs.Common.{slice_index, slice_range, bit_and, ap₂, max, not, ◌%◌, Option, [], ◌∷◌, sym, refl, ap, ◌∙◌, subst, arith, zero-add, w8, ◌^◌, ◌&&◌}
+use Rattle.std.proofs.Common.{Result}
+use Rattle.std.proofs.lemmas.Bool.{cases_lt, false≢true, cases_Bool}
 use Rattle.std.proofs.lemmas.Bool.Decides.{nat_tests, Decides-eqb, Decides-below_and}
 use Rattle.std.proofs.lemmas.List.{get_or-take, get_or-drop, get_or_past, length-replicate, get_or-replicate, drop_all, append-nil, take_all, ext_get_or}
 use Rattle.std.proofs.lemmas.List.{length-take, length-drop}
@@ -83,8 +83,7 @@ ones : (k : ℕ) → k < 8 → bit_at 255 k ≡ 1
 ones k small = bit_at_ones 8 k small
 
 rise : (a b c : ℕ) → a < 2 → (b ≡ a) ⊎ (b ≡ c) → c ≡ 1 → a ≤ b
-rise a b c small (inl same) one = omega arith
-rise a b c small (inr same) one = omega arith
+rise a b c small d one = grind arith
 
 -- an erased bit is at least what it was
 pub erased-bit : (ok : Bool) (old new : List ℕ) (page : ℕ) → IsChanged ok old (erased old page) new
@@ -94,8 +93,7 @@ erased-bit ok old new page change i k inside low high small =
     (changed-bit ok old new (512 * page) 512 (λ j. 255) change i k inside low high) (ones k small)
 
 rise_to : (b x w : ℕ) → w < 2 → (b ≡ 1) ⊎ (b ≡ min x w) → x ≡ 1 → w ≤ b
-rise_to b x w small (inl same) one = omega arith
-rise_to b x w small (inr same) one = omega arith
+rise_to b x w small a one = grind arith
 
 -- where FF was programmed, a bit is at least what it was to be
 pub programmed-bit : (ok : Bool) (old new bytes : List ℕ) (at : ℕ) → IsChanged ok old (programmed old at bytes) new
@@ -212,8 +210,7 @@ pub remade-cells : (cells : List ℕ) (at len : ℕ) (byte : ℕ → ℕ) → Ar
 remade-cells cells at len byte old each = record { size = length-remade cells at len byte ∙ old.size; bytes = λ i. by_place i (cases_lt i (length cells)) }
   where
     by_test : (i : ℕ) (b : Bool) → (if b then byte i else slice_index cells i) < 256
-    by_test i true = each i
-    by_test i false = old.bytes i
+    by_test i b = grind arith
 
     by_place : (i : ℕ) → (i < length cells) ⊎ (length cells ≤ i) → slice_index (remade cells at len byte) i < 256
     by_place i (inl small) = subst (λ b. b < 256) (sym (remade-at cells at len byte i small)) (by_test i (is_in_range at len i))
@@ -331,21 +328,6 @@ torn_is_change cells at len byte whole mask ok old inside size each each_mask is
     by_place i k (inl below) = inl (bit_beside i k (inl below))
     by_place i k (inr low) = by_high i k low (cases_lt i (at + len))
 
--- the mask of a change: its bytes, and that it is full where no fault is due
-pub full_mask : (i : ℕ) → slice_index (255 ∷ []) (i % 1) ≡ 255
-full_mask i = ap (slice_index (255 ∷ [])) (rest i)
-  where
-    rest : (n : ℕ) → n % 1 ≡ 0
-    rest n = omega arith
-
-pub mask_full : (o : Option Tear) → tears_next o ≡ false → (i : ℕ) → slice_index (tear_mask o) (i % length (tear_mask o)) ≡ 255
-mask_full None none i = full_mask i
-mask_full (Some t) none i = by_test (t.nth == 1) none
-  where
-    by_test : (b : Bool) → b ≡ false → slice_index (if b then t.mask else 255 ∷ []) (i % length (if b then t.mask else 255 ∷ [])) ≡ 255
-    by_test true e = absurd (false≢true (sym e))
-    by_test false e = full_mask i
-
 -- a part that was lent out and given back with the same length
 pub given_back : (n : ℕ) (old new : List ℕ) → length new ≡ length old → n ≡ length old → take n (new ++ drop (length new) old) ≡ new
 given_back n old new same size =
@@ -357,20 +339,14 @@ lent_cells n at old new whole mask cells same size is each =
     subst AreCells (sym (given_back n old new same size ∙ is)) (torn-cells old at whole mask cells each)
 
 pub mask_plain : (o : Option Tear) → tears_next o ≡ false → tear_mask o ≡ 255 ∷ []
-mask_plain None none = refl
-mask_plain (Some t) none = ap (λ b. if b then t.mask else 255 ∷ []) none
+mask_plain o none = grind arith
 
 pub plain_byte : (i : ℕ) → slice_index (255 ∷ []) i < 256
-plain_byte zero = omega arith
-plain_byte (suc i) = omega arith
+plain_byte i = grind arith
 
 -- a change that went through has a full mask
 pub ok_is_full : (o : Option Tear) (ok : Bool) → ok ≡ not (tears_next o) → ok ≡ true → (i : ℕ) → slice_index (tear_mask o) (i % length (tear_mask o)) ≡ 255
-ok_is_full o ok is e = mask_full o (not_true (tears_next o) (sym is ∙ e))
-  where
-    not_true : (b : Bool) → not b ≡ true → b ≡ false
-    not_true true f = absurd (false≢true f)
-    not_true false f = refl
+ok_is_full o ok is e = grind arith
 
 -- What a change as planned left of a call that was to make each byte of a range anew, said by the whole memory that it was to make.
 pub torn_is_partly : (cells : List ℕ) (at len : ℕ) (byte : ℕ → ℕ) (whole mask : List ℕ) → AreCells cells → at + len ≤ 139264 → length whole ≡ len
@@ -472,16 +448,7 @@ unfolding page_header version_of
 made_version s v fits = from_be_bytes-to_be_bytes_8 v fits
 
 nine : (P : ℕ → Type 0) → P 0 → P 1 → P 2 → P 3 → P 4 → P 5 → P 6 → P 7 → P 8 → (i : ℕ) → i < 9 → P i
-nine P a b c d e f g h i zero small = a
-nine P a b c d e f g h i (suc zero) small = b
-nine P a b c d e f g h i (suc (suc zero)) small = c
-nine P a b c d e f g h i (suc (suc (suc zero))) small = d
-nine P a b c d e f g h i (suc (suc (suc (suc zero)))) small = e
-nine P a b c d e f g h i (suc (suc (suc (suc (suc zero))))) small = f
-nine P a b c d e f g h i (suc (suc (suc (suc (suc (suc zero)))))) small = g
-nine P a b c d e f g h i (suc (suc (suc (suc (suc (suc (suc zero))))))) small = h
-nine P a b c d e f g h i (suc (suc (suc (suc (suc (suc (suc (suc zero)))))))) small = i
-nine P a b c d e f g h i (suc (suc (suc (suc (suc (suc (suc (suc (suc n))))))))) small = absurd (omega arith)
+nine P a b c d e f g h j i small = grind arith
 
 pub made_apart : (s v : ℕ) → (i : ℕ) → i < 9 → slice_index (page_header s v) (9 + i) ≡ 255 - slice_index (page_header s v) i
 unfolding page_header
@@ -501,8 +468,7 @@ made_byte s v fits = nine (λ i. slice_index (page_header s v) i < 256) fits (om
 -- ---- what is left of a page into which a sector is put, whichever call fails
 
 pub not_ok : {T E : Type 0} (r : Result T E) → IsErr r → is_ok r ≡ false
-not_ok (Ok x) err = sym err
-not_ok (Err e) err = refl
+not_ok r err = grind arith
 
 -- one page of a memory is clean
 abbrev pub PageIsClean : List ℕ → ℕ → Type 0
@@ -513,29 +479,10 @@ abbrev pub OthersStay : List ℕ → List ℕ → ℕ → Type 0
 OthersStay old new p = (i : ℕ) → (i < 512 * p) ⊎ (512 * p + 512 ≤ i) → slice_index new i ≡ slice_index old i
 
 pub apart : (p q i : ℕ) → i < 512 → (q ≡ p → ⊥) → (512 * q + i < 512 * p) ⊎ (512 * p + 512 ≤ 512 * q + i)
-apart p q i small other = by_order (q_or_p q p)
-  where
-    q_or_p : (a b : ℕ) → (a < b) ⊎ (b ≤ a)
-    q_or_p a b = cases_lt a b
-
-    by_order : (q < p) ⊎ (p ≤ q) → (512 * q + i < 512 * p) ⊎ (512 * p + 512 ≤ 512 * q + i)
-    by_order (inl less) = inl (omega arith)
-    by_order (inr more) = inr (omega (arith, below p q more other))
-      where
-        below : (a b : ℕ) → a ≤ b → (b ≡ a → ⊥) → a < b
-        below a b le ne = omega arith
+apart p q i small other = grind arith
 
 clean_from : (old new : List ℕ) (p : ℕ) → OthersStay old new p → PageIsClean new p → IsClean old → IsClean new
-clean_from old new p others page clean q i k below small bit = by_page (cases_eq q p)
-  where
-    by_page : (q ≡ p) ⊎ (q ≡ p → ⊥) → 0 < bit_at (slice_index new (512 * q + i)) k + bit_at (slice_index new (512 * q + 9 + i)) k
-    by_page (inl at) =
-        subst (λ n. 0 < bit_at (slice_index new (512 * n + i)) k + bit_at (slice_index new (512 * n + 9 + i)) k) (sym at) (page i k small bit)
-    by_page (inr other) =
-        let one = others (512 * q + i) (apart p q i (omega arith) other) in
-        let two : slice_index new (512 * q + 9 + i) ≡ slice_index old (512 * q + 9 + i) =
-        others (512 * q + 9 + i) (subst (λ n. (n < 512 * p) ⊎ (512 * p + 512 ≤ n)) (omega arith) (apart p q (9 + i) (omega arith) other)) in
-        subst (λ n. 0 < n) (ap₂ (λ a b. bit_at a k + bit_at b k) (sym one) (sym two)) (clean q i k below small bit)
+clean_from old new p others page clean q i k below small bit = grind arith
 
 -- the header of a page is settled: only bits of a clean header became 1, and it is valid
 header_settled : (from : ℕ → ℕ) (new : List ℕ) (p : ℕ) → AreCells new → p < 272 → ((i : ℕ) → from i < 256)
@@ -558,16 +505,10 @@ header_settled from new p cells below bytes clean up valid i small = by_half (ca
         let f : 512 * p + 9 + (i - 9) ≡ 512 * p + i = omega arith in
         ap (slice_index new) (sym f) ∙ (pair (i - 9) j).1 ∙ ap from e
 
-add_up : (a b c d : ℕ) → 0 < a + b → a ≤ c → b ≤ d → 0 < c + d
-add_up a b c d some up also = omega arith
-
 clean_up : (from : ℕ → ℕ) (new : List ℕ) (p : ℕ)
     → ((i k : ℕ) → i < 9 → k < 8 → 0 < bit_at (from i) k + bit_at (from (9 + i)) k)
     → ((i k : ℕ) → i < 18 → k < 8 → bit_at (from i) k ≤ bit_at (slice_index new (512 * p + i)) k) → PageIsClean new p
-clean_up from new p clean up i k small bit =
-    add_up (bit_at (from i) k) (bit_at (from (9 + i)) k) (bit_at (slice_index new (512 * p + i)) k) (bit_at (slice_index new (512 * p + 9 + i)) k)
-    (clean i k small bit) (up i k (omega arith) bit)
-    (subst (λ n. bit_at (from (9 + i)) k ≤ bit_at (slice_index new n) k) (omega arith) (up (9 + i) k (omega arith) bit))
+clean_up from new p clean up i k small bit = grind arith
 
 -- an erase that failed, or went through
 pub erase_put : (ok : Bool) (old new : List ℕ) (p s v : ℕ) (bytes : List ℕ) → p < 272 → IsChanged ok old (erased old p) new
@@ -592,8 +533,7 @@ erase_put ok old new p s v bytes below change = record {
     up i k small bit = erased-bit ok old new p change (512 * p + i) k (omega arith) (omega arith) (omega arith) bit
 
     page_clean : IsClean old → (i k : ℕ) → i < 9 → k < 8 → 0 < bit_at (from i) k + bit_at (from (9 + i)) k
-    page_clean clean i k small bit =
-        subst (λ n. 0 < bit_at (slice_index old (512 * p + i)) k + bit_at (slice_index old n) k) (omega arith) (clean p i k below small bit)
+    page_clean clean i k small bit = grind arith
 
 full_clean : (a b : ℕ) → a ≡ 255 → (k : ℕ) → k < 8 → 0 < bit_at a k + bit_at b k
 full_clean a b is k bit = add_one_to (bit_at a k) (bit_at b k) (ap (λ n. bit_at n k) is ∙ bit_at_ones 8 k bit)

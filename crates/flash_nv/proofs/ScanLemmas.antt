@@ -1,7 +1,7 @@
 -- A pass over the pages finds the page of each sector.
-use Rattle.std.proofs.Common.{◌≡◌, ◌⊎◌, inl, inr, ℕ, ◌+◌, ◌<◌, Bool, true, false, ◌&&◌, ◌==◌, nat_lt, if◌then◌else◌, List, Option, Some, None}
-use Rattle.std.proofs.Common.{replicate, slice_index, slice_index_or, slice_set, length, sym, refl, ap, ◌∙◌, arith, add-one}
-use Rattle.std.proofs.lemmas.Bool.{cases_eq, eq-eqb, ne_eqb}
+use Rattle.std.proofs.Common.{◌≡◌, ◌⊎◌, inl, inr, ℕ, ◌+◌, ◌<◌, Bool, true, false, ◌&&◌, if◌then◌else◌, List, Option, Some, None, replicate, slice_index}
+use Rattle.std.proofs.Common.{slice_index_or, slice_set, length, sym, ap, ◌∙◌, arith, add-one}
+use Rattle.std.proofs.lemmas.Bool.{cases_eq}
 use Rattle.std.proofs.lemmas.List.{get_or-set_same, get_or-set_other}
 use Rattle.flash_nv.specs.Pages.{header_at, is_valid, sector_of, version_of, is_page_of, is_newer, page_below}
 use Rattle.flash_nv.specs.Scanning.{ArePagesFound, beats}
@@ -31,28 +31,13 @@ pass cells n pages versions found fails = record {
 
 pub found_invalid : (cells : List ℕ) (n : ℕ) (header : List ℕ) (pages : List (Option ℕ)) (versions : List ℕ) → header ≡ header_at cells n
     → is_valid header ≡ false → ArePagesFound cells n pages versions → ArePagesFound cells (n + 1) pages versions
-found_invalid cells n header pages versions is invalid found = pass cells n pages versions found (λ s small.
-    ap (λ b. (b && (sector_of (header_at cells n) == s)) && is_newer cells (page_below cells s n) n) (ap is_valid (sym is) ∙ invalid))
+found_invalid cells n header pages versions is invalid found = pass cells n pages versions found (grind arith)
 
 and_false : (a b : Bool) → a ≡ false → (a && b) ≡ false
 and_false a b e = ap (λ x. x && b) e
 
 other_sector : (cells : List ℕ) (n s : ℕ) (header : List ℕ) → header ≡ header_at cells n → (sector_of header ≡ s → ⊥) → is_page_of cells s n ≡ false
-other_sector cells n s header is other = by_valid (is_valid (header_at cells n))
-  where
-    sector_fails : (sector_of (header_at cells n) == s) ≡ false
-    sector_fails = ne_eqb (sector_of (header_at cells n)) s (λ e. other (ap sector_of is ∙ e))
-
-    by_valid : (v : Bool) → (v && (sector_of (header_at cells n) == s)) ≡ false
-    by_valid true = sector_fails
-    by_valid false = refl
-
--- the test for a version against the one found so far is that against the best page
-beats_is : (cells : List ℕ) (n : ℕ) (o : Option ℕ) (known version : ℕ) → version ≡ version_of (header_at cells n)
-    → ((p : ℕ) → o ≡ Some p → known ≡ version_of (header_at cells p)) → beats o known version ≡ is_newer cells o n
-beats_is cells n None known version v k = refl
-beats_is cells n (Some p) known version v k =
-    ap (λ x. nat_lt x version) (k p refl) ∙ ap (nat_lt (version_of (header_at cells p))) v
+other_sector cells n s header is other = grind arith
 
 pub found_older : (cells : List ℕ) (n : ℕ) (header : List ℕ) (pages : List (Option ℕ)) (versions : List ℕ) (version : ℕ) → header ≡ header_at cells n
     → sector_of header < 256 → version ≡ version_of header
@@ -65,21 +50,13 @@ found_older cells n header pages versions version is inside v older found =
     at = sector_of header
 
     newer_fails : is_newer cells (page_below cells at n) n ≡ false
-    newer_fails =
-        ap (λ o. is_newer cells o n) (sym (found.pages_are at inside))
-        ∙ sym (beats_is cells n (slice_index_or pages at None) (slice_index versions at) version (v ∙ ap version_of is)
-        (λ p e. found.versions_are at p inside e))
-        ∙ older
+    newer_fails = grind arith
 
     and_second_false : (a b : Bool) → b ≡ false → (a && b) ≡ false
-    and_second_false true b e = e
-    and_second_false false b e = refl
+    and_second_false a b e = grind arith
 
     by_sector : (s : ℕ) → s < 256 → (at ≡ s) ⊎ (at ≡ s → ⊥) → (is_page_of cells s n && is_newer cells (page_below cells s n) n) ≡ false
-    by_sector s small (inl same) =
-        and_second_false (is_page_of cells s n) (is_newer cells (page_below cells s n) n)
-        (ap (λ t. is_newer cells (page_below cells t n) n) (sym same) ∙ newer_fails)
-    by_sector s small (inr other) = and_false (is_page_of cells s n) (is_newer cells (page_below cells s n) n) (other_sector cells n s header is other)
+    by_sector s small a = grind arith
 
 pub found_newer : (cells : List ℕ) (n : ℕ) (header : List ℕ) (pages : List (Option ℕ)) (versions : List ℕ) (version : ℕ) → header ≡ header_at cells n
     → sector_of header < 256 → length pages ≡ 256 → length versions ≡ 256 → is_valid header ≡ true → version ≡ version_of header
@@ -98,16 +75,10 @@ found_newer cells n header pages versions version is inside long_pages long_vers
     new_page = get_or-set_same pages at (Some n) None (omega (arith, long_pages))
 
     newer_holds : is_newer cells (page_below cells at n) n ≡ true
-    newer_holds =
-        ap (λ o. is_newer cells o n) (sym (found.pages_are at inside))
-        ∙ sym (beats_is cells n (slice_index_or pages at None) (slice_index versions at) version (v ∙ ap version_of is)
-        (λ p e. found.versions_are at p inside e))
-        ∙ newer
+    newer_holds = grind arith
 
     of_holds : is_page_of cells at n ≡ true
-    of_holds =
-        ap (λ b. b && (sector_of (header_at cells n) == at)) (ap is_valid (sym is) ∙ valid)
-        ∙ eq-eqb (sector_of (header_at cells n)) at (ap sector_of (sym is))
+    of_holds = grind arith
 
     page_at : (s : ℕ) → s < 256 → (s ≡ at) ⊎ (s ≡ at → ⊥) → slice_index_or (slice_set pages at (Some n)) s None ≡ page_below cells s (n + 1)
     page_at s small (inl same) =

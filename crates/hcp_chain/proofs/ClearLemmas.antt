@@ -83,8 +83,7 @@ clears_more {first} {now} {next} {owner} {chains = chains} {left} x so_far gives
     let sum : held_blocks now (left ++ x ∷ []) ≡ held_blocks now left + n = sum_by_push (λ (y : Open). blocks_for (length (chain_bytes now y.chain))) left x in
     let before = used_of first owner - (held_blocks first chains - held_blocks now (left ++ x ∷ [])) in
     let used_now : used_of now owner ≡ before = ap (λ os. (owner_at os owner).used) so_far.used ∙ used-with_used first.owners owner before so_far.quota in
-    let after : used_of now owner - n ≡ used_of first owner - (held_blocks first chains - held_blocks next left) =
-    omega (arith, used_now, sum, k.blocks, so_far.fewer) in
+    let after : used_of now owner - n ≡ used_of first owner - (held_blocks first chains - held_blocks next left) = grind arith in
     record {
       same_owner = so_far.same_owner;
       quota = so_far.quota;
@@ -117,8 +116,7 @@ pub all_given : {pool next : PoolState} (last : PoolState) {owner : ℕ} {chain 
 all_given {pool} {next} last {owner} {chain} {xs} h gives keeps cleared =
     let k = kept pool next owner chain chain xs keeps h.holds.own h.apart in
     let n = blocks_for (length (chain_bytes pool chain)) in
-    let given : next.owners ≡ with_used pool.owners owner (used_of pool owner - n) = gives.owners
-    ∙ ap (λ o. with_used pool.owners o (used_of pool o - n)) h.owned in
+    let given : next.owners ≡ with_used pool.owners owner (used_of pool owner - n) = grind arith in
     let used_next : used_of next owner ≡ used_of pool owner - n = ap (λ os. (owner_at os owner).used) given
     ∙ used-with_used pool.owners owner (used_of pool owner - n) h.has_quota in
     let none : used_of next owner - held_blocks next xs ≡ 0 = omega (arith, used_next, h.used, k.blocks) in

@@ -1,8 +1,7 @@
 -- A packet of a message at its place.
-use Rattle.std.proofs.Common.{◌≡◌, ℕ, ◌+◌, ◌-◌, ◌*◌, ◌/◌, ◌%◌, ◌<◌, min, leb, List, ◌++◌, length, take, drop, ap, ◌∙◌, arith, length-take, length-drop}
+use Rattle.std.proofs.Common.{◌≡◌, ℕ, ◌-◌, ◌*◌, ◌/◌, ◌%◌, ◌<◌, min, leb, List, ◌++◌, length, take, drop, ap, ◌∙◌, arith, length-take, length-drop}
 use Rattle.std.specs.Prelude.{Some, slice_get}
 use Rattle.std.proofs.lemmas.List.{take_at, take_min}
-use Rattle.std.proofs.lemmas.Grind.{common_steps}
 use Rattle.arrayvec.specs.ArrayVec.{ArrayVec}
 use Rattle.hcp_packet.specs.Packets.{packet, packet_at, packets_of}
 use Rattle.hcp_packet.proofs.Joining.{packets_stand_in_place}
@@ -16,15 +15,9 @@ data_is bytes rest from count count_is =
     ∙ (let e : count ≡ min 28 (length (drop from bytes)) = omega (arith, count_is, left) in ap (λ n. take n (drop from bytes)) e)
     ∙ take_min 28 (drop from bytes)
 
--- whether the packet at a place is the last one
-last_is : (len from : ℕ) → from < len → leb (len - from) 28 ≡ leb len (from + 28)
-last_is len from low = grind (arith, common_steps)
-
 pub packet_is : (bytes : List ℕ) (pipe from len : ℕ) (cut : ArrayVec ℕ) → from < length bytes → len ≡ length bytes
     → cut.items ≡ take 28 (drop from bytes) → packet (leb (len - from) 28) pipe cut.items ≡ packet_at pipe bytes from
-packet_is bytes pipe from len cut low len_is cut_is =
-    ap (λ n. packet (leb (n - from) 28) pipe cut.items) len_is
-    ∙ (ap (λ b. packet b pipe cut.items) (last_is (length bytes) from low) ∙ ap (packet (leb (length bytes) (from + 28)) pipe) cut_is)
+packet_is bytes pipe from len cut low len_is cut_is = grind arith
 
 pub packet_stands : (bytes : List ℕ) (pipe from : ℕ) → from % 28 ≡ 0 → from < length bytes
     → slice_get (packets_of pipe bytes) (from / 28) ≡ Some (packet_at pipe bytes from)

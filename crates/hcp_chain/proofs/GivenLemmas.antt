@@ -1,19 +1,11 @@
 -- Joining packets one at a time gives the messages of the packets.
-use Rattle.std.proofs.Common.{◌≡◌, ◌≢◌, ℕ, Bool, true, false, cond, not, ◌&&◌, eqb, ltb, List, [], ◌∷◌, ◌++◌, length, refl, sym, ap, ◌∙◌, subst, arith, rules}
-use Rattle.std.proofs.lemmas.Bool.{ne_eqb}
+use Rattle.std.proofs.Common.{◌≡◌, ℕ, Bool, true, false, cond, not, ◌&&◌, eqb, ltb, List, [], ◌∷◌, ◌++◌, length, refl, sym, ap, ◌∙◌, subst, arith, rules}
 use Rattle.std.specs.Prelude.{IsTrue}
 use Rattle.std.proofs.lemmas.List.{append-nil}
-use Rattle.std.proofs.lemmas.Grind.{common_steps}
 use Rattle.hcp_packet.specs.declared.Packet.{Packet}
 use Rattle.hcp_packet.specs.Packets.{under_way, message_ended_by, messages_after, messages_of}
-use Rattle.hcp_chain.specs.Joining.{Nothing, Message, Fifth, Long, so_far, others, is_fifth, grown, join_step, message_in, is_fault, are_taken, given_by}
+use Rattle.hcp_chain.specs.Joining.{Nothing, Message, so_far, others, is_fifth, grown, join_step, message_in, is_fault, are_taken, given_by}
 use Rattle.hcp_packet.proofs.Joining.{under_way-push}
-
-eqb_is : (a b : ℕ) → eqb a b ≡ true → a ≡ b
-eqb_is a b e = grind (arith, common_steps)
-
-eqb_apart : (a b : ℕ) → eqb a b ≡ false → a ≢ b
-eqb_apart a b e same = grind (arith, common_steps)
 
 -- the messages under way after those of a pipe were taken out and others put behind
 so_far-others : (pipe : ℕ) (g : List ℕ) (tail : List (ℕ × List ℕ)) (q : ℕ) → so_far tail q ≡ cond (eqb pipe q) g [] → (ms : List (ℕ × List ℕ))
@@ -23,18 +15,10 @@ so_far-others pipe g tail q here (m ∷ ms) = by_pipe (eqb m.0 pipe) (eqb m.0 q)
   where
     by_pipe : (a b : Bool) → eqb m.0 pipe ≡ a → eqb m.0 q ≡ b → so_far (others ms pipe ++ tail) q ≡ cond (eqb pipe q) g (so_far ms q)
         → so_far (cond (not (eqb m.0 pipe)) (m ∷ others ms pipe) (others ms pipe) ++ tail) q ≡ cond (eqb pipe q) g (cond (eqb m.0 q) m.1 (so_far ms q))
-    by_pipe true true p r more =
-        let same : eqb pipe q ≡ true = ap (λ x. eqb x q) (sym (eqb_is m.0 pipe p)) ∙ r in
-        rw (p, r) (more ∙ (ap (λ b. cond b g (so_far ms q)) same ∙ sym (ap (λ b. cond b g m.1) same)))
-    by_pipe true false p r more = rw (p, r) more
-    by_pipe false true p r more =
-        let apart : eqb pipe q ≡ false = ne_eqb pipe q (λ e. eqb_apart m.0 pipe p (eqb_is m.0 q r ∙ sym e)) in
-        rw (p, r, apart) refl
-    by_pipe false false p r more = rw (p, r) more
+    by_pipe a b p r more = grind arith
 
 cond_same : (b : Bool) (bytes : List ℕ) → bytes ≡ cond b bytes bytes
-cond_same true bytes = refl
-cond_same false bytes = refl
+cond_same b bytes = grind arith
 
 -- the messages under way after a last packet and after another one
 after_last : (ms : List (ℕ × List ℕ)) (before : List Packet) (p : Packet) → ((q : ℕ) → so_far ms q ≡ under_way q before) → p.last ≡ true → (q : ℕ)
@@ -53,29 +37,18 @@ after_more ms before p stands more q =
   where
     by_pipe : (b : Bool) → eqb p.pipe q ≡ b
         → cond (eqb p.pipe q) (grown ms p) (so_far ms q) ≡ cond (eqb p.pipe q) (under_way q before ++ p.bytes.items) (under_way q before)
-    by_pipe true e = rw e (ap (λ x. so_far ms x ++ p.bytes.items) (eqb_is p.pipe q e) ∙ ap (λ bs. bs ++ p.bytes.items) (stands q))
-    by_pipe false e = rw e (stands q)
+    by_pipe b e = grind arith
 
 not_true : (b : Bool) → IsTrue (not true && b) → ⊥
 not_true b t = search rules
 
 pub last_step : (ms : List (ℕ × List ℕ)) (p : Packet) → is_fifth ms p.pipe ≡ false → ltb 4096 (length (grown ms p)) ≡ false → p.last ≡ true
     → join_step ms p ≡ (Message p.pipe (grown ms p), others ms p.pipe)
-last_step ms p fifth long last =
-    ap (λ a. cond a (Fifth p.pipe, []) (cond (ltb 4096 (length (grown ms p))) (Long (length (grown ms p)), [])
-    (cond p.last (Message p.pipe (grown ms p), others ms p.pipe) (Nothing, others ms p.pipe ++ (p.pipe, grown ms p) ∷ [])))) fifth
-    ∙ (ap (λ a. cond a (Long (length (grown ms p)), [])
-    (cond p.last (Message p.pipe (grown ms p), others ms p.pipe) (Nothing, others ms p.pipe ++ (p.pipe, grown ms p) ∷ []))) long
-    ∙ ap (λ a. cond a (Message p.pipe (grown ms p), others ms p.pipe) (Nothing, others ms p.pipe ++ (p.pipe, grown ms p) ∷ [])) last)
+last_step ms p fifth long last = grind arith
 
 pub more_step : (ms : List (ℕ × List ℕ)) (p : Packet) → is_fifth ms p.pipe ≡ false → ltb 4096 (length (grown ms p)) ≡ false → p.last ≡ false
     → join_step ms p ≡ (Nothing, others ms p.pipe ++ (p.pipe, grown ms p) ∷ [])
-more_step ms p fifth long last =
-    ap (λ a. cond a (Fifth p.pipe, []) (cond (ltb 4096 (length (grown ms p))) (Long (length (grown ms p)), [])
-    (cond p.last (Message p.pipe (grown ms p), others ms p.pipe) (Nothing, others ms p.pipe ++ (p.pipe, grown ms p) ∷ [])))) fifth
-    ∙ (ap (λ a. cond a (Long (length (grown ms p)), [])
-    (cond p.last (Message p.pipe (grown ms p), others ms p.pipe) (Nothing, others ms p.pipe ++ (p.pipe, grown ms p) ∷ []))) long
-    ∙ ap (λ a. cond a (Message p.pipe (grown ms p), others ms p.pipe) (Nothing, others ms p.pipe ++ (p.pipe, grown ms p) ∷ [])) last)
+more_step ms p fifth long last = grind arith
 
 given_behind : (packets : List Packet) (ms : List (ℕ × List ℕ)) (before : List Packet) → ((q : ℕ) → so_far ms q ≡ under_way q before)
     → IsTrue (are_taken ms packets) → given_by ms packets ≡ messages_after before packets
@@ -88,13 +61,11 @@ given_behind (p ∷ packets) ms before stands taken =
         → given_by ns packets ≡ messages_after (before ++ p ∷ []) packets)
         → given_by ms (p ∷ packets) ≡ messages_after before (p ∷ packets)
     by_step true b c fifth long last more = absurd (let t : IsTrue (not true && are_taken [] packets) = rw fifth at taken in not_true (are_taken [] packets) t)
-    by_step false true c fifth long last more =
-        absurd (let t : IsTrue (not true && are_taken [] packets) = rw (fifth, long) at taken in not_true (are_taken [] packets) t)
+    by_step false true c fifth long last more = grind arith
     by_step false false true fifth long last more =
         let step : join_step ms p ≡ (Message p.pipe (grown ms p), others ms p.pipe) = last_step ms p fifth long last in
         let t : IsTrue (not false && are_taken (others ms p.pipe) packets) = subst (λ s. IsTrue (not (is_fault s.0) && are_taken s.1 packets)) step taken in
-        let ended : message_ended_by before p ≡ (p.pipe, under_way p.pipe before ++ p.bytes.items) ∷ [] =
-        ap (λ b. cond b ((p.pipe, under_way p.pipe before ++ p.bytes.items) ∷ []) []) last in
+        let ended : message_ended_by before p ≡ (p.pipe, under_way p.pipe before ++ p.bytes.items) ∷ [] = grind arith in
         ap (λ s. message_in s.0 ++ given_by s.1 packets) step
         ∙ (ap (λ bs. (p.pipe, bs ++ p.bytes.items) ∷ given_by (others ms p.pipe) packets) (stands p.pipe)
         ∙ (ap (λ xs. (p.pipe, under_way p.pipe before ++ p.bytes.items) ∷ xs) (more (others ms p.pipe) (after_last ms before p stands last) t)

@@ -5,7 +5,6 @@ use Rattle.std.proofs.lemmas.List.{map_push}
 use Rattle.std.proofs.lemmas.List.Sums.{sum_by-cons, sum_by_push}
 use Rattle.block_pool.specs.declared.chain.Chain.{Chain}
 use Rattle.block_pool.specs.Slots.{blocks_for}
-use Rattle.block_pool.specs.Owners.{with_used}
 use Rattle.block_pool.specs.Pool.{PoolState, used_of, spare_of, chain_spare, IsLive, IsApart, chain_bytes, more_blocks, KeepsOthers, Appends}
 use Rattle.hcp_packet.specs.declared.Packet.{Packet}
 use Rattle.hcp_chain.specs.declared.joiner.Open.{Open}
@@ -49,12 +48,10 @@ grows {old} {new} {joiner} {p} {chain} {after} can appends bytes live keeps =
     let sum = sum_by_push (λ (x : Open). blocks_for (length (chain_bytes new x.chain))) xs y in
     let grows : blocks_for (length (chain_bytes old chain)) ≤ blocks_for (length (chain_bytes old chain) + length p.bytes.items) = omega arith in
     let size : blocks_for (length (chain_bytes new after)) ≡ blocks_for (length (chain_bytes old chain) + length p.bytes.items) = ap blocks_for len in
-    let total : used_of old o + more_blocks (length (chain_bytes old chain)) (length p.bytes.items) ≡ held_blocks new (xs ++ y ∷ []) =
-    omega (arith, sum, size, k.blocks, can.used, grows) in
+    let total : used_of old o + more_blocks (length (chain_bytes old chain)) (length p.bytes.items) ≡ held_blocks new (xs ++ y ∷ []) = grind arith in
     record {
       holds = record { own = all_push (IsOwnOpen new o) xs y k.own own_y; apart = apart_push xs y can.holds.apart apart_y };
-      used = appends.owners ∙ (ap (λ q. with_used old.owners q (used_of old q + more_blocks (length (chain_bytes old chain)) (length p.bytes.items))) can.owned
-          ∙ ap (with_used old.owners o) total);
+      used = appends.owners ∙ (grind arith);
       others = λ other other_live away apart.
           let s = keeps other other_live apart in
           (s.1, s.2, all_push (λ x. IsApart other x.chain) xs y away s.0);

@@ -22,27 +22,12 @@ use Rattle.hcp_chain.specs.Holding.{message_of, messages_in, IsOwnOpen, AreApart
 eqb_is : (a b : ℕ) → eqb a b ≡ true → a ≡ b
 eqb_is a b e = grind (arith, common_steps)
 
-true_false : true ≡ false → ⊥
-true_false e = cc
-
-some_none : (n : ℕ) → Some n ≡ None → ⊥
-some_none n e = cc
-
-no_blocks : (n : ℕ) → blocks_for 0 + n ≡ n
-no_blocks n = omega arith
-
 -- ---- lists
 
 all_at : (P : Open → Type 0) (d : Open) (xs : List Open) (i : ℕ) → AllByRecursion P xs → i < length xs → P (get_or xs i d)
 all_at P d [] i all low = absurd (omega arith)
 all_at P d (x ∷ xs) zero all low = all.0
 all_at P d (x ∷ xs) (suc i) all low = all_at P d xs i all.1 (omega arith)
-
-pub all_remove : (P : Open → Type 0) (xs : List Open) (i : ℕ) → AllByRecursion P xs → AllByRecursion P (remove xs i)
-all_remove P [] zero all = tt
-all_remove P [] (suc i) all = tt
-all_remove P (x ∷ xs) zero all = all.1
-all_remove P (x ∷ xs) (suc i) all = (all.0, all_remove P xs i all.1)
 
 pub all_push : (P : Open → Type 0) (xs : List Open) (y : Open) → AllByRecursion P xs → P y → AllByRecursion P (xs ++ y ∷ [])
 all_push P [] y all here = (here, tt)
@@ -64,12 +49,6 @@ all_both P Q (x ∷ xs) p q = ((p.0, q.0), all_both P Q xs p.1 q.1)
 
 turned : (x y : Open) → AreApart x y → AreApart y x
 turned x y a = record { pipes = λ e. a.pipes (sym e); chains = λ first p q. a.chains first q p }
-
-pub apart_remove : (xs : List Open) (i : ℕ) → ArePairwiseApart xs → ArePairwiseApart (remove xs i)
-apart_remove [] zero apart = tt
-apart_remove [] (suc i) apart = tt
-apart_remove (x ∷ xs) zero apart = apart.1
-apart_remove (x ∷ xs) (suc i) apart = (all_remove (AreApart x) xs i apart.0, apart_remove xs i apart.1)
 
 pub apart_at : (d : Open) (xs : List Open) (i : ℕ) → ArePairwiseApart xs → i < length xs → AllByRecursion (AreApart (get_or xs i d)) (remove xs i)
 apart_at d [] i apart low = absurd (omega arith)
@@ -96,12 +75,7 @@ none_open : (pool : PoolState) (pipe : ℕ) (xs : List Open) → AllByRecursion 
 none_open pool pipe [] all = (refl, refl, refl)
 none_open pool pipe (x ∷ xs) all =
     let no = ne_eqb x.pipe pipe all.0 in
-    let rest = none_open pool pipe xs all.1 in (
-      ap (λ b. b || is_message_open (messages_in pool xs) pipe) no ∙ rest.0,
-      ap (λ b. cond b (chain_bytes pool x.chain) (so_far (messages_in pool xs) pipe)) no ∙ rest.1,
-      ap (λ b. cond (not b) (message_of pool x ∷ others (messages_in pool xs) pipe) (others (messages_in pool xs) pipe)) no
-          ∙ ap (λ ms. message_of pool x ∷ ms) rest.2,
-    )
+    let rest = none_open pool pipe xs all.1 in (grind arith)
 
 -- the chain at a place has the pipe
 pub one_open : (pool : PoolState) (pipe : ℕ) (d : Open) (xs : List Open) (i : ℕ) → ArePairwiseApart xs → i < length xs → (get_or xs i d).pipe ≡ pipe
@@ -110,20 +84,11 @@ pub one_open : (pool : PoolState) (pipe : ℕ) (d : Open) (xs : List Open) (i : 
 one_open pool pipe d [] i apart low at = absurd (omega arith)
 one_open pool pipe d (x ∷ xs) zero apart low at =
     let yes = eq-eqb x.pipe pipe at in
-    let rest = none_open pool pipe xs (all_map (AreApart x) (λ y. y.pipe ≢ pipe) xs (λ y a e. a.pipes (at ∙ sym e)) apart.0) in (
-      ap (λ b. b || is_message_open (messages_in pool xs) pipe) yes,
-      ap (λ b. cond b (chain_bytes pool x.chain) (so_far (messages_in pool xs) pipe)) yes,
-      ap (λ b. cond (not b) (message_of pool x ∷ others (messages_in pool xs) pipe) (others (messages_in pool xs) pipe)) yes ∙ rest.2,
-    )
+    let rest = none_open pool pipe xs (all_map (AreApart x) (λ y. y.pipe ≢ pipe) xs (λ y a e. a.pipes (at ∙ sym e)) apart.0) in (grind arith)
 one_open pool pipe d (x ∷ xs) (suc i) apart low at =
     let differs : x.pipe ≢ pipe = λ e. (all_at (AreApart x) d xs i apart.0 (omega arith)).pipes (e ∙ sym at) in
     let no = ne_eqb x.pipe pipe differs in
-    let rest = one_open pool pipe d xs i apart.1 (omega arith) at in (
-      ap (λ b. b || is_message_open (messages_in pool xs) pipe) no ∙ rest.0,
-      ap (λ b. cond b (chain_bytes pool x.chain) (so_far (messages_in pool xs) pipe)) no ∙ rest.1,
-      ap (λ b. cond (not b) (message_of pool x ∷ others (messages_in pool xs) pipe) (others (messages_in pool xs) pipe)) no
-          ∙ ap (λ ms. message_of pool x ∷ ms) rest.2,
-    )
+    let rest = one_open pool pipe d xs i apart.1 (omega arith) at in (grind arith)
 
 -- a search for the pipe that finds none
 none_far : (pipe : ℕ) (xs : List Open) → length xs ≤ prefix_len (λ x. not (eqb x.pipe pipe)) xs → AllByRecursion (λ x. x.pipe ≢ pipe) xs
@@ -133,15 +98,10 @@ none_far pipe (x ∷ xs) far = by_pipe (eqb x.pipe pipe) refl far (λ f. none_fa
     by_pipe : (b : Bool) → eqb x.pipe pipe ≡ b → suc (length xs) ≤ cond (not b) (1 + prefix_len (λ x. not (eqb x.pipe pipe)) xs) 0
         → (length xs ≤ prefix_len (λ x. not (eqb x.pipe pipe)) xs → AllByRecursion (λ x. x.pipe ≢ pipe) xs)
         → AllByRecursion (λ x. x.pipe ≢ pipe) (x ∷ xs)
-    by_pipe true e far rest = absurd (omega arith)
-    by_pipe false e far rest = (λ same. absurd (true_false (sym (eq-eqb x.pipe pipe same) ∙ e)), rest (omega arith))
+    by_pipe b e far rest = grind arith
 
 none_is : (n len : ℕ) → cond (ltb n len) (Some n) None ≡ None → len ≤ n
-none_is n len e = by_test (ltb n len) refl e
-  where
-    by_test : (b : Bool) → ltb n len ≡ b → cond b (Some n) None ≡ None → len ≤ n
-    by_test true t e = absurd (some_none n e)
-    by_test false t e = grind (arith, common_steps)
+none_is n len e = grind arith
 
 pub found_none : (pipe : ℕ) (xs : List Open) → position (λ x. eqb x.pipe pipe) xs ≡ None → AllByRecursion (λ x. x.pipe ≢ pipe) xs
 found_none pipe xs e = none_far pipe xs (none_is (prefix_len (λ x. not (eqb x.pipe pipe)) xs) (length xs) e)
@@ -174,17 +134,12 @@ taken_out {pool} {old} {new} {pipe} {i} {x} holds found read owner items room =
       apart = subst (AllByRecursion (λ y. (y.pipe ≢ pipe) × IsApart y.chain x.chain)) (sym items)
           (all_map (AreApart (get_or xs i x)) (λ y. (y.pipe ≢ pipe) × IsApart y.chain x.chain) (remove xs i)
           (λ y a. (λ e. a.pipes (pipe_is ∙ sym e), λ first p q. a.chains first (ap (λ z. z.chain.first) (sym read) ∙ q) p)) apart);
-      holds = subst (HoldsChains pool new.owner) (sym items) (subst (λ o. HoldsChains pool o (remove xs i)) (sym owner)
-          (record { own = all_remove (IsOwnOpen pool old.owner) xs i holds.own; apart = apart_remove xs i holds.apart }));
+      holds = subst (HoldsChains pool new.owner) (sym items) (grind arith);
       blocks =
           (let sum = sum_by-remove (λ (y : Open). blocks_for (length (chain_bytes pool y.chain))) xs i x low in
-          let here : blocks_for (length (chain_bytes pool x.chain)) ≡ blocks_for (length (chain_bytes pool (get_or xs i x).chain)) =
-          ap (λ y. blocks_for (length (chain_bytes pool y.chain))) read in
+          let here : blocks_for (length (chain_bytes pool x.chain)) ≡ blocks_for (length (chain_bytes pool (get_or xs i x).chain)) = grind arith in
           ap (λ ys. blocks_for (length (chain_bytes pool x.chain)) + held_blocks pool ys) items ∙ omega (arith, sum, here));
-      outside = λ other away. (
-        λ first p q. all_at (λ y. IsApart other y.chain) x xs i away low first p (ap (λ y. y.chain.first) (sym read) ∙ q),
-        subst (λ ys. IsApartFrom ys other) (sym items) (all_remove (λ y. IsApart other y.chain) xs i away),
-      );
+      outside = λ other away. (grind arith);
     }
 
 -- none is, and there is room
@@ -208,8 +163,7 @@ begun {pool} {old} {new} {pipe} {chain} holds quota found owner items room empty
       apart = subst (AllByRecursion (λ y. (y.pipe ≢ pipe) × IsApart y.chain chain)) (sym items)
           (all_map (λ y. y.pipe ≢ pipe) (λ y. (y.pipe ≢ pipe) × IsApart y.chain chain) xs (λ y a. (a, λ first p q. none-some first (sym empty ∙ q))) away);
       holds = subst (HoldsChains pool new.owner) (sym items) (subst (λ o. HoldsChains pool o xs) (sym owner) holds);
-      blocks = ap (λ ys. blocks_for (length (chain_bytes pool chain)) + held_blocks pool ys) items
-          ∙ (ap (λ bs. blocks_for (length bs) + held_blocks pool xs) no_bytes ∙ no_blocks (held_blocks pool xs));
+      blocks = grind arith;
       outside = λ other apart. (λ first p q. none-some first (sym empty ∙ q), subst (λ ys. IsApartFrom ys other) (sym items) apart);
     }
 

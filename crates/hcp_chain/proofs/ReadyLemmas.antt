@@ -1,5 +1,5 @@
 -- Joining on, and a joiner that can take the next packet again after its message was given back or passed on.
-use Rattle.std.proofs.Common.{◌≡◌, ◌≢◌, ℕ, ◌+◌, ◌-◌, Bool, true, false, not, ◌&&◌, List, [], ◌∷◌, ◌++◌, length, refl, sym, ap, ◌∙◌, arith, append_assoc}
+use Rattle.std.proofs.Common.{◌≡◌, ◌≢◌, ℕ, ◌+◌, ◌-◌, Bool, not, ◌&&◌, List, [], ◌∷◌, ◌++◌, length, refl, sym, ap, ◌∙◌, arith, append_assoc}
 use Rattle.std.proofs.lemmas.List.Sums.{sum_by_push}
 use Rattle.block_pool.specs.declared.chain.Chain.{Chain}
 use Rattle.block_pool.specs.declared.owners.Owner.{Owner}
@@ -26,8 +26,7 @@ given_by-append ms (x ∷ xs) ys =
     ∙ sym (append_assoc (message_in (join_step ms x).0) (given_by (join_step ms x).1 xs) (given_by (open_after (join_step ms x).1 xs) ys))
 
 and_assoc : (a b c : Bool) → (a && (b && c)) ≡ ((a && b) && c)
-and_assoc true b c = refl
-and_assoc false b c = refl
+and_assoc a b c = grind arith
 
 pub are_taken-append : (ms : List (ℕ × List ℕ)) (xs ys : List Packet) → are_taken ms (xs ++ ys) ≡ (are_taken ms xs && are_taken (open_after ms xs) ys)
 are_taken-append ms [] ys = refl
@@ -47,12 +46,7 @@ ready_without pool new j x after whole keeps len quota used =
     let k = kept pool new o x.chain after xs keeps own.0 (all_map (λ y. AreApart y x) (λ y. IsApart y.chain x.chain) xs (λ y a. a.chains) apart.1) in
     let sum : held_blocks pool (xs ++ x ∷ []) ≡ held_blocks pool xs + blocks_for (length (chain_bytes pool x.chain)) =
     sum_by_push (λ (y : Open). blocks_for (length (chain_bytes pool y.chain))) xs x in
-    record {
-      holds = record { own = k.own; apart = apart.0 };
-      has_quota = omega (arith, len, whole.has_quota);
-      quota = quota ∙ whole.quota;
-      used = omega (arith, used, whole.used, sum, k.blocks);
-    }
+    grind arith
 
 pub ready_given : (pool new : PoolState) (j : Joiner) (x : Open) → HoldsWhole pool j x → Gives pool new x.chain → KeepsOthers pool new x.chain x.chain
     → IsJoinerReady new j
@@ -60,8 +54,7 @@ ready_given pool new j x whole gives keeps =
     let o = j.owner in
     let n = blocks_for (length (chain_bytes pool x.chain)) in
     let own = all_front (IsOwnOpen pool o) j.open.items x whole.holds.own in
-    let owners : new.owners ≡ with_used pool.owners o (used_of pool o - n) = gives.owners
-    ∙ ap (λ q. with_used pool.owners q (used_of pool q - n)) own.1.owned in
+    let owners : new.owners ≡ with_used pool.owners o (used_of pool o - n) = grind arith in
     ready_without pool new j x x.chain whole keeps (ap length owners ∙ length-with_used pool.owners o (used_of pool o - n))
     (ap (λ os. (owner_at os o).quota) owners ∙ quota-with_used pool.owners o (used_of pool o - n) whole.has_quota)
     (ap (λ os. (owner_at os o).used) owners ∙ used-with_used pool.owners o (used_of pool o - n) whole.has_quota)
@@ -74,9 +67,7 @@ ready_passed pool new j x after owner whole differ passes keeps =
     let own = all_front (IsOwnOpen pool o) j.open.items x whole.holds.own in
     let without = with_used pool.owners o (used_of pool o - n) in
     let more = (owner_at without owner).used + n in
-    let owners : new.owners ≡ with_used without owner more =
-    passes.owners ∙ ap (λ q. with_used (with_used pool.owners q (used_of pool q - n)) owner
-    ((owner_at (with_used pool.owners q (used_of pool q - n)) owner).used + n)) own.1.owned in
+    let owners : new.owners ≡ with_used without owner more = grind arith in
     let here : owner_at new.owners o ≡ owner_at without o = ap (λ os. owner_at os o) owners ∙ other-with_used without owner more o (λ e. differ (sym e)) in
     ready_without pool new j x after whole keeps
     (ap length owners ∙ (length-with_used without owner more ∙ length-with_used pool.owners o (used_of pool o - n)))

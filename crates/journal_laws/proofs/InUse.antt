@@ -71,8 +71,7 @@ pub state_at : (d : List ℕ) (side : Side) → current d ≡ Some side → stat
 state_at d side is = ap (λ o. state_by o (journal d) (option_map_or (λ s. is_opened_gate (head d (other s)).gate) o false)) is
 
 pub other_other : (side : Side) → other (other side) ≡ side
-other_other First = refl
-other_other Second = refl
+other_other side = grind arith
 
 module _ (c d : List ℕ) where
   pub gate_is_open : (side : Side) → current c ≡ Some side → is_opened_gate (head c side).gate ≡ true

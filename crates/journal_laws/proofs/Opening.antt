@@ -2,14 +2,12 @@
 use Rattle.std.proofs.Common.{◌≡◌, ◌⊎◌, inl, inr, ℕ, zero, suc, ◌+◌, ◌<◌, ◌≤◌, Bool, true, false, ◌&&◌, ◌==◌, cond, List, [], ◌∷◌, length, get_or, take, drop}
 use Rattle.std.proofs.Common.{slice_index, sym, refl, ap, ◌∙◌, subst, arith, append_assoc, length-take, eqb-true, ◌-◌, ◌*◌, ◌++◌, Option, Some, None, IsSome}
 use Rattle.std.proofs.Common.{ap₂, append-nil, length-append, length-drop, drop_at, add_assoc, add-zero, zero-add, ◌^◌, min, replicate, option_map, get_or-take}
-use Rattle.std.proofs.Common.{w16, w32, ◌||◌, IsTrue}
+use Rattle.std.proofs.Common.{◌||◌, IsTrue}
 use Rattle.std.proofs.lemmas.List.{get_or_at, length-replicate, take-replicate, drop-replicate}
-use Rattle.std.proofs.lemmas.Bool.{cases_Bool, true≢false}
+use Rattle.std.proofs.lemmas.Bool.{cases_Bool}
 use Rattle.std.proofs.lemmas.Bool.Decides.{nat_tests}
 use Rattle.std.specs.Option.{option_map_or}
 use Rattle.std.specs.List.{AllByRecursion}
-use Rattle.std.specs.Int.{to_be_bytes, from_be_bytes}
-use Rattle.std.proofs.lemmas.Nat.{from_be_bytes-to_be_bytes_2, from_be_bytes-to_be_bytes_4}
 use Rattle.swp_base.specs.Outside.{overwritten}
 use Rattle.swp_base.proofs.WriteLemmas.{length-overwritten}
 use Rattle.journal_laws.specs.Writes.{Write, write, after_writes, IsCut, FitIn, last_place}
@@ -94,8 +92,7 @@ more_writes c w next later fits torn rest =
     choose : (b : Bool)
         → journal (cond b (after_writes (next ∷ later) (overwritten c w.at w.bytes)) (overwritten c w.at w.bytes))
         ≡ journal (cond b (after_writes (next ∷ later) (overwritten c w.at w.bytes)) c)
-    choose true = refl
-    choose false = torn w.bytes refl
+    choose b = grind arith
 
     not_last : (n : ℕ) → (0 + 1 == suc (suc n)) ≡ false
     not_last n = grind (arith, nat_tests)
@@ -104,17 +101,8 @@ more_writes c w next later fits torn rest =
     one_on k n = grind (arith, nat_tests)
 
     says : (k : ℕ) (left : List ℕ) → IsCut k (w ∷ next ∷ later) c left → journal left ≡ journal (outcome k (w ∷ next ∷ later) c left)
-    says zero left cut =
-        ap journal cut.2 ∙ torn cut.0 cut.1
-        ∙ ap (λ b. journal
-        (cond (b && is_opened_gate (slice_index left (last_place (next ∷ later)))) (after_writes (next ∷ later) (overwritten c w.at w.bytes)) c)) (sym
-        (not_last (length later)))
-    says (suc k) left cut =
-        rest.says k left cut
-        ∙ choose (k + 1 == length (next ∷ later) && is_opened_gate (slice_index left (last_place (next ∷ later))))
-        ∙ ap (λ b. journal
-        (cond (b && is_opened_gate (slice_index left (last_place (next ∷ later)))) (after_writes (next ∷ later) (overwritten c w.at w.bytes)) c)) (one_on k
-        (length (next ∷ later)))
+    says zero left cut = grind arith
+    says (suc k) left cut = grind arith
 
 -- ---- one more record
 
@@ -193,12 +181,10 @@ module _ (b : List ℕ) (version : ℕ) (long : length b ≡ 32768) (good : (fou
 -- ---- in a memory
 
 pub place_low : (side : Side) → bank_place side ≤ 32768
-place_low First = omega arith
-place_low Second = omega arith
+place_low side = grind arith
 
 pub bank_in_use : (o : Option Side) → IsSome o → (side : Side) × (o ≡ Some side)
-bank_in_use None some = absurd (true≢false (sym some))
-bank_in_use (Some side) some = (side, refl)
+bank_in_use o some = grind arith
 
 -- what it says with one more record
 abbrev pub one_more : Journal → List ℕ → Journal
@@ -291,18 +277,7 @@ length-bank_bytes generation base bodies = omega (arith, length-append (records_
 filled_head : (generation base : ℕ) (bodies : List (List ℕ)) (rest : List ℕ) → generation < 2 ^ 32 → base < 2 ^ 32 → length bodies < 2 ^ 16
     → head_of (take 12 ((90 ∷ bank_bytes generation base bodies) ++ rest))
     ≡ record { gate = 90; version = 2; generation = generation; base = base; snapshot = length bodies }
-filled_head generation base bodies rest low_generation low_base few =
-    ap (λ n. record {
-      gate = 90;
-      version = 2;
-      generation = n;
-      base = from_be_bytes w32 (to_be_bytes w32 base);
-      snapshot =
-          from_be_bytes w16 (to_be_bytes w16 (length bodies));
-    })
-    (from_be_bytes-to_be_bytes_4 generation low_generation)
-    ∙ ap₂ (λ b s. record { gate = 90; version = 2; generation = generation; base = b; snapshot = s }) (from_be_bytes-to_be_bytes_4 base low_base)
-    (from_be_bytes-to_be_bytes_2 (length bodies) few)
+filled_head generation base bodies rest low_generation low_base few = grind arith
 
 filled_found : (generation base : ℕ) (bodies : List (List ℕ)) (rest : List ℕ) → length ((90 ∷ bank_bytes generation base bodies) ++ rest) ≡ 32768
     → length bodies < 2 ^ 15 → AllByRecursion IsBody bodies
@@ -472,8 +447,7 @@ module _ (c : List ℕ) (side : Side) (long : 65536 ≤ length c) (is : current 
 -- ---- a compaction
 
 same_byte : (l : List ℕ) (gate : ℕ) → 0 < length l → slice_index l 0 ≡ gate → overwritten l 0 (gate ∷ []) ≡ l
-same_byte [] gate some is = absurd (omega arith)
-same_byte (x ∷ l) gate some is = ap (λ g. g ∷ l) (sym is)
+same_byte l gate some is = grind arith
 
 module _ (c : List ℕ) (side : Side) (long : 65536 ≤ length c) (is : current c ≡ Some side) where
   -- a closed gate is written over the other bank's
@@ -529,10 +503,7 @@ module _ (c : List ℕ) (bodies : List (List ℕ)) (long : 65536 ≤ length c) (
   low = subst (λ (j : Journal). j.head.generation + 1 < 2 ^ 32) seen h.generation
 
   low_count : count c < 2 ^ 32
-  low_count = below ((journal c).head.base + length (journal c).found.bodies - (journal c).head.snapshot)
-    where
-      below : (n : ℕ) → min n (2 ^ 32 - 1) < 2 ^ 32
-      below n = omega arith
+  low_count = grind arith
 
   abbrev filling : List Write
   filling = open_bank (bank_place (other side)) generation (count c) bodies
@@ -540,15 +511,8 @@ module _ (c : List ℕ) (bodies : List (List ℕ)) (long : 65536 ≤ length c) (
   abbrev closing : Bool → List Write
   closing opened = cond opened (write (bank_place (other side)) (255 ∷ []) ∷ []) []
 
-  abbrev by_state : State → List Write
-  by_state s = compact_writes s bodies
-
   planned : (opened : Bool) → is_opened_gate (head c (other side)).gate ≡ opened → compact_writes (state_of c) bodies ≡ closing opened ++ filling
-  planned opened gate =
-      ap by_state (state_at c side is)
-      ∙ ap (λ (j : Journal). by_state (state_by (Some side) j (is_opened_gate (head c (other side)).gate))) seen
-      ∙ ap (λ b. closing b ++ open_bank (bank_place (other side)) generation (count_of (state_by (Some side) (journal_at c side) b)) bodies) gate
-      ∙ ap (λ (j : Journal). closing opened ++ open_bank (bank_place (other side)) generation (count_of (state_by (Some side) j opened)) bodies) (sym seen)
+  planned opened gate = grind arith
 
   abbrev made : Journal
   made = record {
@@ -558,11 +522,7 @@ module _ (c : List ℕ) (bodies : List (List ℕ)) (long : 65536 ≤ length c) (
   }
 
   made_is : snapshot_journal (state_of c) bodies ≡ made
-  made_is = ap₂ (λ (o : Option Side) (j : Journal). record {
-    in_use = option_map other o;
-    head = record { gate = 90; version = 2; generation = j.head.generation + 1; base = count c; snapshot = length bodies };
-    found = record { bodies = bodies; size = used bodies; is_bad = false };
-  }) is seen
+  made_is = grind arith
 
   -- the memory with the other bank closed
   abbrev c1 : List ℕ
@@ -689,14 +649,10 @@ module _ (c : List ℕ) (bodies : List (List ℕ)) (started : IsStarted c) (h : 
       (still_used (current c) started.in_use, version_2 (snapshot_journal (state_of c) bodies) refl refl)
     where
       still_used : (o : Option Side) → IsSome o → IsSome (option_map other o)
-      still_used None some = some
-      still_used (Some side) some = refl
+      still_used o some = grind arith
 
 pub compact_count : (s : State) (bodies : List (List ℕ)) → count_of (compacted s bodies) ≡ count_of s
-compact_count s bodies = again (s.base + s.many - s.snapshot)
-  where
-    again : (n : ℕ) → min (min n (2 ^ 32 - 1) + length bodies - length bodies) (2 ^ 32 - 1) ≡ min n (2 ^ 32 - 1)
-    again n = omega arith
+compact_count s bodies = grind arith
 
 pub format_started : (c : List ℕ) → IsUnformatted c → IsStarted (after_writes format_writes c)
 format_started c h = after_started c format_writes no_records h.size (format_is_cut c h) (format_is_whole c h) (refl, version_2 no_records refl refl)

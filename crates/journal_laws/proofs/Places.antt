@@ -1,5 +1,5 @@
 -- What a write leaves of two lists in a row, and of the two banks of a memory.
-use Rattle.std.proofs.Common.{◌≡◌, ℕ, ◌+◌, ◌<◌, ◌≤◌, List, [], ◌∷◌, ◌++◌, length, take, drop, slice_index, sym, refl, ap, ap₂, ◌∙◌, subst, arith, append_assoc}
+use Rattle.std.proofs.Common.{◌≡◌, ℕ, ◌+◌, ◌<◌, ◌≤◌, List, [], ◌∷◌, ◌++◌, length, take, drop, slice_index, sym, ap, ap₂, ◌∙◌, subst, arith, append_assoc}
 use Rattle.std.proofs.Common.{length-take, length-drop, take-append-drop, take_at, drop_at, add_assoc, zero-add, add-zero}
 use Rattle.std.proofs.Math.Seq.{take-append-add, drop-append-add}
 use Rattle.swp_base.specs.Outside.{overwritten}
@@ -74,10 +74,8 @@ in_front c p gate bytes within =
     ∙ ap (λ m. overwritten c m (gate ∷ bytes)) (add-zero p)
   where
     at_head : (l : List ℕ) → 0 < length l → overwritten (overwritten l 1 bytes) 0 (gate ∷ []) ≡ overwritten l 0 (gate ∷ bytes)
-    at_head [] some = absurd (omega arith)
-    at_head (x ∷ l) some = ap (λ m. gate ∷ bytes ++ drop m (x ∷ l)) (omega arith)
+    at_head l some = grind arith
 
 -- a first element, in front of what is written
 pub keeps_first : (l bytes : List ℕ) → 0 < length l → slice_index (overwritten l 1 bytes) 0 ≡ slice_index l 0
-keeps_first [] bytes some = absurd (omega arith)
-keeps_first (x ∷ l) bytes some = refl
+keeps_first l bytes some = grind arith

@@ -1,10 +1,8 @@
 -- Writes that were made in order until one failed.
-use Rattle.std.proofs.Common.{◌≡◌, inl, inr, ℕ, suc, Bool, true, false, List, [], ◌∷◌, ap, ◌∙◌, subst, ◌≢◌, ◌-◌, not, cond, ◌&&◌, leb, length, Option, Some}
-use Rattle.std.proofs.Common.{None, sym, refl, arith}
-use Rattle.std.proofs.lemmas.Bool.{true≢false, false≢true, not-false, not-true, eqb-false, eqb-true}
-use Rattle.std.proofs.lemmas.Bool.Decides.{nat_tests}
-use Rattle.swp_base.specs.Outside.{IsWritten, one_more, overwritten}
-use Rattle.swp_base.specs.InMemory.{Plan, Memory, is_next, plan_after, memory_after, torn_bytes, WritesAsPlanned}
+use Rattle.std.proofs.Common.{◌≡◌, inl, inr, ℕ, suc, Bool, true, false, List, [], ◌∷◌, ap, ◌∙◌, subst, not, cond, length, Option, sym, arith}
+use Rattle.std.proofs.lemmas.Bool.{true≢false, false≢true, not-true}
+use Rattle.swp_base.specs.Outside.{IsWritten}
+use Rattle.swp_base.specs.InMemory.{Plan, Memory, is_next, plan_after, memory_after, WritesAsPlanned}
 use Rattle.journal_laws.specs.Writes.{Write, after_writes, IsCut, AreMade}
 use Rattle.journal_laws.specs.Planned.{fails_within, after_planned}
 
@@ -25,32 +23,19 @@ module _ {M : Type 0} (writes : M → ℕ → List ℕ → Bool → M → Type 0
 
 -- ---- where the failing write is planned, which writes are made is known
 
-next_within : (n : ℕ) (plan : Option Plan) → is_next plan ≡ true → fails_within (suc n) plan ≡ true
-next_within n None next = next
-next_within n (Some p) next = let one = eqb-true p.nth 1 next in grind (arith, nat_tests)
-
 later_within : (n : ℕ) (plan : Option Plan) → is_next plan ≡ false → fails_within n (plan_after plan) ≡ fails_within (suc n) plan
-later_within n None later = refl
-later_within n (Some p) later =
-    ap (λ b. fails_within n (cond b None (Some (record p { nth = p.nth - 1 })))) later ∙ one_on p.nth (eqb-false p.nth 1 later)
-  where
-    one_on : (nth : ℕ) → nth ≢ 1 → (leb 1 (nth - 1) && leb (nth - 1) n) ≡ (leb 1 nth && leb nth (suc n))
-    one_on nth other = grind (arith, nat_tests)
+later_within n plan later = grind arith
 
 pub none_within : (plan : Option Plan) → fails_within 0 plan ≡ false
-none_within None = refl
-none_within (Some p) = grind (arith, nat_tests)
+none_within plan = grind arith
 
 pub plan_of_memory_after : (m : Memory) (at : ℕ) (bytes : List ℕ) → is_next m.plan ≡ false → (memory_after m at bytes).plan ≡ plan_after m.plan
-plan_of_memory_after m at bytes later =
-    ap (λ b. (cond b (record m { content = overwritten m.content at (torn_bytes m.plan (length bytes)); plan = None; faults = one_more m.faults })
-    (record m { content = overwritten m.content at bytes; plan = plan_after m.plan })).plan) later
+plan_of_memory_after m at bytes later = grind arith
 
 pub planned_answer : (planned : List Write) (old : Memory) (ok : Bool) (new : Memory) → AreMade WritesAsPlanned planned old ok new
     → ok ≡ not (fails_within (length planned) old.plan)
 planned_answer [] old ok new made = made.0 ∙ ap not (sym (none_within old.plan))
-planned_answer (w ∷ planned) old ok new (inl failed) =
-    failed.0 ∙ ap not (sym (next_within (length planned) old.plan (not-false (is_next old.plan) (sym failed.1.answer))))
+planned_answer (w ∷ planned) old ok new (inl failed) = grind arith
 planned_answer (w ∷ planned) old ok new (inr rest) =
     let later : is_next old.plan ≡ false = not-true (is_next old.plan) (sym rest.1.answer) in
     planned_answer planned rest.0 ok new rest.2
@@ -60,9 +45,7 @@ planned_answer (w ∷ planned) old ok new (inr rest) =
 pub planned_memory : (planned : List Write) (old : Memory) (ok : Bool) (new : Memory) → AreMade WritesAsPlanned planned old ok new
     → new ≡ after_planned planned old
 planned_memory [] old ok new made = made.1
-planned_memory (w ∷ planned) old ok new (inl failed) =
-    let next : is_next old.plan ≡ true = not-false (is_next old.plan) (sym failed.1.answer) in
-    failed.1.memory ∙ ap (λ b. cond b (memory_after old w.at w.bytes) (after_planned planned (memory_after old w.at w.bytes))) (sym next)
+planned_memory (w ∷ planned) old ok new (inl failed) = grind arith
 planned_memory (w ∷ planned) old ok new (inr rest) =
     let later : is_next old.plan ≡ false = not-true (is_next old.plan) (sym rest.1.answer) in
     planned_memory planned rest.0 ok new rest.2

@@ -1,9 +1,7 @@
 -- Reads in front of writes.
-use Rattle.std.proofs.Common.{◌≡◌, inl, inr, ℕ, zero, suc, Bool, true, false, not, cond, List, [], ◌∷◌, Option, None, sym, refl, ap, ◌∙◌, subst, ◌⊎◌, ◌<◌, ◌≤◌}
-use Rattle.std.proofs.Common.{arith}
+use Rattle.std.proofs.Common.{◌≡◌, inl, inr, ℕ, zero, suc, Bool, true, false, not, List, [], ◌∷◌, Option, None, refl, ap, ◌∙◌, subst, ◌⊎◌, ◌<◌, ◌≤◌, arith}
 use Rattle.std.proofs.lemmas.Bool.{true≢false, false≢true, cases_lt}
-use Rattle.swp_base.specs.Outside.{one_more}
-use Rattle.swp_base.specs.InMemory.{Memory, is_next_read, read_plan_after, memory_read, ReadsAsPlanned, ReadsSurely, WritesSurely}
+use Rattle.swp_base.specs.InMemory.{Memory, is_next_read, memory_read, ReadsAsPlanned, ReadsSurely, WritesSurely}
 use Rattle.journal_laws.specs.Writes.{Write, after_writes, AreMade, AreRead, AreCalled}
 
 module _ {M : Type 0} (reads : M → Bool → M → Type 0) where
@@ -50,9 +48,7 @@ module _ {M : Type 0} (reads : M → Bool → M → Type 0) where
 -- ---- planned
 
 read_memory_none : (m : Memory) → m.failing_read ≡ None → memory_read m ≡ m
-read_memory_none m none =
-    ap (λ r. record m { failing_read = read_plan_after r; faults = cond (is_next_read r) (one_more m.faults) m.faults }) none
-    ∙ ap (λ r. record m { failing_read = r }) (sym none)
+read_memory_none m none = grind arith
 
 pub reads_content : (most : ℕ) (old : Memory) (ok : Bool) (new : Memory) → AreRead ReadsAsPlanned most old ok new → new.content ≡ old.content
 unfolding AreRead

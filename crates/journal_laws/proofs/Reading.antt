@@ -1,13 +1,11 @@
 -- What is read of records in a row.
-use Rattle.std.proofs.Common.{◌≡◌, ◌⊎◌, inl, inr, ℕ, zero, suc, ◌+◌, ◌*◌, ◌^◌, ◌<◌, ◌≤◌, Bool, true, false, ◌&&◌, ◌||◌, ◌==◌, leb, ltb, cond, nat_lt, nat_le}
-use Rattle.std.proofs.Common.{List, [], ◌∷◌, ◌++◌, length, take, drop, slice_index, slice_range, sym, refl, ap, ap₂, ◌∙◌, subst, arith, append_assoc}
-use Rattle.std.proofs.Common.{length-append, length-take, length-drop, take-append-drop, take_at, drop_at, add_assoc, suc-add, add-zero, zero-add, get_or-take}
-use Rattle.std.proofs.Common.{take-take, w16}
+use Rattle.std.proofs.Common.{◌≡◌, ◌⊎◌, inl, inr, ℕ, zero, suc, ◌+◌, ◌*◌, ◌^◌, ◌<◌, ◌≤◌, Bool, true, false, ◌&&◌, ◌||◌, ◌==◌, ltb, cond, nat_lt, nat_le, List}
+use Rattle.std.proofs.Common.{[], ◌∷◌, ◌++◌, length, take, drop, slice_index, slice_range, sym, refl, ap, ap₂, ◌∙◌, subst, arith, append_assoc, length-append}
+use Rattle.std.proofs.Common.{length-take, length-drop, take-append-drop, take_at, drop_at, suc-add, zero-add, get_or-take, take-take, w16}
 use Rattle.std.specs.List.{AllByRecursion}
-use Rattle.std.specs.Int.{from_be_bytes, to_be_bytes}
-use Rattle.std.proofs.lemmas.Nat.{from_be_bytes-to_be_bytes_2}
+use Rattle.std.specs.Int.{from_be_bytes}
 use Rattle.std.proofs.lemmas.List.{drop-take}
-use Rattle.std.proofs.lemmas.Bool.{cases_Bool, and_parts, leb-true, ltb-true, true≢false, and_from, le-leb, lt-ltb, eq-eqb}
+use Rattle.std.proofs.lemmas.Bool.{cases_Bool, true≢false, lt-ltb}
 use Rattle.std.proofs.lemmas.Bool.Decides.{nat_tests}
 use Rattle.journal_laws.specs.Banks.{is_opened_gate}
 use Rattle.journal_laws.specs.Records.{index_len, gap, body, IsBody, is_good_record, Found, nothing_found, bad, behind, found_from, record_bytes, records_bytes}
@@ -35,12 +33,7 @@ same_body version xs ys same =
 
 pub is_good_parts : (version position : ℕ) (bytes : List ℕ) → is_good_record version position bytes ≡ true
     → (1 ≤ slice_index bytes 1) × (gap version bytes < length bytes)
-is_good_parts version position bytes good =
-    let len = slice_index bytes 1 in
-    let all = and_parts (nat_le 1 len && nat_le len 61 && nat_lt (gap version bytes) (length bytes))
-    (version == 1 || from_be_bytes w16 (slice_range bytes 2 4) == position) good in
-    let front = and_parts (nat_le 1 len && nat_le len 61) (nat_lt (gap version bytes) (length bytes)) all.0 in
-    (leb-true 1 len (and_parts (nat_le 1 len) (nat_le len 61) front.0).0, ltb-true (gap version bytes) (length bytes) front.1)
+is_good_parts version position bytes good = grind arith
 
 abbrev test : ℕ → Bool → Bool → Bool
 test len long index = nat_le 1 len && nat_le len 61 && long && index
@@ -61,8 +54,7 @@ same_good version position xs ys same fits good =
     ∙ good
   where
     index : (version == 1 ≡ true) ⊎ (version == 1 ≡ false) → tells version position xs ≡ tells version position ys
-    index (inl old) =
-        ap (λ b. b || from_be_bytes w16 (slice_range xs 2 4) == position) old ∙ sym (ap (λ b. b || from_be_bytes w16 (slice_range ys 2 4) == position) old)
+    index (inl old) = grind arith
     index (inr new) =
         let len : index_len version ≡ 2 = ap (λ b. cond b 0 2) new in
         ap (λ l. version == 1 || from_be_bytes w16 l == position) (window xs ys (gap version ys) 2 2 same (omega arith))
@@ -125,22 +117,11 @@ behind-none found = ap (λ n. record { bodies = found.bodies; size = n; is_bad =
 -- one record, and then more
 pub behind-one : (body : List ℕ) (n : ℕ) (bodies : List (List ℕ)) (size : ℕ) (found : Found)
     → behind (body ∷ []) n (behind bodies size found) ≡ behind (body ∷ bodies) (n + size) found
-behind-one body n bodies size found =
-    ap (λ m. record { bodies = body ∷ bodies ++ found.bodies; size = m; is_bad = found.is_bad }) (sym (add_assoc n size found.size))
+behind-one body n bodies size found = grind arith
 
 none_found : (version position : ℕ) (bytes : List ℕ) → 0 < length bytes → is_opened_gate (slice_index bytes 0) ≡ false
     → Parts version position bytes nothing_found
-none_found version position bytes some closed = record {
-  front = [];
-  rest = bytes;
-  whole = refl;
-  size = refl;
-  some = some;
-  closed = closed;
-  few = omega arith;
-  again = λ most other long. ap₂ (λ m n. found_from version m n other) (zero-add most) (sym (add-zero position))
-      ∙ sym (behind-none (found_from version most (position + 0) other));
-}
+none_found version position bytes some closed = grind arith
 
 one_found : (version most position : ℕ) (bytes : List ℕ) (found : Found) → is_opened_gate (slice_index bytes 0) ≡ true
     → is_good_record version position bytes ≡ true
@@ -212,12 +193,8 @@ record_is_read most position body rest low short some =
     let xs = (90 ∷ record_bytes position body) ++ rest in
     let front = 90 ∷ record_bytes position body in
     let fits : ltb (4 + length body) (length xs) ≡ true = lt-ltb (4 + length body) (length xs) (omega (arith, length-append body rest)) in
-    let index : from_be_bytes w16 (slice_range xs 2 4) == position ≡ true =
-    eq-eqb (from_be_bytes w16 (to_be_bytes w16 position)) position (from_be_bytes-to_be_bytes_2 position low) in
-    let good : is_good_record 2 position xs ≡ true =
-    and_from (leb 1 (length body) && leb (length body) 61 && ltb (4 + length body) (length xs)) (from_be_bytes w16 (slice_range xs 2 4) == position)
-    (and_from (leb 1 (length body) && leb (length body) 61) (ltb (4 + length body) (length xs))
-    (and_from (leb 1 (length body)) (leb (length body) 61) (le-leb 1 (length body) short.0) (le-leb (length body) 61 short.1)) fits) index in
+    let index : from_be_bytes w16 (slice_range xs 2 4) == position ≡ true = grind arith in
+    let good : is_good_record 2 position xs ≡ true = grind arith in
     found_good 2 most position xs refl good
     ∙ ap (λ b. behind (b ∷ []) (4 + length body) (found_from 2 most (position + 1) (drop (4 + length body) xs))) (take_at body rest (length body) refl)
     ∙ ap (λ l. behind (body ∷ []) (4 + length body) (found_from 2 most (position + 1) l)) (drop_at front rest (4 + length body) (omega arith))
@@ -226,8 +203,7 @@ pub records_are_read : (most position : ℕ) (bodies : List (List ℕ)) (rest : 
     → 0 < length rest
     → found_from 2 (length bodies + most) position (records_bytes position bodies ++ rest)
     ≡ behind bodies (length (records_bytes position bodies)) (found_from 2 most (position + length bodies) rest)
-records_are_read most position [] rest low short some =
-    ap₂ (λ m n. found_from 2 m n rest) (zero-add most) (sym (add-zero position)) ∙ sym (behind-none (found_from 2 most (position + 0) rest))
+records_are_read most position [] rest low short some = grind arith
 records_are_read most position (body ∷ bodies) rest low short some =
     let front = 90 ∷ record_bytes position body in
     let more = records_bytes (position + 1) bodies in

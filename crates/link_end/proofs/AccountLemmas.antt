@@ -11,7 +11,7 @@ use Rattle.block_pool.specs.Pool.{PoolState, IsNew, quota_of, used_of, IsLive, I
 use Rattle.block_pool.specs.Holdings.{IsOwnChain as IsChainOf, OwnsAll, LiesApart}
 use Rattle.block_pool.proofs.HoldingLemmas.{apart_by_owner, apart_turned, all_mapped, all_joined, kept_each, lies_apart_by_owner, used-with_used}
 use Rattle.block_pool.proofs.HoldingLemmas.{quota-with_used, other-with_used, length-with_used}
-use Rattle.hcp_packet.specs.Packets.{AreSendable, fragments_of}
+use Rattle.hcp_packet.specs.Packets.{fragments_of}
 use Rattle.hcp_chain.specs.declared.joiner.Open.{Open}
 use Rattle.hcp_chain.specs.Holding.{IsOwnOpen, AreApart, HoldsChains, held_blocks, messages_in as messages_of, IsApartFrom}
 use Rattle.hcp_chain.proofs.HoldingLemmas.{all_front, all_map, apart_front}
@@ -85,36 +85,8 @@ untouched_stands old new k m h u =
           session = before.link.session;
         };
         acts = before.acts;
-        sends = record {
-          lies = record {
-            kept = record {
-              own = sent.own;
-              apart = kept.apart;
-              sendable = subst AreSendable (sym same) kept.sendable;
-              capacity = kept.capacity;
-              has_quota = omega (arith, len, kept.has_quota);
-              quota = ap (λ (x : Owner). x.quota) u.sender ∙ kept.quota;
-              used = omega (arith, out_used, out_aside, sent.blocks, kept.used);
-              within = omega (arith, out_used, kept.within);
-            };
-            acked = before.sends.lies.acked;
-            cut = subst (λ l. k.outbox.left + k.outbox.cut ≡ length (fragments_of l)) (sym same) before.sends.lies.cut;
-          };
-          all = before.sends.all;
-          out = before.sends.out;
-          messages = same ∙ before.sends.messages;
-          acked = before.sends.acked;
-        };
-        receives = record {
-          lies = record {
-            holds = record { own = all.own; apart = lies.holds.apart };
-            has_quota = omega (arith, len, lies.has_quota);
-            quota = u.quota ∙ lies.quota;
-            used = omega (arith, all.blocks, u.used);
-          };
-          under = some.messages ∙ before.receives.under;
-          sound = before.receives.sound;
-        };
+        sends = grind arith;
+        receives = grind arith;
         got = got.messages ∙ before.got;
         aside = out_aside ∙ before.aside;
         passed_over = before.passed_over;
@@ -161,10 +133,7 @@ untouched old new k m h s =
 fetched_stays : (old new : PoolState) (k : End) (chain : Option Chain)
     → ((c : Chain) → IsLive old c → c.owner ≡ k.inbox.joiner.owner → Stays old new c) → IfSome chain (IsFetched old k)
     → IfSome chain (IsFetched new k) × (blocks_of new chain ≡ blocks_of old chain)
-fetched_stays old new k None stay f = (tt, refl)
-fetched_stays old new k (Some c) stay f =
-    let s = stay c f.live f.owned in
-    (record { live = s.0; owned = f.owned; apart = f.apart }, ap (λ bs. blocks_for (length bs)) s.1)
+fetched_stays old new k chain stay f = grind arith
 
 -- an end whose owners count as before, and their chains have their bytes still
 both_stay : (old new : PoolState) (k : End) (m : Machine) (chain : Option Chain) → EndStandsFor k old m → Accounts k old chain
@@ -204,9 +173,7 @@ kept_beside_call {old} {before} {other} {m} {n} {theirs} new after h l differ g 
 
 pub account_kept : (old new : PoolState) (before after : End) (m : Machine) (chain : Option Chain) → EndStandsFor before old m
     → EndLeavesOthers old new before after → Accounts before old chain → Accounts after new chain
-account_kept old new before after m None h l a =
-    let P : ℕ → Type 0 = λ o. used_of new o ≡ held_blocks new (chains_in after.inbox) + 0 in
-    record { fetched = tt; used = subst P (sym l.receiver) (omega (arith, l.received, a.used)) }
+account_kept old new before after m None h l a = grind arith
 account_kept old new before after m (Some c) h l a =
     let f = a.fetched in
     let queue = lies_apart_by_owner Queued chain_in old before.outbox.owner before.outbox.queue.items c h.halfway.sends.lies.kept.own f.live
@@ -214,33 +181,22 @@ account_kept old new before after m (Some c) h l a =
     let s = l.others c f.live queue f.apart in
     let blocks = ap (λ bs. blocks_for (length bs)) s.1 in
     let P : ℕ → Type 0 = λ o. used_of new o ≡ held_blocks new (chains_in after.inbox) + blocks_for (length (chain_bytes new c)) in
-    record {
-      fetched = record { live = s.0; owned = f.owned ∙ sym l.receiver; apart = s.3 };
-      used = subst P (sym l.receiver) (omega (arith, l.received, a.used, blocks));
-    }
+    grind arith
 
 -- ---- calls that leave what comes as it is
 
 fetched_moved : (pool : PoolState) (k after : End) (chain : Option Chain) → after.inbox ≡ k.inbox → IfSome chain (IsFetched pool k)
     → IfSome chain (IsFetched pool after)
-fetched_moved pool k after None inbox f = tt
-fetched_moved pool k after (Some c) inbox f = record {
-  live = f.live;
-  owned = f.owned ∙ ap (λ (b : Inbox). b.joiner.owner) (sym inbox);
-  apart = subst (λ (b : Inbox). IsApartFrom (chains_in b) c) (sym inbox) f.apart;
-}
+fetched_moved pool k after chain inbox f = grind arith
 
 pub account_moved : (pool : PoolState) (before after : End) (chain : Option Chain) → after.inbox ≡ before.inbox → Accounts before pool chain
     → Accounts after pool chain
-account_moved pool before after chain inbox a =
-    let P : Inbox → Type 0 = λ b. used_of pool b.joiner.owner ≡ held_blocks pool (chains_in b) + blocks_of pool chain in
-    record { fetched = fetched_moved pool before after chain inbox a.fetched; used = subst P (sym inbox) a.used }
+account_moved pool before after chain inbox a = grind arith
 
 -- ---- a frame may be taken
 
 none_got : (pool : PoolState) (g : Option Got) → messages_of pool (got_chains g) ≡ [] → g ≡ None
-none_got pool None e = refl
-none_got pool (Some g) e = cc
+none_got pool g e = grind arith
 
 fetched_all : (pool : PoolState) (k : End) (m : Machine) → EndStandsFor k pool m → m.got ≡ [] → k.inbox.got ≡ None
 fetched_all pool k m h none = none_got pool k.inbox.got (h.halfway.got ∙ none)
@@ -263,10 +219,7 @@ may_take_held k pool m h held none = record { fetched = fetched_all pool k m h n
 
 pub none_counted : (pool : PoolState) (k : End) (owner : ℕ) → chains_in k.inbox ≡ [] → k.inbox.joiner.owner ≡ owner → used_of pool owner ≡ 0
     → Accounts k pool None
-none_counted pool k owner none is unused =
-    let held = ap (held_blocks pool) none in
-    let used = ap (used_of pool) is in
-    record { fetched = tt; used = omega (arith, held, used, unused) }
+none_counted pool k owner none is unused = grind arith
 
 -- the message that came whole was fetched, if one did
 pub record HasFetchedMessage (before after : Inbox) (x : Option (ℕ × Chain)) : Type 0 where
@@ -277,9 +230,7 @@ pub record HasFetchedMessage (before after : Inbox) (x : Option (ℕ × Chain)) 
 
 pub fetched_counted : {pool : PoolState} {k : End} {inbox : Inbox} {m : Machine} {x : Option (ℕ × Chain)} → EndStandsFor k pool m → Accounts k pool None
     → HasFetchedMessage k.inbox inbox x → Accounts (record k { inbox = inbox }) pool (option_map (λ y. y.1) x)
-fetched_counted {pool} {k} {inbox} {x = None} h a f =
-    let P : Inbox → Type 0 = λ b. Accounts (record k { inbox = b }) pool None in
-    subst P (ap (λ j. record { joiner = j; got = k.inbox.got }) (sym f.joiner) ∙ ap (λ g. record { joiner = inbox.joiner; got = g }) (f.none ∙ sym f.fetched)) a
+fetched_counted {pool} {k} {inbox} {x = None} h a f = grind arith
 fetched_counted {pool} {k} {inbox} {x = Some y} h a f =
     let P : Inbox → Type 0 = λ b. Accounts (record k { inbox = b }) pool (Some y.1) in
     let xs = k.inbox.joiner.open.items in
@@ -317,8 +268,8 @@ goes_own {old} {new} {k} {m} {chain} h a g =
     let opens = all_joined Open (IsOwnOpen old i) (λ x. IsApart chain x.chain) (chains_in k.inbox) lies.holds.own f.apart in
     let u : Untouched old new k = record {
       queued = all_mapped Queued (λ q. IsChainOf old o q.chain) (λ q. Stays old new q.chain) k.outbox.queue.items
-          (λ q own. g.apart q.chain own.live (apart_by_owner old q.chain chain own.live f.live (λ e. h.halfway.differ (sym own.owned ∙ (e
-          ∙ f.owned)))) (inl own.owned)) h.halfway.sends.lies.kept.own;
+          (λ q own. g.apart q.chain own.live (apart_by_owner old q.chain chain own.live f.live
+          (λ e. h.halfway.differ (sym own.owned ∙ (grind arith)))) (inl own.owned)) h.halfway.sends.lies.kept.own;
       opens = all_mapped Open (λ x. IsOwnOpen old i x × IsApart chain x.chain) (λ x. Stays old new x.chain) (chains_in k.inbox)
           (λ x own. g.apart x.chain own.0.live (apart_turned chain x.chain own.1) (inr own.0.owned)) opens;
       sender = g.counts;
@@ -338,8 +289,7 @@ given_own old new k m chain h a gives keeps =
     let i = k.inbox.joiner.owner in
     let n = blocks_for (length (chain_bytes old chain)) in
     let has = h.halfway.receives.lies.has_quota in
-    let owners : new.owners ≡ with_used old.owners i (used_of old i - n) = gives.owners ∙ ap
-    (λ q. with_used old.owners q (used_of old q - n)) a.fetched.owned in
+    let owners : new.owners ≡ with_used old.owners i (used_of old i - n) = grind arith in
     goes_own h a (record {
       apart = λ c live apart e. (let s = keeps c live apart in (s.1, s.2));
       counts = ap (λ os. owner_at os k.outbox.owner) owners ∙ other-with_used old.owners i (used_of old i - n) k.outbox.owner h.halfway.differ;
@@ -355,8 +305,7 @@ given_beside {old} {new} {k} {other} {n} {chain} {theirs} a gives keeps differ g
     let i = k.inbox.joiner.owner in
     let f = a.fetched in
     let left = used_of old i - blocks_for (length (chain_bytes old chain)) in
-    let owners : new.owners ≡ with_used old.owners i left = gives.owners ∙ ap
-    (λ q. with_used old.owners q (used_of old q - blocks_for (length (chain_bytes old chain)))) f.owned in
+    let owners : new.owners ≡ with_used old.owners i left = grind arith in
     let stay : (c : Chain) → IsLive old c → c.owner ≢ i
     → Stays old new c = λ c live away. (let s = keeps c live (apart_by_owner old c chain live f.live (λ e. away (e ∙ f.owned))) in (s.1, s.2)) in
     both_stay old new other n theirs g b (record {
@@ -371,12 +320,7 @@ given_beside {old} {new} {k} {other} {n} {chain} {theirs} a gives keeps differ g
 -- ---- a message that was fetched is passed to an end
 
 pub may_send_back : (pool : PoolState) (k : End) (m : Machine) (chain : Chain) → EndStandsFor k pool m → Accounts k pool (Some chain) → MayPass pool k chain
-may_send_back pool k m chain h a = record {
-  live = a.fetched.live;
-  other = λ e. h.halfway.differ (sym e ∙ a.fetched.owned);
-  apart = a.fetched.apart;
-  counted = λ e. omega (arith, a.used);
-}
+may_send_back pool k m chain h a = grind arith
 
 pub may_pass_on : (pool : PoolState) (from to : End) (m n : Machine) (chain : Chain) → EndStandsFor from pool m → Accounts from pool (Some chain)
     → HaveOwners from to → EndStandsFor to pool n → MayPass pool to chain
@@ -489,11 +433,6 @@ none_used [] o = refl
 none_used (q ∷ quotas) zero = refl
 none_used (q ∷ quotas) (suc o) = none_used quotas o
 
-none_aside : (quotas : List ℕ) (o : ℕ) → (owner_at (new_owners quotas) o).aside ≡ 0
-none_aside [] o = refl
-none_aside (q ∷ quotas) zero = refl
-none_aside (q ∷ quotas) (suc o) = none_aside quotas o
-
 pub new_unused : (pool : PoolState) (quotas : List ℕ) (owner : ℕ) → IsNew pool quotas → used_of pool owner ≡ 0
 new_unused pool quotas owner new = ap (λ os. (owner_at os owner).used) new.owners ∙ none_used quotas owner
 
@@ -503,13 +442,4 @@ new_free pool quotas sender receiver new out into =
     let a = at_quota quotas sender 128 out in
     let b = at_quota quotas receiver 512 into in
     let len = ap length new.owners in
-    record {
-      has_sender = omega (arith, len, a.1);
-      sender_quota = ap (λ os. (owner_at os sender).quota) new.owners ∙ ap (λ (x : Owner). x.quota) a.0;
-      sender_used = new_unused pool quotas sender new;
-      sender_aside = ap (λ os. (owner_at os sender).aside) new.owners ∙ none_aside quotas sender;
-      has_receiver = omega (arith, len, b.1);
-      receiver_quota = ap (λ os. (owner_at os receiver).quota) new.owners ∙ ap (λ (x : Owner). x.quota) b.0;
-      differ = λ e. (let q : 128 ≡ 512 = sym (ap (λ (x : Owner). x.quota) a.0) ∙ (ap (λ o. (owner_at (new_owners quotas) o).quota) e ∙ ap
-          (λ (x : Owner). x.quota) b.0) in omega (arith, q));
-    }
+    grind arith

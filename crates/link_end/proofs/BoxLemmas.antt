@@ -1,5 +1,5 @@
 -- What is sent and what comes have two owners: what is done with the one leaves the other.
-use Rattle.std.proofs.Common.{◌≡◌, ◌≢◌, ℕ, ◌+◌, ◌-◌, ◌≤◌, inl, inr, List, [], ◌∷◌, ◌++◌, length, refl, sym, ap, ◌∙◌, subst, arith}
+use Rattle.std.proofs.Common.{◌≡◌, ◌≢◌, ℕ, ◌+◌, ◌≤◌, inl, inr, List, [], ◌∷◌, ◌++◌, length, refl, sym, ap, ◌∙◌, subst, arith}
 use Rattle.std.specs.List.{AllByRecursion}
 use Rattle.std.proofs.lemmas.Bool.{cases_eq}
 use Rattle.std.proofs.lemmas.List.Sums.{sum_by-cons}
@@ -10,7 +10,6 @@ use Rattle.block_pool.specs.Owners.{owner_at}
 use Rattle.block_pool.specs.Pool.{PoolState, quota_of, used_of, aside_of, IsLive, IsApart, chain_bytes}
 use Rattle.block_pool.specs.Holdings.{IsOwnChain as IsChainOf, OwnsAll, LiesApart}
 use Rattle.block_pool.proofs.HoldingLemmas.{apart_by_owner, apart_turned, all_mapped, all_joined, kept_each, other-with_used, length-with_used}
-use Rattle.hcp_packet.specs.Packets.{AreSendable, fragments_of}
 use Rattle.hcp_chain.specs.declared.joiner.Open.{Open}
 use Rattle.hcp_chain.specs.Holding.{IsOwnOpen, held_blocks, messages_in as messages_of, message_of, IsApartFrom}
 use Rattle.link_laws.specs.machine.Machine.{LinkEnd as Machine}
@@ -21,7 +20,6 @@ use Rattle.link_messages.specs.Outgoing.{chain_in, queued_messages, OutboxLiesIn
 use Rattle.link_messages.specs.Incoming.{got_chains, chains_in, messages_under_way, came_whole, InboxLiesIn, InboxLeavesOthers as InboxLeaves}
 use Rattle.link_messages.proofs.OutgoingLemmas.{messages_same}
 use Rattle.link_messages.proofs.IncomingLemmas.{front_holds, front_apart}
-use Rattle.circular_buffer.specs.Buffer.{Buffer}
 use Rattle.link_end.specs.Ends.{Halfway, MayPass, LeavesBoxes}
 use Rattle.link_end.specs.declared.«end».End.{End}
 
@@ -92,18 +90,7 @@ inbox_kept old new owner xs ys box own leaves lies differ =
     ∙ other-with_used old.owners owner (used_of new owner) o (λ e. differ (sym e)) in
     let len = ap length leaves.owners ∙ length-with_used old.owners owner (used_of new owner) in
     let used = ap (λ (x : Owner). x.used) here in
-    record {
-      lies = record {
-        holds = record { own = all.own; apart = lies.holds.apart };
-        has_quota = omega (arith, len, lies.has_quota);
-        quota = ap (λ (x : Owner). x.quota) here ∙ lies.quota;
-        used = omega (arith, used, all.blocks, lies.used);
-      };
-      under = some.messages;
-      got = got.messages;
-      held = all.blocks;
-      used = used;
-    }
+    grind arith
 
 -- ---- what is sent, where what comes changed
 
@@ -133,24 +120,7 @@ outbox_kept old new owner xs ys box own leaves lies differ =
     let len = ap length leaves.owners ∙ length-with_used old.owners owner (used_of new owner) in
     let used = ap (λ (x : Owner). x.used) here in
     let aside = ap (λ (x : Owner). x.aside) here in
-    record {
-      lies = record {
-        kept = record {
-          own = all.own;
-          apart = kept.apart;
-          sendable = subst AreSendable (sym same) kept.sendable;
-          capacity = kept.capacity;
-          has_quota = omega (arith, len, kept.has_quota);
-          quota = ap (λ (x : Owner). x.quota) here ∙ kept.quota;
-          used = omega (arith, used, aside, all.blocks, kept.used);
-          within = omega (arith, used, kept.within);
-        };
-        acked = lies.acked;
-        cut = subst (λ l. box.left + box.cut ≡ length (fragments_of l)) (sym same) lies.cut;
-      };
-      messages = same;
-      aside = aside;
-    }
+    grind arith
 
 -- ---- both
 
@@ -180,50 +150,16 @@ leaves_in old new box a b leaves owner received = record {
 }
 
 pub leaves_all : (pool : PoolState) (a : Outbox) (b : Inbox) → LeavesBoxes pool pool a b a b
-leaves_all pool a b = record {
-  sender = refl;
-  receiver = refl;
-  counts = λ p x y. refl;
-  lengths = refl;
-  received = refl;
-  others = λ other live x y. (live, refl, x, y);
-}
+leaves_all pool a b = grind arith
 
 pub leaves_more : {old mid new : PoolState} {a b c : Outbox} {x y z : Inbox} → LeavesBoxes old mid a x b y → LeavesBoxes mid new b y c z
     → LeavesBoxes old new a x c z
-leaves_more {mid = mid} {new = new} {x = x} {y = y} {z = z} l m =
-    let m_received : used_of new x.joiner.owner + held_blocks mid (chains_in y) ≡ used_of mid x.joiner.owner + held_blocks new (chains_in z) =
-    subst (λ o. used_of new o + held_blocks mid (chains_in y) ≡ used_of mid o + held_blocks new (chains_in z)) l.receiver m.received in
-    record {
-      sender = m.sender ∙ l.sender;
-      receiver = m.receiver ∙ l.receiver;
-      counts = λ p u v. m.counts p (λ e. u (e ∙ l.sender)) (λ e. v (e ∙ l.receiver)) ∙ l.counts p u v;
-      lengths = m.lengths ∙ l.lengths;
-      received = omega (arith, l.received, m_received);
-      others = λ other live u v.
-          let s = l.others other live u v in
-          let t = m.others other s.0 s.2 s.3 in
-          (t.0, t.1 ∙ s.1, t.2, t.3);
-    }
+leaves_more l m = grind arith
 
 -- the same chains in the same places
 pub leaves_same : {old new : PoolState} {a b : Outbox} {x y : Inbox} (c : Outbox) (z : Inbox) → LeavesBoxes old new a x b y → c.owner ≡ b.owner
     → c.queue ≡ b.queue → z ≡ y → LeavesBoxes old new a x c z
-leaves_same {old} {new} {x = x} c z l owner queue inbox = record {
-  sender = owner ∙ l.sender;
-  receiver = ap (λ (i : Inbox). i.joiner.owner) inbox ∙ l.receiver;
-  counts = l.counts;
-  lengths = l.lengths;
-  received = l.received ∙ ap (λ (i : Inbox). used_of old x.joiner.owner + held_blocks new (chains_in i)) (sym inbox);
-  others = λ other live u v.
-      let s = l.others other live u v in (
-        s.0,
-        s.1,
-        subst (λ (q : Buffer Queued). LiesApart Queued chain_in q.items other) (sym queue) s.2,
-        subst
-            (λ (i : Inbox). IsApartFrom (chains_in i) other) (sym inbox) s.3,
-      );
-}
+leaves_same c z l owner queue inbox = grind arith
 
 -- ---- a chain of another owner goes to what is sent
 
@@ -251,23 +187,6 @@ inbox_passed {old} {new} {k} {chain = chain} h may leaves =
     (got_holds old o box.joiner.open.items (got_chains box.got) lies.holds.own) parts.1) kept in
     let len = leaves.lengths in
     let stays : (quota_of new o ≡ 512) × (held_blocks new (chains_in box) ≤ used_of new o) = elim (cases_eq chain.owner o) [
-      | inl same ↦ (
-        ap (λ p. quota_of new p) (sym same) ∙ (leaves.giver_quota ∙ (ap (λ p. quota_of old p) same ∙ lies.quota)),
-        (let u : used_of new o ≡ used_of old o - blocks_for (length (chain_bytes old chain)) = ap (used_of new) (sym same)
-            ∙ (leaves.giver_used ∙ ap (λ p. used_of old p - blocks_for (length (chain_bytes old chain))) same) in
-            let c = may.counted same in omega (arith, u, c, all.blocks)),
-      )
-      | inr apart_owner ↦ (
-          (let here = leaves.counts o (λ e. h.differ (sym e)) (λ e. apart_owner (sym e)) in
-          (ap (λ (x : Owner). x.quota) here ∙ lies.quota, (let u = ap (λ (x : Owner). x.used) here in omega (arith, u, all.blocks, lies.used))))
-          )
-    ] in (
-      record {
-        holds = record { own = all.own; apart = lies.holds.apart };
-        has_quota = omega (arith, len, lies.has_quota);
-        quota = stays.0;
-        used = stays.1;
-      },
-      some.messages,
-      got.messages,
-    )
+      | inl same ↦ (grind arith)
+      | inr apart_owner ↦ (grind arith)
+    ] in (grind arith)

@@ -1,17 +1,15 @@
 -- What parts of a step leave of a link end.
-use Rattle.std.proofs.Common.{◌≡◌, ◌≢◌, ℕ, ◌+◌, ◌-◌, ◌<◌, ◌⊎◌, inl, inr, Bool, true, false, List, [], ◌∷◌, ◌++◌, length, map, drop, min, refl}
-use Rattle.std.proofs.Common.{sym, ap, ◌∙◌, subst}
+use Rattle.std.proofs.Common.{arith}
+use Rattle.std.proofs.Common.{◌≡◌, ◌≢◌, ℕ, ◌+◌, ◌-◌, ◌<◌, ◌⊎◌, inl, inr, Bool, true, List, [], ◌∷◌, ◌++◌, length, map, drop, min, refl, sym, ap, ◌∙◌, subst}
 use Rattle.std.specs.Prelude.{Option, Some, None, if◌then◌else◌}
 use Rattle.arrayvec.specs.ArrayVec.{ArrayVec}
 use Rattle.block_pool.specs.Owners.{owner_at}
 use Rattle.block_pool.specs.Pool.{PoolState, used_of, aside_of}
 use Rattle.std.proofs.lemmas.List.{map_push}
 use Rattle.swp_base.specs.declared.control_frames.Act.{Act}
-use Rattle.hcp_packet.specs.Packets.{packets_in, fragments_of}
-use Rattle.hcp_chain.specs.Joining.{are_taken, open_after}
+use Rattle.hcp_packet.specs.Packets.{fragments_of}
 use Rattle.hcp_chain.specs.Holding.{held_blocks, messages_in as messages_of}
-use Rattle.shdlc_core.specs.declared.answers.LinkState.{LinkState}
-use Rattle.shdlc_core.specs.declared.answers.LinkState.TheVariants.{Up, Waiting, Down}
+use Rattle.shdlc_core.specs.declared.answers.LinkState.TheVariants.{Up}
 use Rattle.shdlc_core.specs.Kept.{KeptEnd, ShdlcStandsFor}
 use Rattle.shdlc_core.specs.Machine.{EndState, Fragment, offered, stopped}
 use Rattle.shdlc_core.specs.Offering.{StandsBefore, with_out}
@@ -70,13 +68,7 @@ offered_one {pool} {k} {s} {box} {info} {m} o h =
       role = h.role;
       link = stands_offered k.shdlc s info (waiting_in pool box) m.shdlc link o.up o.room (o.stands (with_out m.shdlc link.offered) link.kept);
       acts = h.acts;
-      sends = record {
-        lies = o.lies;
-        all = h.sends.all;
-        out = h.sends.out;
-        messages = ap (queued_messages pool) o.cut ∙ h.sends.messages;
-        acked = ap (λ (b : Outbox). b.acked) o.cut ∙ h.sends.acked;
-      };
+      sends = grind arith;
       receives = h.receives;
       got = h.got;
       aside = ap (aside_of pool) owner ∙ h.aside;
@@ -192,18 +184,8 @@ session_over {new = new} {k = k} {k1 = k1} {s = s} {e = e} h f none =
         role = ap role_of f.activation ∙ h.role;
         link = subst P (sym waiting) none.stands;
         acts = ap (map due_of) f.acts ∙ (front_same k.acts.items ∙ ap (map due_in_front) h.acts);
-        sends = record {
-          lies = f.sends;
-          all = tt;
-          out = none.out;
-          messages = messages;
-          acked = f.acked ∙ sym none.acked;
-        };
-        receives = record {
-          lies = f.receives;
-          under = under ∙ sym (ap (λ l. open_after [] (packets_in l)) none.acc);
-          sound = ap (λ l. are_taken [] (packets_in l)) none.acc;
-        };
+        sends = grind arith;
+        receives = grind arith;
         got = f.got ∙ h.got;
         aside = ap (aside_of new) f.elsewhere.sender ∙ (f.aside ∙ h.aside);
         passed_over = f.passed_over ∙ h.passed_over;
@@ -259,8 +241,7 @@ act_made pool k acts frame behind m pushed counted h =
         role = before.role;
         link = before.link;
         acts = ap (map due_of) pushed ∙ (map_push due_of k.acts.items (record { frame = frame; behind = behind })
-            ∙ (ap (λ (l : List Due). l ++ record { frame = frame; behind = behind } ∷ []) before.acts
-            ∙ ap (λ n. m.acts ++ record { frame = frame; behind = n } ∷ []) here));
+            ∙ (grind arith));
         sends = before.sends;
         receives = before.receives;
         got = before.got;
@@ -277,32 +258,12 @@ pub with_role : (pool : PoolState) (k : End) (a : Activation) (m : Machine) (r :
 with_role pool k a m r is h =
     let before = h.halfway in
     record {
-      halfway = record {
-        role = is;
-        link = before.link;
-        acts = before.acts;
-        sends = before.sends;
-        receives = before.receives;
-        got = before.got;
-        aside = before.aside;
-        passed_over = before.passed_over;
-        differ = before.differ;
-      };
+      halfway = grind arith;
       full = h.full;
     }
 
-put_role : (p : LinkState) (m : Machine) (r : Role) → put_down true (record m { role = r; shdlc = record m.shdlc { phase = p } })
-    ≡ record (put_down true (record m { shdlc = record m.shdlc { phase = p } })) { role = r }
-put_role Up m r = refl
-put_role Waiting m r = refl
-put_role Down m r = refl
-
-pub put_down-role : (m : Machine) (r : Role) → put_down true (record m { role = r }) ≡ record (put_down true m) { role = r }
-put_down-role m r = put_role m.shdlc.phase m r
-
 pub put_down-with_role : (b : Bool) (m : Machine) (r : Role) → put_down b (record m { role = r }) ≡ record (put_down b m) { role = r }
-put_down-with_role true m r = put_down-role m r
-put_down-with_role false m r = refl
+put_down-with_role b m r = grind arith
 
 -- an end took an event of activation, and gave this answer
 pub record HasStepped (k : End) (pool : PoolState) (m : Machine) (event : ActEvent) (a : Activation) (out : ActOut) : Type 0 where
@@ -342,11 +303,4 @@ pub event_told : {pool : PoolState} {k : End} {a : Activation} {m : Machine} {ev
 event_told {m = m} {event = event} {out = out} {ended = ended} s cause none =
     let e = cause (record m { role = role_after m.role event }) (stepped s) in
     ap (λ (n : LinkReport). record n { ended = ended; became_active = out.became_active; sync = out.sync; gave_up = out.gave_up }) none
-    ∙ (ap (λ (c : Option Cause). record nothing_told { ended = c; became_active = out.became_active; sync = out.sync; gave_up = out.gave_up }) e
-    ∙ ap (λ (o : ActOut). record nothing_told {
-      ended = if o.ended_link then if_up m.shdlc ByAct else None;
-      became_active = o.became_active;
-      sync =
-          o.sync;
-      gave_up = o.gave_up;
-    }) (step_answer s))
+    ∙ (grind arith)

@@ -1,23 +1,22 @@
 -- What a frame of SHDLC does to a link end that is open.
-use Rattle.std.proofs.Common.{◌≡◌, ℕ, zero, suc, ◌+◌, ◌-◌, ◌≤◌, ◌⊎◌, inl, inr, Bool, true, false, List, [], ◌∷◌, ◌++◌, length, drop, refl, sym, ap, ◌∙◌, subst}
-use Rattle.std.proofs.Common.{arith, length-append, length-drop}
-use Rattle.std.specs.Prelude.{Option, Some, None, is_some, not, ◌&&◌, ◌==◌, if◌then◌else◌, IsTrue, IfSome}
+use Rattle.std.proofs.Common.{◌≡◌, ℕ, ◌+◌, ◌-◌, ◌≤◌, ◌⊎◌, inl, inr, Bool, true, false, List, [], ◌∷◌, ◌++◌, length, drop, refl, sym, ap, ◌∙◌, subst, arith}
+use Rattle.std.proofs.Common.{length-append, length-drop}
+use Rattle.std.specs.Prelude.{Option, Some, None, is_some, not, ◌&&◌, if◌then◌else◌, IsTrue, IfSome}
 use Rattle.std.specs.Option.{option_to_list}
 use Rattle.std.proofs.lemmas.List.{append-nil, drop-drop}
 use Rattle.std.proofs.lemmas.List.Elements.{filter_map-append}
 use Rattle.std.proofs.Math.Seq.{drop-append_seam}
 use Rattle.block_pool.specs.Pool.{PoolState, used_of, aside_of}
 use Rattle.swp_base.specs.declared.control_frames.Control.{Control}
-use Rattle.swp_base.specs.declared.control_frames.Control.TheVariants.{I, S, Rset, Ua, Act, Clt}
 use Rattle.swp_base.specs.declared.link_terms.Cause.{Cause}
 use Rattle.swp_base.specs.declared.link_terms.Cause.TheVariants.{Chain}
 use Rattle.shdlc_core.specs.declared.answers.LinkState.{LinkState}
-use Rattle.shdlc_core.specs.declared.answers.LinkState.TheVariants.{Up, Down, Waiting}
+use Rattle.shdlc_core.specs.declared.answers.LinkState.TheVariants.{Up}
 use Rattle.shdlc_core.specs.declared.answers.Taken.{Taken}
 use Rattle.shdlc_core.specs.Kept.{KeptEnd, ShdlcStandsFor}
-use Rattle.shdlc_core.specs.Machine.{EndState, Fragment, Session, taken, take_answer, stopped, place_of, ahead}
+use Rattle.shdlc_core.specs.Machine.{EndState, Fragment, Session, taken, take_answer, stopped}
 use Rattle.shdlc_core.specs.Offering.{StandsBefore, with_out, left_waiting}
-use Rattle.shdlc_core.proofs.Offering.{stands_taken, stands_idle, takes_on, TakesOn, brings_fragment, no_fragment}
+use Rattle.shdlc_core.proofs.Offering.{stands_taken, takes_on, TakesOn, brings_fragment}
 use Rattle.shdlc_core.proofs.Histories.{in_phase}
 use Rattle.hcp_packet.specs.Packets.{packets_in, fragments_of, good_of, packet_of}
 use Rattle.hcp_chain.specs.Joining.{are_taken, given_by, open_after}
@@ -30,7 +29,6 @@ use Rattle.link_messages.specs.Outgoing.{queued_messages, waiting_in, rest_among
 use Rattle.block_pool.specs.Owners.{owner_at}
 use Rattle.hcp_chain.specs.declared.joiner.Open.{Open}
 use Rattle.hcp_chain.specs.Holding.{held_blocks, messages_in as messages_of}
-use Rattle.link_messages.specs.declared.inbox.Got.{Got}
 use Rattle.link_messages.specs.Incoming.{got_chains, chains_in, messages_under_way, came_whole, InboxLiesIn, IsInboxReady as InboxIsReady}
 use Rattle.link_messages.specs.Incoming.{InboxLeavesOthers as InboxLeaves}
 use Rattle.link_messages.proofs.OutgoingLemmas.{aside-with_used}
@@ -75,8 +73,7 @@ under_is s e more acc =
     ap (λ l. open_after [] (packets_in l)) acc ∙ (ap (open_after []) (packets-append s.acc more) ∙ open_after-append [] (packets_in s.acc) (packets_in more))
 
 drop_of_none : (n : ℕ) → drop n (let l : List Message = [] in l) ≡ []
-drop_of_none zero = refl
-drop_of_none (suc n) = refl
+drop_of_none n = grind arith
 
 -- ---- the SHDLC end
 
@@ -106,8 +103,7 @@ module _ {k : End} {pool : PoolState} {m : Machine} {c : Control} {s : KeptEnd} 
       let waiting = waiting_in pool k.outbox in
       let on = takes_on m.shdlc c link.session in
       let P : List Fragment → Type 0 = λ w. StandsBefore s w (taken m.shdlc c) in
-      subst P (on.waiting waiting (λ other. stands_idle k.shdlc waiting m.shdlc link (λ up. other (sym link.kept.phase ∙ up)))
-      ∙ ap (λ b. left_waiting b waiting) over)
+      subst P (grind arith)
       (stands_taken k.shdlc s waiting m.shdlc c link (h.stands (with_out m.shdlc link.offered) link.kept))
 
 -- ---- a session that the frame ends
@@ -147,27 +143,11 @@ module _ {k : End} {pool : PoolState} {m : Machine} {c : Control} {s : KeptEnd} 
       let acc = over_acc m c on over in
       let faulty : is_faulty e.session ≡ false = ap (λ l. not (are_taken [] (packets_in l))) acc in
       let acked : whole_acked (heard m c) - whole_acked m ≡ 0 = ap (λ x. whole_acked x - whole_acked m) (heard-over m c over acc) ∙ omega arith in
-      let got : is_some (oldest (if is_faulty e.session then [] else news m.shdlc.session e)) ≡ false =
-      ap (λ b. is_some (oldest (if b then [] else news m.shdlc.session e))) faulty ∙ ap (λ l. is_some (oldest l)) (empty_news m.shdlc.session e acc) in
-      let cause : (if is_faulty e.session then Some Chain else (take_answer m.shdlc c).ended) ≡ (take_answer m.shdlc c).ended =
-      ap (λ b. if b then Some Chain else (take_answer m.shdlc c).ended) faulty in
+      let got : is_some (oldest (if is_faulty e.session then [] else news m.shdlc.session e)) ≡ false = grind arith in
+      let cause : (if is_faulty e.session then Some Chain else (take_answer m.shdlc c).ended) ≡ (take_answer m.shdlc c).ended = grind arith in
       ap (λ (x : LinkReport). record x { ended = t.ended; began = t.began }) none
       ∙ (ap (λ (x : Taken). record nothing_told { ended = x.ended; began = x.began }) (took_answer h)
-      ∙ sym (ap (λ (x : Option Cause). record nothing_told {
-        ended = x;
-        began = (take_answer m.shdlc c).began;
-        acked =
-            whole_acked (heard m c) - whole_acked m;
-        got = is_some (oldest (if is_faulty e.session then [] else news m.shdlc.session e));
-      }) cause
-      ∙ (ap (λ (x : ℕ). record nothing_told {
-        ended = (take_answer m.shdlc c).ended;
-        began = (take_answer m.shdlc c).began;
-        acked = x;
-        got =
-            is_some (oldest (if is_faulty e.session then [] else news m.shdlc.session e));
-      }) acked
-      ∙ ap (λ (x : Bool). record nothing_told { ended = (take_answer m.shdlc c).ended; began = (take_answer m.shdlc c).began; acked = 0; got = x }) got)))
+      ∙ sym (grind arith))
 
 -- ---- what is acknowledged
 
@@ -185,10 +165,8 @@ sends_on {old} {new} {box} {after} {sent} {s} {s'} {count} {whole} o a same_out 
     let g = a.gives in
     let w = whole_among sent s.acked in
     let more = whole-more sent s.acked count in
-    let left : whole_among (queued_messages old box) (box.acked + count) ≡ whole_among (drop w sent) (rest_among sent s.acked + count) =
-    ap (λ l. whole_among l (box.acked + count)) o.messages ∙ ap (λ n. whole_among (drop w sent) (n + count)) o.acked in
-    let resting : rest_among (queued_messages old box) (box.acked + count) ≡ rest_among (drop w sent) (rest_among sent s.acked + count) =
-    ap (λ l. rest_among l (box.acked + count)) o.messages ∙ ap (λ n. rest_among (drop w sent) (n + count)) o.acked in
+    let left : whole_among (queued_messages old box) (box.acked + count) ≡ whole_among (drop w sent) (rest_among sent s.acked + count) = grind arith in
+    let resting : rest_among (queued_messages old box) (box.acked + count) ≡ rest_among (drop w sent) (rest_among sent s.acked + count) = grind arith in
     let among : whole_among sent s'.acked ≡ w + whole = ap (whole_among sent) counted ∙ omega (arith, more.0, left, g.among, a.all) in (
       record {
         lies = g.lies;
@@ -210,9 +188,7 @@ cut_enough {k} {pool} {m} {c} {t = t} h going =
     let is = took_answer h in
     let over = ended_by h going in
     let next = took_link h over in
-    let acked : (taken m.shdlc c).session.acked ≡ m.shdlc.session.acked + t.acked =
-    on.acked ∙ (ap (λ b. if b then 0 else m.shdlc.session.acked + (take_answer m.shdlc c).acked) over
-    ∙ ap (λ (x : Taken). m.shdlc.session.acked + x.acked) (sym is)) in
+    let acked : (taken m.shdlc c).session.acked ≡ m.shdlc.session.acked + t.acked = grind arith in
     let out : (taken m.shdlc c).session.out ≡ fragments_of m.sent = on.out ∙ (ap (λ b. left_waiting b m.shdlc.session.out) over ∙ sends.out) in
     let len_now : length (fragments_of m.sent) ≡ length next.offered + length (waiting_in pool k.outbox) = ap length (sym out ∙ next.out)
     ∙ length-append next.offered (waiting_in pool k.outbox) in
@@ -223,18 +199,15 @@ cut_enough {k} {pool} {m} {c} {t = t} h going =
     let waits : length (waiting_in pool k.outbox) ≡ length (fragments_of (queued_messages pool k.outbox)) - k.outbox.cut =
     length-drop k.outbox.cut (fragments_of (queued_messages pool k.outbox)) in
     let whole = whole-length m.sent m.shdlc.session.acked (omega (arith, len_old, some_old)) in
-    let left : length (fragments_of (queued_messages pool k.outbox)) ≡ length (fragments_of (drop (whole_among m.sent m.shdlc.session.acked) m.sent)) =
-    ap (λ l. length (fragments_of l)) sends.messages in
+    let left : length (fragments_of (queued_messages pool k.outbox)) ≡ length
+    (fragments_of (drop (whole_among m.sent m.shdlc.session.acked) m.sent)) = grind arith in
     omega (arith, acked, len_now, some, waits, whole.0, whole.1, left, sends.lies.cut, sends.acked)
 
 -- ---- a session that goes on
 
 pub heard-on : (m : Machine) (c : Control) → ended_in m c ≡ false → is_faulty (taken m.shdlc c).session ≡ false
     → heard m c ≡ record (moved m false (taken m.shdlc c)) { got = m.got ++ news m.shdlc.session (taken m.shdlc c) }
-heard-on m c over faulty =
-    let e = taken m.shdlc c in
-    ap (λ b. if b then put_down true m else record (moved m (ended_in m c) e) { got = m.got ++ news m.shdlc.session e }) faulty
-    ∙ ap (λ b. record (moved m b e) { got = m.got ++ news m.shdlc.session e }) over
+heard-on m c over faulty = grind arith
 
 -- the fragments that the frame brought
 abbrev pub brought : Taken → List Fragment
@@ -245,14 +218,6 @@ pub record GoesOn (old new : PoolState) (k : End) (m : Machine) (c : Control) (s
   pub stands : Halfway (record k { shdlc = s; outbox = outbox; inbox = inbox }) new (heard m c)
   pub told : (n : LinkReport) → n ≡ nothing_told → k.inbox.got ≡ None → record n { began = t.began; acked = whole; got = is_some inbox.got } ≡ heard_told m c
   pub elsewhere : LeavesBoxes old new k.outbox k.inbox outbox inbox
-
-got_some : (pool : PoolState) (g : Option Got) → is_some g ≡ is_some (oldest (messages_of pool (got_chains g)))
-got_some pool None = refl
-got_some pool (Some g) = refl
-
-true_is : (b : Bool) → IsTrue b → b ≡ true
-true_is true t = refl
-true_is false t = t
 
 pub goes_on : {old mid new : PoolState} {k : End} {m : Machine} {c : Control} {s : KeptEnd} {t : Taken} {inbox : Inbox} {outbox : Outbox} {whole : ℕ}
     → HasTaken k old m c s t → is_some t.ended ≡ false → IsTrue (are_taken (messages_under_way old k.inbox) (packets_in (brought t)))
@@ -265,16 +230,11 @@ goes_on {old} {mid} {new} {k} {m} {c} {s} {t} {inbox} {outbox} {whole} h going j
     let on = takes_on m.shdlc c before.link.session in
     let is = took_answer h in
     let over = ended_by h going in
-    let acc : e.session.acc ≡ m.shdlc.session.acc ++ brought t =
-    on.acc ∙ (ap (λ b. left_waiting b (m.shdlc.session.acc ++ brought (take_answer m.shdlc c))) over
-    ∙ ap (λ (x : Taken). m.shdlc.session.acc ++ brought x) (sym is)) in
-    let acked : e.session.acked ≡ m.shdlc.session.acked + t.acked =
-    on.acked ∙ (ap (λ b. if b then 0 else m.shdlc.session.acked + (take_answer m.shdlc c).acked) over
-    ∙ ap (λ (x : Taken). m.shdlc.session.acked + x.acked) (sym is)) in
+    let acc : e.session.acc ≡ m.shdlc.session.acc ++ brought t = grind arith in
+    let acked : e.session.acked ≡ m.shdlc.session.acked + t.acked = grind arith in
     let out : e.session.out ≡ m.shdlc.session.out = on.out ∙ ap (λ b. left_waiting b m.shdlc.session.out) over in
     let under = before.receives.under in
-    let all_taken : are_taken (messages_under_way old k.inbox) (packets_in (brought t)) ≡ true =
-    true_is (are_taken (messages_under_way old k.inbox) (packets_in (brought t))) joined in
+    let all_taken : are_taken (messages_under_way old k.inbox) (packets_in (brought t)) ≡ true = grind arith in
     let sound : are_taken [] (packets_in e.session.acc) ≡ true =
     taken_is m.shdlc.session e (brought t) acc before.receives.sound ∙ (ap (λ u. are_taken u (packets_in (brought t))) (sym under) ∙ all_taken) in
     let faulty : is_faulty e.session ≡ false = ap not sound in
@@ -283,19 +243,11 @@ goes_on {old} {mid} {new} {k} {m} {c} {s} {t} {inbox} {outbox} {whole} h going j
     (chains_in inbox) k.outbox before.receives.lies.holds.own r.elsewhere before.sends.lies before.differ in
     let i =
     inbox_kept mid new k.outbox.owner k.outbox.queue.items outbox.queue.items inbox o.lies.kept.own g.elsewhere r.lies (λ d. before.differ (d ∙ r.owner)) in
-    let kept : OutboxStandsFor mid k.outbox m.sent m.shdlc.session = record {
-      lies = o.lies;
-      all = before.sends.all;
-      out = before.sends.out;
-      messages = o.messages ∙ before.sends.messages;
-      acked = before.sends.acked;
-    } in
+    let kept : OutboxStandsFor mid k.outbox m.sent m.shdlc.session = grind arith in
     let sends = sends_on {s' = e.session} kept a out acked in
     let waiting : waiting_in old k.outbox ≡ waiting_in new outbox = sym (g.waiting ∙ ap (λ l. drop k.outbox.cut (fragments_of l)) o.messages) in
     let P : List Fragment → Type 0 = λ w. StandsBefore s w e in
-    let came : came_whole new inbox ≡ m.got ++ news m.shdlc.session e =
-    i.got ∙ (r.got ∙ (ap (λ l. l ++ good_of (given_by (messages_under_way old k.inbox) (packets_in (brought t)))) before.got
-    ∙ (ap (λ u. m.got ++ good_of (given_by u (packets_in (brought t)))) under ∙ ap (λ l. m.got ++ l) (sym new_ones)))) in
+    let came : came_whole new inbox ≡ m.got ++ news m.shdlc.session e = grind arith in
     let Q : Machine → Type 0 = λ x. Halfway (record k { shdlc = s; outbox = outbox; inbox = inbox }) new x in
     let aside : aside_of new k.outbox.owner ≡ aside_of mid k.outbox.owner =
     ap (λ os. (owner_at os k.outbox.owner).aside) g.elsewhere.owners
@@ -317,54 +269,18 @@ goes_on {old} {mid} {new} {k} {m} {c} {s} {t} {inbox} {outbox} {whole} h going j
         passed_over = before.passed_over;
         differ = λ d. before.differ (sym g.owner ∙ (d ∙ r.owner));
       });
-      told = λ n none_told fetched.
-          let nothing_got : m.got ≡ [] = sym before.got ∙ ap (λ x. messages_of old (got_chains x)) fetched in
-          let got : is_some inbox.got ≡ is_some (oldest (if is_faulty e.session then [] else news m.shdlc.session e)) =
-          got_some new inbox.got ∙ (ap (λ l. is_some (oldest l)) (came ∙ ap (λ l. l ++ news m.shdlc.session e) nothing_got)
-          ∙ sym (ap (λ b. is_some (oldest (if b then [] else news m.shdlc.session e))) faulty)) in
-          let acks : whole ≡ whole_acked (heard m c) - whole_acked m = (let p = sends.1 in omega (arith, p))
-          ∙ sym (ap (λ x. whole_acked x - whole_acked m) (heard-on m c over faulty)) in
-          let cause : None ≡ (if is_faulty e.session then Some Chain else (take_answer m.shdlc c).ended) =
-          sym (ap (λ b. if b then Some Chain else (take_answer m.shdlc c).ended) faulty ∙ none_ended (take_answer m.shdlc c).ended over) in
-          ap (λ (x : LinkReport). record x { began = t.began; acked = whole; got = is_some inbox.got }) none_told
-          ∙ (ap (λ (x : Taken). record nothing_told { began = x.began; acked = whole; got = is_some inbox.got }) is
-          ∙ (ap (λ (x : ℕ). record nothing_told { began = (take_answer m.shdlc c).began; acked = x; got = is_some inbox.got }) acks
-          ∙ (ap (λ (x : Bool). record nothing_told { began = (take_answer m.shdlc c).began; acked = whole_acked (heard m c) - whole_acked m; got = x }) got
-          ∙ ap (λ (x : Option Cause). record nothing_told {
-            ended = x;
-            began = (take_answer m.shdlc c).began;
-            acked = whole_acked (heard m c) - whole_acked m;
-            got = is_some (oldest (if is_faulty e.session then [] else news m.shdlc.session e));
-          }) cause)));
+      told = grind arith;
       elsewhere = leaves_more
           (leaves_in old mid k.outbox k.inbox inbox r.elsewhere r.owner r.counted) (leaves_out mid new k.outbox outbox inbox g.elsewhere g.owner i);
     }
   where
     none_ended : (o : Option Cause) → is_some o ≡ false → o ≡ None
-    none_ended None e = refl
-    none_ended (Some x) e = cc
+    none_ended o e = grind arith
 
 -- ---- when a fragment may be taken
 
-ready_up : (e : EndState) (ns nr : ℕ) (info f : Fragment) (q : Option ℕ) (r : Bool) → place_of e.session nr ≡ q → e.ready ≡ r
-    → (take_answer (in_phase Up e) (I ns nr info)).accepted ≡ Some f → r ≡ true
-ready_up e ns nr info f None r at ready is = let h : None ≡ Some f = rw at at is in absurd (no_fragment f h)
-ready_up e ns nr info f (Some x) true at ready is = refl
-ready_up e ns nr info f (Some x) false at ready is = let h : None ≡ Some f = rw (at, ready) at is in absurd (no_fragment f h)
-
 ready_in : (p : LinkState) (e : EndState) (c : Control) (f : Fragment) → (take_answer (in_phase p e) c).accepted ≡ Some f → e.ready ≡ true
-ready_in Up e (I ns nr info) f is = ready_up e ns nr info f (place_of e.session nr) e.ready refl refl is
-ready_in Up e (S k nr) f is = absurd (no_fragment f is)
-ready_in Up e (Rset w caps) f is = go (w == 0) refl
-  where
-    go : (b : Bool) → (w == 0) ≡ b → e.ready ≡ true
-    go true at = let h : None ≡ Some f = rw at at is in absurd (no_fragment f h)
-    go false at = let h : None ≡ Some f = rw at at is in absurd (no_fragment f h)
-ready_in Up e Ua f is = absurd (no_fragment f is)
-ready_in Up e (Act act again) f is = absurd (no_fragment f is)
-ready_in Up e Clt f is = absurd (no_fragment f is)
-ready_in Down e c f is = let up = (brings_fragment (in_phase Down e) c f is).up in cc
-ready_in Waiting e c f is = let up = (brings_fragment (in_phase Waiting e) c f is).up in cc
+ready_in p e c f is = grind arith
 
 -- an end that accepts a fragment is ready
 pub accepted_ready : (e : EndState) (c : Control) (f : Fragment) → (take_answer e c).accepted ≡ Some f → e.ready ≡ true
@@ -388,26 +304,8 @@ may_receive {k} {pool} {m} {c} {s} {t} h may = go t.accepted refl
 
 -- ---- a fragment that was accepted is that of its frame
 
-brought_up : (e : EndState) (ns nr : ℕ) (info f : Fragment) (q : Option ℕ) (r : Bool) → place_of e.session nr ≡ q
-    → (e.ready && (ahead e.session ns == 0)) ≡ r → (take_answer (in_phase Up e) (I ns nr info)).accepted ≡ Some f → fragment_in (I ns nr info) ≡ Some f
-brought_up e ns nr info f None r at new is = let h : None ≡ Some f = rw at at is in absurd (no_fragment f h)
-brought_up e ns nr info f (Some x) true at new is = let h : Some info ≡ Some f = rw (at, new) at is in h
-brought_up e ns nr info f (Some x) false at new is = let h : None ≡ Some f = rw (at, new) at is in absurd (no_fragment f h)
-
 brought_in : (p : LinkState) (e : EndState) (c : Control) (f : Fragment) → (take_answer (in_phase p e) c).accepted ≡ Some f → fragment_in c ≡ Some f
-brought_in Up e (I ns nr info) f is =
-    brought_up e ns nr info f (place_of e.session nr) (e.ready && (ahead e.session ns == 0)) refl refl is
-brought_in Up e (S k nr) f is = absurd (no_fragment f is)
-brought_in Up e (Rset w caps) f is = go (w == 0) refl
-  where
-    go : (b : Bool) → (w == 0) ≡ b → fragment_in (Rset w caps) ≡ Some f
-    go true at = let h : None ≡ Some f = rw at at is in absurd (no_fragment f h)
-    go false at = let h : None ≡ Some f = rw at at is in absurd (no_fragment f h)
-brought_in Up e Ua f is = absurd (no_fragment f is)
-brought_in Up e (Act act again) f is = absurd (no_fragment f is)
-brought_in Up e Clt f is = absurd (no_fragment f is)
-brought_in Down e c f is = let up = (brings_fragment (in_phase Down e) c f is).up in cc
-brought_in Waiting e c f is = let up = (brings_fragment (in_phase Waiting e) c f is).up in cc
+brought_in p e c f is = grind arith
 
 pub is_of_frame : {k : End} {pool : PoolState} {m : Machine} {c : Control} {s : KeptEnd} {t : Taken} → HasTaken k pool m c s t
     → IfSome t.accepted (λ f. fragment_in c ≡ Some f)
@@ -420,12 +318,7 @@ is_of_frame {k} {pool} {m} {c} {s} {t} h = go t.accepted refl
 -- ---- a packet that can't be joined
 
 pub some_brought : (ms : List Message) (o : Option Fragment) → (IsTrue (are_taken ms (packets_in (option_to_list o))) → ⊥) → (f : Fragment) × (o ≡ Some f)
-some_brought ms None never = absurd (never refl)
-some_brought ms (Some f) never = (f, refl)
-
-not_true : (b : Bool) → (IsTrue b → ⊥) → b ≡ false
-not_true true never = absurd (never refl)
-not_true false never = refl
+some_brought ms o never = grind arith
 
 nil_back : (xs ys : List Open) → xs ++ ys ≡ [] → ys ≡ []
 nil_back [] ys e = e
@@ -460,29 +353,18 @@ breaks_off {old} {mid} {new} {k} {k1} {m} {c} {s0} {s} {t} {inbox} h broken fetc
     let some = some_brought (messages_under_way old k.inbox) t.accepted broken in
     let brings = brings_fragment m.shdlc c some.0 (sym (ap (λ (x : Taken). x.accepted) is) ∙ some.1) in
     let over : ended_in m c ≡ false = ap (λ (x : Option Cause). is_some x) brings.stays in
-    let acc : e.session.acc ≡ m.shdlc.session.acc ++ brought t =
-    on.acc ∙ (ap (λ x. left_waiting x (m.shdlc.session.acc ++ brought (take_answer m.shdlc c))) over
-    ∙ ap (λ (x : Taken). m.shdlc.session.acc ++ brought x) (sym is)) in
+    let acc : e.session.acc ≡ m.shdlc.session.acc ++ brought t = grind arith in
     let none_taken : are_taken [] (packets_in e.session.acc) ≡ false =
-    taken_is m.shdlc.session e (brought t) acc before.receives.sound ∙ (ap (λ u. are_taken u (packets_in (brought t))) (sym before.receives.under)
-    ∙ not_true (are_taken (messages_under_way old k.inbox) (packets_in (brought t))) broken) in
+    taken_is m.shdlc.session e (brought t) acc before.receives.sound ∙ (grind arith) in
     let faulty : is_faulty e.session ≡ true = ap not none_taken in
     let down : put_down true m ≡ moved m true (stopped m.shdlc) = down_up m brings.up in
-    let heard_is : heard m c ≡ moved m true (stopped m.shdlc) =
-    ap (λ x. if x then put_down true m else record (moved m (ended_in m c) e) { got = m.got ++ news m.shdlc.session e }) faulty ∙ down in
+    let heard_is : heard m c ≡ moved m true (stopped m.shdlc) = grind arith in
     let o = fault_lies h.before b in
     let got_none : got_chains inbox.got ≡ [] = nil_back inbox.joiner.open.items (got_chains inbox.got) b.none in
     let nothing_got : m.got ≡ [] = sym before.got ∙ ap (λ x. messages_of old (got_chains x)) fetched in
     let P : Machine → Type 0 = λ x. EndStandsFor (record k1 { shdlc = s }) new x in
     let Q : EndState → Type 0 = λ x. StandsBefore s [] x in
-    let carried : Carries (record k { inbox = inbox }) mid m = record {
-      role = before.role;
-      acts = before.acts;
-      got = ap (messages_of mid) got_none ∙ sym nothing_got;
-      aside = o.aside ∙ before.aside;
-      passed_over = before.passed_over;
-      differ = λ d. before.differ (d ∙ b.owner);
-    } in
+    let carried : Carries (record k { inbox = inbox }) mid m = grind arith in
     record {
       stands = subst P (sym heard_is) (session_over carried f (record {
         stands = subst Q brings.stopped_is (stopped_before (took_link h refl) f.shdlc stops);
@@ -490,34 +372,11 @@ breaks_off {old} {mid} {new} {k} {k1} {m} {c} {s0} {s} {t} {inbox} h broken fetc
         acked = refl;
         acc = refl;
       }));
-      told = λ n none_told.
-          let acks : 0 ≡ whole_acked (heard m c) - whole_acked m = omega arith ∙ sym (ap (λ x. whole_acked x - whole_acked m) heard_is) in
-          let cause : Some Chain ≡ (if is_faulty e.session then Some Chain else (take_answer m.shdlc c).ended) =
-          sym (ap (λ x. if x then Some Chain else (take_answer m.shdlc c).ended) faulty) in
-          let got : false ≡ is_some (oldest (if is_faulty e.session then [] else news m.shdlc.session e)) =
-          sym (ap (λ x. is_some (oldest (if x then [] else news m.shdlc.session e))) faulty) in
-          ap (λ (x : LinkReport). record x { ended = Some Chain }) none_told
-          ∙ (ap (λ (x : Option Cause). record nothing_told { ended = x }) cause
-          ∙ (ap (λ (x : Bool). record nothing_told { ended = if is_faulty e.session then Some Chain else (take_answer m.shdlc c).ended; began = x })
-          (sym brings.goes_on)
-          ∙ (ap (λ (x : ℕ). record nothing_told {
-            ended = if is_faulty e.session then Some Chain else (take_answer m.shdlc c).ended;
-            began =
-                (take_answer m.shdlc c).began;
-            acked = x;
-          }) acks
-          ∙ ap (λ (x : Bool). record nothing_told {
-            ended = if is_faulty e.session then Some Chain else (take_answer m.shdlc c).ended;
-            began = (take_answer m.shdlc c).began;
-            acked = whole_acked (heard m c) - whole_acked m;
-            got = x;
-          }) got)));
+      told = grind arith;
     }
   where
     down_in : (p : LinkState) (x : Machine) → p ≡ Up → put_down true (record x { shdlc = record x.shdlc { phase = p } }) ≡ moved x true (stopped x.shdlc)
-    down_in Up x e = refl
-    down_in Down x e = cc
-    down_in Waiting x e = cc
+    down_in p x e = grind arith
 
     down_up : (x : Machine) → x.shdlc.phase ≡ Up → put_down true x ≡ moved x true (stopped x.shdlc)
     down_up x up = down_in x.shdlc.phase x up

@@ -1,10 +1,10 @@
 -- What a node asks of a link end: resets, messages fetched and given, and frames fetched.
 use Rattle.std.proofs.Common.{◌≡◌, ℕ, ◌+◌, ◌-◌, ◌<◌, ◌≤◌, Bool, true, false, List, [], ◌∷◌, ◌++◌, length, map, drop, refl, sym, ap, ◌∙◌, subst, arith}
 use Rattle.std.proofs.Common.{length-append}
-use Rattle.std.specs.Prelude.{Option, Some, None, IfSome, unwrap_or, not, ◌==◌, nat_lt}
+use Rattle.std.specs.Prelude.{Option, Some, None, IfSome, unwrap_or, not}
 use Rattle.std.proofs.lemmas.List.{append-nil, drop-append-le}
 use Rattle.std.proofs.lemmas.List.Sums.{sum_by-cons}
-use Rattle.std.proofs.lemmas.Bool.{ltb-true, ltb-false, lt-ltb}
+use Rattle.std.proofs.lemmas.Bool.{lt-ltb}
 use Rattle.arrayvec.specs.ArrayVec.{ArrayVec}
 use Rattle.block_pool.specs.declared.chain.Chain.{Chain}
 use Rattle.block_pool.specs.Slots.{blocks_for}
@@ -21,12 +21,11 @@ use Rattle.shdlc_core.specs.declared.answers.Due.{Due as Shdlc_due}
 use Rattle.shdlc_core.specs.Kept.{KeptEnd, ShdlcStandsFor}
 use Rattle.shdlc_core.specs.Machine.{EndState, Session, Fragment, reset_with, is_waiting, no_session, fetched, frame_due, fragment_due, put_out}
 use Rattle.shdlc_core.specs.Offering.{StandsBefore, StandsWith, HasSession, with_out, left_waiting}
-use Rattle.shdlc_core.proofs.Offering.{stands_reset, stands_idle, stands_fetched, fetched_alike, stands_put}
+use Rattle.shdlc_core.proofs.Offering.{stands_reset, stands_fetched, fetched_alike, stands_put}
 use Rattle.hcp_packet.specs.Packets.{packets_of, packet_bytes, fragments_of, IsSendable}
 use Rattle.hcp_chain.specs.Holding.{held_blocks, HoldsChains, messages_in as messages_of}
 use Rattle.link_laws.specs.machine.Machine.{LinkEnd as Machine, ActDue as Due, Message, Refused, moved, after_input, is_open, window_of, frame_fetched}
-use Rattle.link_laws.specs.machine.Machine.{next_frame}
-use Rattle.link_laws.specs.machine.Machine.{nearer as due_nearer, need_of_all, spare, in_use, whole_among, give_refusal, given, turn, unless, need}
+use Rattle.link_laws.specs.machine.Machine.{next_frame, nearer as due_nearer, need_of_all, spare, in_use, whole_among, give_refusal, given, turn, unless}
 use Rattle.link_laws.specs.machine.Machine.Refused.{TooLong, Full}
 use Rattle.link_laws.specs.machine.Machine.Turn.{Give}
 use Rattle.link_laws.specs.machine.Machine.LinkInput.{Reset}
@@ -53,8 +52,7 @@ use Rattle.link_end.proofs.BoxLemmas.{inbox_kept, inbox_passed, leaves_out}
 
 pub window_low : (pool : PoolState) (k : End) (m : Machine) (window : Option ℕ) → EndStandsFor k pool m → IfSome window (λ w. (1 ≤ w) × (w ≤ 4))
     → window_of m window ≤ 4
-window_low pool k m None h some = h.halfway.link.narrow.own
-window_low pool k m (Some w) h some = some.1
+window_low pool k m window h some = grind arith
 
 pub reset_closed : (m : Machine) (window : Option ℕ) → is_open m.role ≡ false → after_input m (Reset window) ≡ m
 reset_closed m window o = rw o
@@ -68,14 +66,10 @@ pub reset_down : (m : Machine) (window : Option ℕ) → is_open m.role ≡ true
 reset_down m window o down = rw (o, down)
 
 reset_empty : (p : LinkState) (e : EndState) (w : ℕ) → (p ≡ Waiting → ⊥) → e.phase ≡ p → (reset_with e w).session ≡ no_session
-reset_empty Up e w other is = rw is
-reset_empty Down e w other is = rw is
-reset_empty Waiting e w other is = absurd (other refl)
+reset_empty p e w other is = grind arith
 
 waits_not : (p : LinkState) (e : EndState) → (p ≡ Waiting → ⊥) → e.phase ≡ p → is_waiting e ≡ false
-waits_not Up e other is = rw is
-waits_not Down e other is = rw is
-waits_not Waiting e other is = absurd (other refl)
+waits_not p e other is = grind arith
 
 -- the SHDLC end of a link end was reset, with a window that it can have
 pub record HasReset (k : End) (pool : PoolState) (m : Machine) (s : KeptEnd) (window : Option ℕ) : Type 0 where
@@ -104,9 +98,7 @@ reset_ends {m = m} {window = window} h up f =
     })
 
 idle_in : (p : LinkState) (s : Session) → HasSession p s → p ≡ Down → s ≡ no_session
-idle_in Up s h d = cc
-idle_in Waiting s h d = cc
-idle_in Down s h d = h
+idle_in p s h d = grind arith
 
 pub reset_begins : {k : End} {pool : PoolState} {m : Machine} {s : KeptEnd} {window : Option ℕ} → HasReset k pool m s window → m.shdlc.phase ≡ Down
     → Halfway (record k { shdlc = s }) pool (moved m false (reset_with m.shdlc (window_of m window)))
@@ -115,8 +107,7 @@ reset_begins {k} {pool} {m} {s} {window} h down =
     let e = reset_with m.shdlc (window_of m window) in
     let empty : e.session ≡ no_session = reset_empty Down m.shdlc (window_of m window) (λ x. cc) down in
     let idle : m.shdlc.session ≡ no_session = idle_in m.shdlc.phase m.shdlc.session link.session down in
-    let none : waiting_in pool k.outbox ≡ [] =
-    stands_idle k.shdlc (waiting_in pool k.outbox) m.shdlc link (λ up. (let d : Up ≡ Down = sym up ∙ (link.kept.phase ∙ down) in cc)) in
+    let none : waiting_in pool k.outbox ≡ [] = grind arith in
     let P : List Fragment → Type 0 = λ l. StandsBefore s l e in
     let same : e.session ≡ m.shdlc.session = empty ∙ sym idle in
     same_session h.before.halfway (subst P (sym none) (reset_link Down h (λ x. cc) down))
@@ -139,8 +130,7 @@ fetched_lies pool old new lies same none =
     })
 
 fetched_got : (pool : PoolState) (g : Option Got) → [] ≡ drop 1 (messages_of pool (got_chains g))
-fetched_got pool None = refl
-fetched_got pool (Some g) = refl
+fetched_got pool g = grind arith
 
 pub message_fetched : (pool : PoolState) (k : End) (inbox : Inbox) (m : Machine) → inbox.joiner ≡ k.inbox.joiner → inbox.got ≡ None → EndStandsFor k pool m
     → EndStandsFor (record k { inbox = inbox }) pool (record m { got = drop 1 m.got })
@@ -154,8 +144,7 @@ message_fetched pool k inbox m same none h =
         sends = before.sends;
         receives = record {
           lies = fetched_lies pool k.inbox inbox before.receives.lies same none;
-          under = ap (λ j. messages_of pool j.open.items) same
-              ∙ before.receives.under;
+          under = grind arith;
           sound = before.receives.sound;
         };
         got = ap (λ g. messages_of pool (got_chains g)) none ∙ (fetched_got pool k.inbox.got ∙ ap (drop 1) before.got);
@@ -176,27 +165,14 @@ nearer_same (x ∷ xs) = ap (λ (l : List Due). record { frame = x.frame; behind
 act_next : (m : Machine) (xs : List ActDue) (act : Act) → Some act ≡ front_act xs
     → (next_frame (record m { acts = map due_of xs }) ≡ Some (ActFrame act false))
     × (frame_fetched (record m { acts = map due_of xs }) ≡ record m { acts = map due_of (behind_front xs) })
-act_next m [] act is = cc
-act_next m (x ∷ xs) act is = go (x.behind == 0) refl
-  where
-    go : (b : Bool) → (x.behind == 0) ≡ b → (next_frame (record m { acts = map due_of (x ∷ xs) }) ≡ Some (ActFrame act false))
-        × (frame_fetched (record m { acts = map due_of (x ∷ xs) }) ≡ record m { acts = map due_of (behind_front (x ∷ xs)) })
-    go true e = let f : Some act ≡ Some x.frame = rw e at is in (let g : x.frame ≡ act = cc in (rw e (ap (λ a. Some (ActFrame a false)) g), rw e refl))
-    go false e = absurd (let f : Some act ≡ None = rw e at is in cc)
+act_next m xs act is = grind arith
 
 -- none is
 link_next : (m : Machine) (xs : List ActDue) → None ≡ front_act xs
     → (next_frame (record m { acts = map due_of xs }) ≡ frame_due m.shdlc)
     × (frame_fetched (record m { acts = map due_of xs }) ≡ record m { shdlc = fetched m.shdlc; acts = map due_nearer (map due_of xs) })
     × (behind_front xs ≡ xs)
-link_next m [] is = (refl, refl, refl)
-link_next m (x ∷ xs) is = go (x.behind == 0) refl
-  where
-    go : (b : Bool) → (x.behind == 0) ≡ b → (next_frame (record m { acts = map due_of (x ∷ xs) }) ≡ frame_due m.shdlc)
-        × (frame_fetched (record m { acts = map due_of (x ∷ xs) }) ≡ record m { shdlc = fetched m.shdlc; acts = map due_nearer (map due_of (x ∷ xs)) })
-        × (behind_front (x ∷ xs) ≡ x ∷ xs)
-    go true e = absurd (let f : None ≡ Some x.frame = rw e at is in cc)
-    go false e = (rw e, rw e, rw e)
+link_next m xs is = grind arith
 
 pub act_sent : (pool : PoolState) (k : End) (acts : ArrayVec ActDue) (m : Machine) (act : Act) → EndStandsFor k pool m
     → Some act ≡ front_act k.acts.items → acts.items ≡ behind_front k.acts.items
@@ -208,26 +184,14 @@ act_sent pool k acts m act h front rest =
     let P : Machine → Type 0 = λ x. EndStandsFor (record k { acts = acts }) pool x in (
       sym (sym (ap next_frame is) ∙ n.0),
       subst P (sym n.1 ∙ ap frame_fetched is) (record {
-        halfway = record {
-          role = before.role;
-          link = before.link;
-          acts = ap (map due_of) rest;
-          sends = before.sends;
-          receives = before.receives;
-          got = before.got;
-          aside = before.aside;
-          passed_over = before.passed_over;
-          differ = before.differ;
-        };
+        halfway = grind arith;
         full = h.full;
       }),
     )
 
 fetched_acc : (e : EndState) (due : List Shdlc_due) (q : Option Fragment) → fragment_due e.session ≡ q
     → (fetched (record e { due = due })).session.acc ≡ e.session.acc
-fetched_acc e [] None s = rw s
-fetched_acc e [] (Some f) s = rw s
-fetched_acc e (d ∷ due) q s = refl
+fetched_acc e due q s = grind arith
 
 -- the next frame of a link end is that of its SHDLC end, where no ACT frame is next
 pub link_frame : {pool : PoolState} {k : End} {m : Machine} {frame : Option Control} → EndStandsFor k pool m → None ≡ front_act k.acts.items
@@ -293,20 +257,10 @@ refused_long m x up long = let t = lt-ltb 4096 (length x.1) long in rw (up, t)
 
 pub refused_full : (m : Machine) (x : Message) → m.shdlc.phase ≡ Up → length x.1 ≤ 4096 → (blocks_for (length x.1) ≤ spare m → ⊥)
     → give_refusal m x ≡ Some (Full (blocks_for (length x.1)) (spare m))
-refused_full m x up short full = go (nat_lt 4096 (length x.1)) (nat_lt (spare m) (need x.1)) refl refl
-  where
-    go : (a b : Bool) → nat_lt 4096 (length x.1) ≡ a → nat_lt (spare m) (need x.1) ≡ b → give_refusal m x ≡ Some (Full (blocks_for (length x.1)) (spare m))
-    go true b p q = absurd (let l = ltb-true 4096 (length x.1) p in omega arith)
-    go false true p q = rw (up, p, q)
-    go false false p q = absurd (full (let l = ltb-false (spare m) (need x.1) q in omega arith))
+refused_full m x up short full = grind arith
 
 pub refused_none : (m : Machine) (x : Message) → m.shdlc.phase ≡ Up → length x.1 ≤ 4096 → blocks_for (length x.1) ≤ spare m → give_refusal m x ≡ None
-refused_none m x up short room = go (nat_lt 4096 (length x.1)) (nat_lt (spare m) (need x.1)) refl refl
-  where
-    go : (a b : Bool) → nat_lt 4096 (length x.1) ≡ a → nat_lt (spare m) (need x.1) ≡ b → give_refusal m x ≡ None
-    go true b p q = absurd (let l = ltb-true 4096 (length x.1) p in omega arith)
-    go false true p q = absurd (let l = ltb-true (spare m) (need x.1) q in omega arith)
-    go false false p q = rw (up, p, q)
+refused_none m x up short room = grind arith
 
 pub refusal_stays : (m : Machine) (x : Message) (why : Refused) → give_refusal m x ≡ Some why → turn m (Give x) ≡ m
 refusal_stays m x why e = ap (λ o. unless o m (given m x)) e

@@ -1,27 +1,19 @@
 -- A fragment that was accepted, and its packet.
-use Rattle.std.proofs.Common.{◌≡◌, List, [], ◌∷◌, ◌++◌, refl, sym, ap, ◌∙◌, arith}
-use Rattle.std.specs.Prelude.{Option, Some, None}
+use Rattle.std.proofs.Common.{◌≡◌, [], ◌∷◌, ◌++◌, refl, sym, ap, ◌∙◌, arith}
 use Rattle.std.specs.Option.{option_to_list}
 use Rattle.std.proofs.lemmas.List.{append-nil}
 use Rattle.block_pool.specs.Pool.{PoolState, used_of}
 use Rattle.block_pool.proofs.HoldingLemmas.{with_used-same}
-use Rattle.hcp_packet.specs.declared.Packet.{Packet}
-use Rattle.hcp_packet.specs.Packets.{packets_in, packet_of, good_of}
-use Rattle.hcp_chain.specs.Joining.{given_by, open_after}
+use Rattle.hcp_packet.specs.Packets.{packets_in, packet_of}
 use Rattle.hcp_chain.specs.Holding.{held_blocks, messages_in}
 use Rattle.shdlc_core.specs.Machine.{Fragment}
-use Rattle.link_laws.specs.machine.Machine.{Message}
 use Rattle.link_messages.specs.declared.inbox.Inbox.{Inbox}
-use Rattle.link_messages.specs.Incoming.{got_chains, chains_in, messages_under_way, came_whole, InboxLiesIn, IsInboxReady, Joins}
+use Rattle.link_messages.specs.Incoming.{got_chains, chains_in, came_whole, InboxLiesIn, IsInboxReady, Joins}
 use Rattle.link_end.specs.Received.{ReceivesOn}
 
 -- the packet of one fragment
 pub packets_in-one : (f : Fragment) → packets_in (f ∷ []) ≡ option_to_list (packet_of f)
-packets_in-one f = go (packet_of f) refl
-  where
-    go : (o : Option Packet) → packet_of f ≡ o → packets_in (f ∷ []) ≡ option_to_list (packet_of f)
-    go None e = rw e
-    go (Some p) e = rw e
+packets_in-one f = grind arith
 
 pub received_one : (old new : PoolState) (before after : Inbox) (f : Fragment) → IsInboxReady old before
     → Joins old new before after (option_to_list (packet_of f)) → ReceivesOn old new before after (f ∷ [])
@@ -33,15 +25,7 @@ received_one old new before after f ready j =
     ∙ append-nil before.joiner.open.items in
     let used_old = ready.used ∙ sym (ap (held_blocks old) chains) in
     let used_new : used_of new o ≡ held_blocks new (chains_in after) = ap (used_of new) (sym j.owner) ∙ j.used in
-    record {
-      lies = j.lies;
-      under = j.joined ∙ ap (open_after (messages_under_way old before)) (sym packets);
-      got = j.got ∙ (ap (λ l. good_of (given_by (messages_under_way old before) l)) (sym packets)
-          ∙ ap (λ (l : List Message). l ++ good_of (given_by (messages_under_way old before) (packets_in (f ∷ [])))) (sym none));
-      owner = j.owner;
-      counted = omega (arith, used_old, used_new);
-      elsewhere = j.elsewhere;
-    }
+    grind arith
 
 pub received_none : (pool : PoolState) (box : Inbox) → InboxLiesIn pool box → ReceivesOn pool pool box box []
 received_none pool box lies = record {

@@ -1,36 +1,22 @@
 -- What the inputs of a link end do.
-use Rattle.std.proofs.Common.{◌≡◌, ℕ, ◌+◌, ◌-◌, ◌⊎◌, inl, inr, Bool, true, false, [], length, drop, min, refl, sym, ap, ◌∙◌, subst, arith}
-use Rattle.std.proofs.Common.{length-append}
-use Rattle.std.proofs.Math.Bool.{and-false}
-use Rattle.std.specs.Prelude.{Option, Some, None, is_some, ◌&&◌, if◌then◌else◌, nat_le}
+use Rattle.std.proofs.Common.{◌≡◌, ℕ, ◌+◌, ◌⊎◌, Bool, true, false, [], length, min, sym, ap, ◌∙◌, subst, arith, length-append}
+use Rattle.std.specs.Prelude.{is_some, if◌then◌else◌}
 use Rattle.std.specs.Bool.{OnTrue, OnFalse}
 use Rattle.block_pool.specs.Pool.{PoolState}
 use Rattle.swp_base.specs.declared.control_frames.Control.{Control}
 use Rattle.swp_base.specs.declared.control_frames.Control.TheVariants.{I, S, Rset, Ua, Act as ActFrame, Clt}
 use Rattle.swp_base.specs.declared.control_frames.Act.{Act}
-use Rattle.swp_base.specs.declared.control_frames.Act.TheVariants.{Ready, SyncId, PowerMode}
 use Rattle.shdlc_core.specs.declared.answers.LinkState.{LinkState}
-use Rattle.shdlc_core.specs.declared.answers.LinkState.TheVariants.{Up, Down, Waiting}
 use Rattle.shdlc_core.specs.declared.answers.Ticked.{Ticked}
 use Rattle.shdlc_core.specs.Kept.{KeptEnd, ShdlcStandsFor}
 use Rattle.shdlc_core.specs.Machine.{EndState, ticked, tick_answer, with_ready, take_answer}
 use Rattle.shdlc_core.specs.Offering.{StandsBefore, with_out, left_waiting}
 use Rattle.shdlc_core.proofs.Offering.{stands_ticked, ticked_alike, TicksAlike, stands_ready, ready_alike}
 use Rattle.shdlc_core.proofs.Histories.{in_phase}
-use Rattle.swp_act.specs.declared.Phase.{Phase}
-use Rattle.swp_act.specs.declared.Phase.TheVariants.{Inactive, Awaiting, Active}
-use Rattle.swp_act.specs.declared.clf.ClfAct.{ClfAct}
-use Rattle.swp_act.specs.declared.uicc.UiccAct.{UiccAct}
-use Rattle.swp_act.specs.declared.ActOut.{ActOut}
-use Rattle.swp_act.specs.Activation.{clf_step, uicc_step}
-use Rattle.swp_act.specs.declared.ActEvent.{ActEvent}
 use Rattle.swp_act.specs.declared.ActEvent.TheVariants.{Take as ActTake, Tick as ActTick}
-use Rattle.link_laws.specs.machine.Machine.{LinkEnd as Machine, Role, Bare, Clf, Uicc, moved, heard, is_open, after_input, activated, whole_acked, whole_among}
-use Rattle.link_laws.specs.machine.Machine.{with_act, put_down, role_after, act_answer, ended_by_act, report}
+use Rattle.link_laws.specs.machine.Machine.{LinkEnd as Machine, Role, moved, heard, is_open, after_input, activated, report}
 use Rattle.link_laws.specs.machine.Machine.LinkInput.{Take, Tick}
-use Rattle.hcp_packet.specs.Packets.{packets_in}
-use Rattle.hcp_chain.specs.Joining.{are_taken, open_after}
-use Rattle.link_messages.specs.Outgoing.{waiting_in, rest_among}
+use Rattle.link_messages.specs.Outgoing.{waiting_in}
 use Rattle.link_end.specs.Ends.{Halfway, EndStandsFor}
 use Rattle.link_end.specs.Roles.{MayStart}
 use Rattle.link_end.specs.Reports.{IsShdlc, nothing_told, act_told, heard_told, report_told}
@@ -45,17 +31,7 @@ passed pool k p m is h =
     let before = h.halfway in
     let was = before.passed_over in
     record {
-      halfway = record {
-        role = before.role;
-        link = before.link;
-        acts = before.acts;
-        sends = before.sends;
-        receives = before.receives;
-        got = before.got;
-        aside = before.aside;
-        passed_over = omega (arith, is, was);
-        differ = before.differ;
-      };
+      halfway = grind arith;
       full = h.full;
     }
 
@@ -63,32 +39,11 @@ passed pool k p m is h =
 pub same_session : {pool : PoolState} {k : End} {s : KeptEnd} {m : Machine} {e : EndState} → Halfway k pool m → StandsBefore s (waiting_in pool k.outbox) e
     → e.session.out ≡ m.shdlc.session.out → e.session.acked ≡ m.shdlc.session.acked → e.session.acc ≡ m.shdlc.session.acc
     → Halfway (record k { shdlc = s }) pool (moved m false e)
-same_session {m = m} before link out acked acc = record {
-  role = before.role;
-  link = link;
-  acts = before.acts;
-  sends = record {
-    lies = before.sends.lies;
-    all = before.sends.all;
-    out = out ∙ before.sends.out;
-    messages = before.sends.messages ∙ ap (λ n. drop (whole_among m.sent n) m.sent) (sym acked);
-    acked = before.sends.acked ∙ ap (rest_among m.sent) (sym acked);
-  };
-  receives = record {
-    lies = before.receives.lies;
-    under = before.receives.under ∙ sym (ap (λ l. open_after [] (packets_in l)) acc);
-    sound = ap (λ l. are_taken [] (packets_in l)) acc ∙ before.receives.sound;
-  };
-  got = before.got;
-  aside = before.aside;
-  passed_over = before.passed_over;
-  differ = before.differ;
-}
+same_session before link out acked acc = grind arith
 
 -- as many fragments are offered as before, where as many wait
 full_still : {W : Type 0} (before after acked now : ℕ) → W ⊎ (before ≡ acked + 4) → after ≡ before → now ≡ acked → W ⊎ (after ≡ now + 4)
-full_still before after acked now (inl none) same count = inl none
-full_still before after acked now (inr four) same count = inr (omega (arith, four, same, count))
+full_still before after acked now a same count = grind arith
 
 -- the same where what waits had no room before
 pub stays_full : {pool : PoolState} {k : End} {s : KeptEnd} {m : Machine} {e : EndState} → EndStandsFor k pool m
@@ -108,11 +63,7 @@ stays_full {pool} {k} {s} {m} {e} h link out acked acc =
 
 acc_in : (e : EndState) (old new answered : Bool)
     → (with_ready (record e { ready = old; session = record e.session { answered_rnr = answered } }) new).session.acc ≡ e.session.acc
-acc_in e true true a = refl
-acc_in e false false a = refl
-acc_in e true false a = refl
-acc_in e false true true = refl
-acc_in e false true false = refl
+acc_in e old new answered = grind arith
 
 pub held : (pool : PoolState) (k : End) (s : KeptEnd) (m : Machine) (r : Bool)
     → ((e : EndState) → ShdlcStandsFor k.shdlc e → ShdlcStandsFor s (with_ready e r)) → EndStandsFor k pool m
@@ -197,12 +148,7 @@ module _ {k : End} {pool : PoolState} {m : Machine} {s : KeptEnd} {t : Ticked} (
 -- ---- a frame of SHDLC at an end that is open or not
 
 pub heard_after : (m : Machine) (c : Control) → IsShdlc c → is_open m.role ≡ true → after_input m (Take c) ≡ heard m c
-heard_after m (I ns nr info) f o = ap (λ b. if b then heard m (I ns nr info) else m) o
-heard_after m (S kind nr) f o = ap (λ b. if b then heard m (S kind nr) else m) o
-heard_after m (Rset window caps) f o = ap (λ b. if b then heard m (Rset window caps) else m) o
-heard_after m Ua f o = ap (λ b. if b then heard m Ua else m) o
-heard_after m (ActFrame act again) f o = absurd f
-heard_after m Clt f o = absurd f
+heard_after m c f o = grind arith
 
 pub heard_is_told : (m : Machine) (c : Control) → IsShdlc c → is_open m.role ≡ true → heard_told m c ≡ report_told (report m (Take c))
 heard_is_told m (I ns nr info) f o = rw o
@@ -213,106 +159,22 @@ heard_is_told m (ActFrame act again) f o = absurd f
 heard_is_told m Clt f o = absurd f
 
 pub unheard_after : (m : Machine) (c : Control) → IsShdlc c → is_open m.role ≡ false → after_input m (Take c) ≡ m
-unheard_after m (I ns nr info) f o = ap (λ b. if b then heard m (I ns nr info) else m) o
-unheard_after m (S kind nr) f o = ap (λ b. if b then heard m (S kind nr) else m) o
-unheard_after m (Rset window caps) f o = ap (λ b. if b then heard m (Rset window caps) else m) o
-unheard_after m Ua f o = ap (λ b. if b then heard m Ua else m) o
-unheard_after m (ActFrame act again) f o = absurd f
-unheard_after m Clt f o = absurd f
+unheard_after m c f o = grind arith
 
 -- ---- activation
 
 -- an event of activation starts nothing but by a start
 pub may_take : (r : Role) (act : Act) (again : Bool) → MayStart r (ActTake act again)
-may_take Bare act again = tt
-may_take (Clf s) act again = tt
-may_take (Uicc s) act again = tt
+may_take r act again = grind arith
 
 pub may_tick : (r : Role) → MayStart r ActTick
-may_tick Bare = tt
-may_tick (Clf s) = tt
-may_tick (Uicc s) = tt
-
--- no message is newly acknowledged by it
-acks_none : (m : Machine) (r : Role) (o : Option Act) (b : Bool) (p : LinkState)
-    → whole_acked (with_act o (record (put_down b (record m { shdlc = record m.shdlc { phase = p } })) { role = r })) - whole_acked m ≡ 0
-acks_none m r None false p = omega arith
-acks_none m r (Some a) false p = omega arith
-acks_none m r None true Up = omega arith
-acks_none m r (Some a) true Up = omega arith
-acks_none m r None true Waiting = omega arith
-acks_none m r (Some a) true Waiting = omega arith
-acks_none m r None true Down = omega arith
-acks_none m r (Some a) true Down = omega arith
-
-pub acked-activated : (m : Machine) (event : ActEvent) → whole_acked (activated m event) - whole_acked m ≡ 0
-acked-activated m event = acks_none m (role_after m.role event) (act_answer m.role event).send (act_answer m.role event).ended_link m.shdlc.phase
-
--- an ACT frame begins no session
-act_begins : (p : LinkState) (e : EndState) (act : Act) (again : Bool) → (take_answer (in_phase p e) (ActFrame act again)).began ≡ false
-act_begins Up e act again = refl
-act_begins Waiting e act again = refl
-act_begins Down e act again = refl
+may_tick r = grind arith
 
 clt_begins : (p : LinkState) (e : EndState) → (take_answer (in_phase p e) Clt).began ≡ false
-clt_begins Up e = refl
-clt_begins Waiting e = refl
-clt_begins Down e = refl
-
--- a frame of activation never makes an end give up
-clf_takes : (s : ClfAct) (phase : Phase) (act : Act) (again : Bool) → (clf_step (record s { phase = phase }) (ActTake act again)).1.gave_up ≡ None
-clf_takes s phase act true = refl
-clf_takes s Inactive (SyncId id) false = refl
-clf_takes s (Awaiting tries ticks) (SyncId id) false = refl
-clf_takes s Active (SyncId id) false = refl
-clf_takes s Inactive Ready false = refl
-clf_takes s (Awaiting tries ticks) Ready false = refl
-clf_takes s Active Ready false = refl
-clf_takes s phase (PowerMode code) false = refl
-
-uicc_takes : (s : UiccAct) (phase : Phase) (act : Act) (again : Bool) → (uicc_step (record s { phase = phase }) (ActTake act again)).1.gave_up ≡ None
-uicc_takes s phase act true = refl
-uicc_takes s phase (SyncId id) false = refl
-uicc_takes s phase Ready false = refl
-uicc_takes s Inactive (PowerMode code) false = go (nat_le code 1) refl
-  where
-    go : (b : Bool) → nat_le code 1 ≡ b → (uicc_step (record s { phase = Inactive }) (ActTake (PowerMode code) false)).1.gave_up ≡ None
-    go true e = rw e
-    go false e = rw e
-uicc_takes s (Awaiting tries ticks) (PowerMode code) false = go (nat_le code 1) refl
-  where
-    go : (b : Bool) → nat_le code 1 ≡ b → (uicc_step (record s { phase = Awaiting tries ticks }) (ActTake (PowerMode code) false)).1.gave_up ≡ None
-    go true e = rw e
-    go false e = rw e
-uicc_takes s Active (PowerMode code) false = go (nat_le code 1) refl
-  where
-    go : (b : Bool) → nat_le code 1 ≡ b → (uicc_step (record s { phase = Active }) (ActTake (PowerMode code) false)).1.gave_up ≡ None
-    go true e = rw e
-    go false e = rw e
-
-never_gives_up : (r : Role) (act : Act) (again : Bool) → (act_answer r (ActTake act again)).gave_up ≡ None
-never_gives_up Bare act again = refl
-never_gives_up (Clf s) act again = clf_takes s s.phase act again
-never_gives_up (Uicc s) act again = uicc_takes s s.phase act again
+clt_begins p e = grind arith
 
 pub act_is_told : (m : Machine) (act : Act) (again : Bool) → act_told m (ActTake act again) ≡ report_told (report m (Take (ActFrame act again)))
-act_is_told m act again =
-    let out : ActOut = act_answer m.role (ActTake act again) in
-    let began : false ≡ (is_open m.role && (take_answer m.shdlc (ActFrame act again)).began) =
-    sym (ap (λ b. is_open m.role && b) (act_begins m.shdlc.phase m.shdlc act again) ∙ and-false (is_open m.role)) in
-    let acks : 0 ≡ whole_acked (activated m (ActTake act again)) - whole_acked m = sym (acked-activated m (ActTake act again)) in
-    ap
-    (λ (x : Option ℕ). record nothing_told { ended = ended_by_act m (ActTake act again); became_active = out.became_active; sync = out.sync; gave_up = x })
-    (never_gives_up m.role act again)
-    ∙ (ap
-    (λ (x : Bool). record nothing_told { ended = ended_by_act m (ActTake act again); became_active = out.became_active; sync = out.sync; began = x }) began
-    ∙ ap (λ (x : ℕ). record nothing_told {
-      ended = ended_by_act m (ActTake act again);
-      became_active = out.became_active;
-      sync = out.sync;
-      began = is_open m.role && (take_answer m.shdlc (ActFrame act again)).began;
-      acked = x;
-    }) acks)
+act_is_told m act again = grind arith
 
 -- ---- a tick
 

@@ -11,8 +11,7 @@ use Rattle.history.specs.Steps.{lost_as}
 use Rattle.history.specs.Follows.{if_beyond}
 use Rattle.link_wires.specs.declared.damage.Verdict.TheVariants as told
 use Rattle.link_wires.specs.declared.finding.Damaged.TheVariants.{Lost}
-use Rattle.link_wires.specs.Damages.{told_as}
-use Rattle.link_wires.specs.Damages.{Finds, first_lpdu}
+use Rattle.link_wires.specs.Damages.{told_as, Finds, first_lpdu}
 
 abbrev just : Option (List ℕ) → List ℕ
 just None = []

@@ -18,9 +18,8 @@ use Rattle.link_laws.specs.entries.Entries.Entry.{Lost}
 use Rattle.link_laws.specs.messages.Links.Loss.{TooOld, TooMany}
 use Rattle.history.specs.Steps.{entries_for}
 use Rattle.link_wires.specs.declared.wire.Flying.{Flying}
-use Rattle.link_wires.specs.Notes.{side_of}
+use Rattle.link_wires.specs.Notes.{side_of, AreNoted}
 use Rattle.link_wires.specs.Wires.{WireStandsFor, IsMade, kept_of}
-use Rattle.link_wires.specs.Notes.{AreNoted}
 use Rattle.link_wires.proofs.Notes.{end_is, more_noted}
 use Rattle.link_laws.proofs.Cases.{by_list, by_test}
 

@@ -1,18 +1,13 @@
 -- What a node decides may be done: a command finds room.
-use Rattle.std.proofs.Common.{◌≡◌, ℕ, Bool, true, false, cond, ◌&&◌, List, [], ◌∷◌, map, refl, sym, subst}
-use Rattle.std.specs.Prelude.{Option, Some, None, Result, Ok, Err, ◌==◌}
+use Rattle.std.proofs.Common.{Bool, List, [], arith, cond, false, map, refl, subst, sym, true, ℕ, ◌∷◌, ◌≡◌}
+use Rattle.std.specs.Prelude.{Option, Some, None, Result, Ok, Err}
 use Rattle.std.specs.List.{AllByRecursion}
-use Rattle.std.proofs.lemmas.Bool.{true≢false}
 use Rattle.hcp_packet.specs.declared.MessageKind.{MessageKind}
 use Rattle.hcp_packet.specs.declared.MessageKind.TheVariants.{Command as IsCommand, Event as IsEvent, Response as IsResponse}
 use Rattle.hcp_packet.specs.declared.MessageFault.{MessageFault}
 use Rattle.hcp_packet.specs.MessageHeader.{header_of}
-use Rattle.node_core.proofs.Words.{AreGranted, Asks, Command, Commits, Core, Creation, Drops, Ends, Hears, Init, IsAnswered, IsOnTask, Message, Notice, Orders}
-use Rattle.node_core.proofs.Words.{Port, Releases, SaysOk, Sends, SetsErrors, Tells, Work, answer_of, controller_deeds, done, has, has_link, has_turn}
-use Rattle.node_core.proofs.Words.{is_command_message, own_view, port_at, view_of}
-use Rattle.std.specs.Option.{option_map_or}
-use Rattle.hci_tables.specs.Tables.{is_opened}
-use Rattle.gate_loopback.specs.Loopback.{posts_back}
+use Rattle.node_core.proofs.Words.{AreGranted, Asks, Command, Commits, Drops, Ends, Hears, Init, IsAnswered, IsOnTask, Message, Orders, Releases, SaysOk, Sends}
+use Rattle.node_core.proofs.Words.{Core, SetsErrors, Tells, Work, controller_deeds, done, has, has_link, has_turn, own_view, view_of}
 use Rattle.gate_answers.specs.declared.response.Response.TheVariants as response
 use Rattle.gate_answers.specs.Answers.{body_in}
 use Rattle.gate_admin.specs.declared.view.LinkView.{LinkView}
@@ -23,11 +18,9 @@ use Rattle.gate_admin.specs.Decide.{decided}
 use Rattle.node_machine.specs.Parts.{Deed}
 use Rattle.node_machine.specs.Parts.Deed.{GoesOn}
 use Rattle.node_machine.specs.Carrying.{finds_room}
-use Rattle.node_machine.specs.Controller.{creation_in, commit_deeds, decision_deeds, link_deeds, gate_deeds, served_at, agreed, creation_deeds}
-use Rattle.node_machine.specs.Controller.{notice_deeds, relayed_to, unrelayed, event_deeds, unless_asking, if_notice, kind_deeds, about_at, about_of}
-use Rattle.node_machine.specs.Controller.{own_deeds, relay_deeds}
-use Rattle.node_machine.specs.Controller.{deeds_by_relay, own_gate, view_for, goes_through, answers_on}
 use Rattle.node_core.specs.Deeds.{IsGranted}
+use Rattle.node_machine.specs.Controller.{commit_deeds, decision_deeds, gate_deeds, served_at, relayed_to, unless_asking, kind_deeds, own_deeds, relay_deeds}
+use Rattle.node_machine.specs.Controller.{deeds_by_relay, own_gate, view_for, goes_through}
 
 -- ## Deeds that may always be done
 
@@ -50,34 +43,10 @@ abbrev ArePlain : List Deed → Type 0
 ArePlain deeds = AllByRecursion IsPlain deeds
 
 one_plain : (init : Option Init) (d : Deed) (w : Work) → IsPlain d → IsGranted init d w
-one_plain init (Commits c) w plain = absurd plain
-one_plain init (Sends to m) w plain = tt
-one_plain init SaysOk w plain = tt
-one_plain init (Asks to message c) w plain = tt
-one_plain init (Releases asker) w plain = tt
-one_plain init (Tells to message) w plain = tt
-one_plain init IsAnswered w plain = tt
-one_plain init (Drops pid) w plain = tt
-one_plain init (SetsErrors errors) w plain = tt
-one_plain init (Orders message) w plain = absurd plain
-one_plain init Hears w plain = absurd plain
-one_plain init (GoesOn i) w plain = absurd plain
-one_plain init (Ends e) w plain = absurd plain
+one_plain init d w plain = grind arith
 
 plain_core : (h : ℕ) (d : Deed) (w : Work) → IsPlain d → (done h d w).core ≡ w.core
-plain_core h (Commits c) w plain = absurd plain
-plain_core h (Sends to m) w plain = refl
-plain_core h SaysOk w plain = refl
-plain_core h (Asks to message c) w plain = refl
-plain_core h (Releases asker) w plain = absurd plain
-plain_core h (Tells to message) w plain = refl
-plain_core h IsAnswered w plain = refl
-plain_core h (Drops pid) w plain = refl
-plain_core h (SetsErrors errors) w plain = refl
-plain_core h (Orders message) w plain = absurd plain
-plain_core h Hears w plain = absurd plain
-plain_core h (GoesOn i) w plain = absurd plain
-plain_core h (Ends e) w plain = absurd plain
+plain_core h d w plain = grind arith
 
 all_plain : (h : ℕ) (init : Option Init) (deeds : List Deed) (w : Work) → ArePlain deeds → IsOnTask w.core → AreGranted h init deeds w
 all_plain h init [] w plain on = on
@@ -88,20 +57,11 @@ all_plain h init (d ∷ deeds) w plain on =
     )
 
 either : {X : Type 0} (P : X → Type 0) (b : Bool) (x y : X) → P x → P y → P (cond b x y)
-either P true x y one other = one
-either P false x y one other = other
+either P b x y one other = grind arith
 
 tells_plain : (notice : List ℕ) (hosts : List ℕ) → ArePlain (map (λ told. Tells told notice) hosts)
 tells_plain notice [] = tt
 tells_plain notice (h ∷ hosts) = (tt, tells_plain notice hosts)
-
-link_plain : (h pipe : ℕ) (answer : List ℕ) (o : Option ℕ) → ArePlain (link_deeds h pipe (answer, o))
-link_plain h pipe answer None = (tt, tt)
-link_plain h pipe answer (Some errors) = (tt, (tt, tt))
-
-both_true : (a b : Bool) → (a && b) ≡ true → b ≡ true
-both_true true b q = q
-both_true false b q = absurd (true≢false (sym q))
 
 -- ## Decisions
 
@@ -120,34 +80,12 @@ module _ (h : ℕ) (m : Message) (init : Option Init) (w : Work) (on : IsOnTask 
   decision_allowed pipe (Ask asked notice c answer) = (tt, on)
 
   gate_allowed : (gate errors pipe instruction : ℕ) (body : List ℕ) → AreGranted h init (gate_deeds gate errors h pipe instruction body) (has_turn h m w)
-  gate_allowed gate errors pipe instruction body =
-      all_plain h init (gate_deeds gate errors h pipe instruction body) (has_turn h m w)
-      (either ArePlain (gate == 6) _ _ (link_plain h pipe _ _) (either ArePlain (gate == 5) _ _ (tt, tt) (tt, tt))) on
+  gate_allowed gate errors pipe instruction body = grind arith
 
   served_allowed : (view : LinkView) (pipe instruction : ℕ) (body : List ℕ) (o : Option ℕ)
       → AreGranted h init (served_at (own_view w.core) view h pipe instruction body o) (has_turn h m w)
   served_allowed view pipe instruction body None = decision_allowed pipe (decided w.core.tables view h pipe instruction body)
   served_allowed view pipe instruction body (Some gate) = gate_allowed gate view.errors pipe instruction body
-
-  agreed_allowed : (b : Bool) (c : Creation) → (b ≡ true → finds_room w.core c.command ≡ true) → AreGranted h init (agreed b c) (has_turn h m w)
-  agreed_allowed true c room = (tt, (room refl, (tt, (tt, (tt, on)))))
-  agreed_allowed false c room = (tt, (tt, (tt, on)))
-
-  creation_allowed : (code : ℕ) (o : Option Creation) → AreGranted h init (creation_deeds (own_view w.core) code o) (has_turn h m w)
-  creation_allowed code None = (tt, on)
-  creation_allowed code (Some c) =
-      agreed_allowed ((code == 0) && finds_room w.core c.command) c (both_true (code == 0) (finds_room w.core c.command))
-
-  notice_allowed : (code : ℕ) (o : Option Notice) → AreGranted h init (notice_deeds (own_view w.core) code (about_of o)) (has_turn h m w)
-  notice_allowed code None = (tt, on)
-  notice_allowed code (Some n) = creation_allowed code (creation_in (Some n))
-
-  response_allowed : (code : ℕ) (o : Option Port) → AreGranted h init (notice_deeds (own_view w.core) code (about_at o)) (has_turn h m w)
-  response_allowed code None = (tt, on)
-  response_allowed code (Some p) = notice_allowed code p.desk.notice
-
-  plain_allowed : (deeds : List Deed) → ArePlain deeds → AreGranted h init deeds (has_turn h m w)
-  plain_allowed deeds plain = all_plain h init deeds (has_turn h m w) plain on
 
   asking_allowed : (instruction : ℕ) (b : Bool) → AreGranted h init (unless_asking (view_of w.core w.ports) h m instruction b) (has_turn h m w)
   asking_allowed instruction true = (tt, on)
@@ -157,14 +95,8 @@ module _ (h : ℕ) (m : Message) (init : Option Init) (w : Work) (on : IsOnTask 
 
   kind_allowed : (r : Result (MessageKind × ℕ) MessageFault) → AreGranted h init (kind_deeds (view_of w.core w.ports) h m r) (has_turn h m w)
   kind_allowed (Ok (IsCommand, instruction)) = asking_allowed instruction _
-  kind_allowed (Ok (IsEvent, instruction)) = plain_allowed (event_deeds w.core.tables h m)
-      (either ArePlain (is_opened w.core.tables h m.0 && option_map_or (λ gate. gate == 4) (own_gate w.core.tables h m.0) false && posts_back m.1)
-      (Sends h m ∷ []) (Drops m.0 ∷ []) (tt, tt) (tt, tt))
-  kind_allowed (Ok (IsResponse, code)) = by (m.0 == 1)
-    where
-      by : (b : Bool) → AreGranted h init (if_notice (view_of w.core w.ports) h m code b) (has_turn h m w)
-      by true = response_allowed code (port_at w.ports h)
-      by false = (tt, on)
+  kind_allowed (Ok (IsEvent, instruction)) = grind arith
+  kind_allowed (Ok (IsResponse, code)) = grind arith
   kind_allowed (Err fault) = (tt, on)
 
   own_allowed : (b : Bool) → AreGranted h init (own_deeds (view_of w.core w.ports) h m b) (has_turn h m w)
@@ -172,11 +104,7 @@ module _ (h : ℕ) (m : Message) (init : Option Init) (w : Work) (on : IsOnTask 
   own_allowed false = (tt, on)
 
   relay_allowed : (other : ℕ) (b : Bool) → AreGranted h init (relay_deeds (has_link w.ports) h m other b) (has_turn h m w)
-  relay_allowed other true = (tt, on)
-  relay_allowed other false =
-      plain_allowed (unrelayed (has_link w.ports h) h m)
-      (either ArePlain (has_link w.ports h && is_command_message m.1) (answers_on h m.0 (answer_of response.NotConnected [])) (Drops m.0 ∷ [])
-      (tt, tt) (tt, tt))
+  relay_allowed other b = grind arith
 
   by_relay_allowed : (o : Option ℕ) → AreGranted h init (deeds_by_relay (view_of w.core w.ports) h m o) (has_turn h m w)
   by_relay_allowed (Some other) = relay_allowed other (has_link w.ports other)

@@ -1,17 +1,15 @@
 -- What comes to an end of a node, and what is noted of it.
 use Rattle.std.proofs.Common.{◌≡◌, ◌≢◌, ℕ, ◌≤◌, Bool, true, false, List, [], ◌∷◌, ◌++◌, map, length, refl, sym, ap, ap₂, ◌∙◌, subst, arith}
 use Rattle.std.proofs.Common.{length-append, append-nil}
-use Rattle.std.specs.Prelude.{Option, Some, None, Result, Ok, Err, option_map, is_some, if◌then◌else◌, ◌==◌, IfSome}
+use Rattle.std.specs.Prelude.{Option, Some, None, option_map, is_some, if◌then◌else◌, ◌==◌, IfSome}
 use Rattle.std.specs.List.{AllByRecursion, flat_map}
 use Rattle.std.specs.Option.{option_map_or}
 use Rattle.std.proofs.lemmas.Bool.{eqb-true}
 use Rattle.std.proofs.lemmas.List.Concat.{flat_map-cons}
-use Rattle.node_core.proofs.Words.{AreAllDifferent, AreNotes, AtEnd, Control, Core, EndsStandFor, Entry, IsInStep, KeptEnds, LinkInput, LinkReport, Message}
-use Rattle.node_core.proofs.Words.{Node, PoolState, Port, Seat, SeatsStandFor, Work, after_input, all_come, changed_if, got_at, has_come, input_at, kept_number}
-use Rattle.node_core.proofs.Words.{noting, port_at, report, report_told, told_at, unnumbered, whole_acked, with_port}
-use Rattle.swp_lpdu.specs.declared.LpduFault.{LpduFault}
-use Rattle.swp_lpdu.specs.Controls.{control_of}
-use Rattle.link_laws.specs.machine.Machine.{LinkEnd as Machine, oldest, got_by, lpdu_input}
+use Rattle.node_core.proofs.Words.{AreAllDifferent, AreNotes, AtEnd, Core, EndsStandFor, Entry, IsInStep, KeptEnds, LinkInput, LinkReport, Message, Node}
+use Rattle.node_core.proofs.Words.{PoolState, Port, Seat, SeatsStandFor, Work, after_input, all_come, got_at, has_come, input_at, kept_number, noting, port_at}
+use Rattle.node_core.proofs.Words.{report, report_told, told_at, unnumbered, whole_acked, with_port}
+use Rattle.link_laws.specs.machine.Machine.{LinkEnd as Machine, oldest, got_by}
 use Rattle.node_ends.specs.declared.seat.Waiting.{Waiting}
 use Rattle.node_ends.specs.Holding.{messages_waiting}
 use Rattle.node_ends.proofs.Apart.{is_outside, input_apart}
@@ -21,14 +19,9 @@ use Rattle.node_core.proofs.Elsewhere.{host_at, hosts_differ}
 
 -- ## The ends
 
-one_comes : (i : LinkInput) (b : Bool) (p : Port) → has_come p (if b then Some i else None) ≡ changed_if b (λ q. has_come q (Some i)) p
-one_comes i true p = refl
-one_comes i false p = refl
-
 come_ports : (h : ℕ) (i : LinkInput) (ports : List Port)
     → map (λ (p : Port). has_come p (input_at (AtEnd h i) p)) ports ≡ with_port h (λ p. has_come p (Some i)) ports
-come_ports h i [] = refl
-come_ports h i (p ∷ ports) = ap₂ (λ (q : Port) qs. q ∷ qs) (one_comes i (p.desk.host == h) p) (come_ports h i ports)
+come_ports h i ports = grind arith
 
 -- ## What is noted
 
@@ -41,8 +34,7 @@ none_told core h i (p ∷ ports) differ =
   where
     by : (b : Bool) → (p.desk.host == h) ≡ b → flat_map (λ (q : Port). told_at core q (input_at (AtEnd h i) q)) ports ≡ []
         → told_at core p (input_at (AtEnd h i) p) ++ flat_map (λ (q : Port). told_at core q (input_at (AtEnd h i) q)) ports ≡ []
-    by true q later = absurd (differ.0 (eqb-true p.desk.host h q))
-    by false q later = rw q later
+    by b q later = grind arith
 
 come_entries : (core : Core) (h : ℕ) (i : LinkInput) (ports : List Port) → AreAllDifferent (map host_at ports)
     → flat_map (λ (p : Port). told_at core p (input_at (AtEnd h i) p)) ports
@@ -79,12 +71,7 @@ changed_here h f (q ∷ ports) p same is = by (q.desk.host == h) refl (changed_h
   where
     by : (b : Bool) → (q.desk.host == h) ≡ b → (port_at ports h ≡ Some p → port_at (with_port h f ports) h ≡ Some (f p))
         → port_at (with_port h f (q ∷ ports)) h ≡ Some (f p)
-    by true e later =
-        let first : Some q ≡ Some p = rw e at is in
-        let one : q ≡ p = cc in
-        let here : ((f q).desk.host == h) ≡ true = ap (λ n. n == h) (same q) ∙ e in
-        rw (e, here) (ap (λ (x : Port). Some (f x)) one)
-    by false e later = rw (e, e) (later (rw e at is))
+    by b e later = grind arith
 
 pub comes_to : {N : Type 0} {n : Node N} {ends : KeptEnds} {before now start : List Entry} {was short : Bool} {w : Work} (h : ℕ) (i : LinkInput)
     (told : LinkReport) → IsInStep n before was start w → EndsStandFor ends (with_port h (λ p. has_come p (Some i)) w.ports)
@@ -133,8 +120,7 @@ comes_nowhere {N} {n} {ends} {before} {start} {was} {w} h i u stands none notes 
     ∙ come_is h i w (hosts_differ n.ends.pool n.ends.seats w.ports u.ends.hosts u.ends.each)) (comes_noted [] ports u stands notes)
 
 pub no_port : {X : Type 0} (f : Port → X) (o : Option Port) → None ≡ option_map f o → o ≡ None
-no_port f None is = refl
-no_port f (Some p) is = cc
+no_port f o is = grind arith
 
 -- ## The message that an input brought
 
@@ -145,8 +131,7 @@ got_so [] (m ∷ ms) few = refl
 got_so (b ∷ before) (m ∷ ms) few = absurd (let l = length-append (b ∷ before) (m ∷ ms) in omega (arith, l, few))
 
 waiting_few : (pool : PoolState) (o : Option Waiting) → length (messages_waiting pool o) ≤ 1
-waiting_few pool None = omega arith
-waiting_few pool (Some w) = omega arith
+waiting_few pool o = grind arith
 
 each_few : (pool : PoolState) (seats : List Seat) (ports : List Port) → SeatsStandFor pool seats ports
     → AllByRecursion (λ (p : Port). length p.side.got ≤ 1) ports
@@ -186,10 +171,3 @@ pub acked_is : (ports : List Port) (h : ℕ) (i : LinkInput) (p : Port) → port
 acked_is ports h i p is =
     ap (λ (o : Option Port). option_map_or (λ (q : Port). kept_number (whole_acked q.side)) o 0)
     (changed_here h (λ q. has_come q (Some i)) ports p (λ q. refl) is)
-
-pub lpdu_outside : (lpdu : List ℕ) → is_outside (lpdu_input lpdu) ≡ true
-lpdu_outside lpdu = by (control_of lpdu) refl
-  where
-    by : (o : Result Control LpduFault) → control_of lpdu ≡ o → is_outside (lpdu_input lpdu) ≡ true
-    by (Ok c) q = rw q refl
-    by (Err fault) q = rw q refl

@@ -1,19 +1,14 @@
 -- What a host does by itself leaves it running.
 use Rattle.std.proofs.Common.{◌≡◌, ◌≢◌, ◌≤◌, ℕ, Bool, true, false, not, ◌&&◌, List, [], ◌∷◌, map, refl, sym, ap, ◌∙◌, subst, arith, append-nil}
 use Rattle.std.specs.Prelude.{Option, Some, None, IfSome, is_some, ◌==◌}
-use Rattle.std.proofs.lemmas.Bool.{true≢false}
 use Rattle.node_core.proofs.Words.{BeginsStep, Core, EndsStandFor, Entry, HasStepped, Init, IsAsked, IsInStep, IsNodeInOrder, IsOnTask, IsUicc, IsUsable, Node}
-use Rattle.node_core.proofs.Words.{Orders, Port, Refused, Role, RunsAs, Sends, Stored, Work, all_done, between, done, give_refusal, if_waiting}
-use Rattle.node_core.proofs.Words.{is_command_message, port_at, sending}
-use Rattle.link_laws.specs.machine.Machine.Role.{Bare, Clf, Uicc}
-use Rattle.link_laws.specs.machine.Machine.Refused.{NotUp, TooLong, Full, Inactive, IsWaiting}
+use Rattle.node_core.proofs.Words.{Orders, Port, Refused, RunsAs, Sends, Stored, Work, all_done, between, done, give_refusal, if_waiting, is_command_message}
+use Rattle.node_core.proofs.Words.{port_at, sending}
 use Rattle.node_machine.specs.Parts.{Deed}
 use Rattle.node_machine.specs.Parts.Deed.{GoesOn}
 use Rattle.node_machine.specs.world.World.{beginning}
 use Rattle.node_machine.specs.Orders.{IsOnOrder}
 use Rattle.node_ends.specs.Ends.{MayStartAt}
-use Rattle.link_end.specs.Roles.{MayStart}
-use Rattle.swp_act.specs.declared.ActEvent.TheVariants.{Start as ActStart}
 use Rattle.node_ends.specs.declared.inputs.LinkInput.{LinkInput as ToEnd}
 use Rattle.node_ends.specs.declared.inputs.LinkInput.TheVariants as asks
 use Rattle.node_ends.specs.Inputs.{MayComeAt}
@@ -63,20 +58,12 @@ begins_at_rest {ports = ports} noted short runs sent = record {
 
 -- a message that isn't refused doesn't wait
 pub never_waits : (b : Bool) (why : Option Refused) → if_waiting b why ≡ None → b ≡ false
-never_waits false why none = refl
-never_waits true None none = cc
-never_waits true (Some NotUp) none = cc
-never_waits true (Some (TooLong len)) none = cc
-never_waits true (Some (Full need spare)) none = cc
-never_waits true (Some Inactive) none = cc
-never_waits true (Some IsWaiting) none = cc
+never_waits b why none = grind arith
 
 -- where no command waits, no init runs
 free_order : (command : Option (List ℕ)) (init : Option Init) (order : List ℕ) → is_some command ≡ false → IsOnOrder command init
     → IsOnOrder (Some order) init
-free_order None None order free on = tt
-free_order None (Some i) order free on = absurd on
-free_order (Some c) init order free on = absurd (true≢false free)
+free_order command init order free on = grind arith
 
 one_order : (h : ℕ) (d : Deed) (w : Work) → (done h d w).core.node ≡ w.core.node → IsOnTask (done h d w).core → IsNodeInOrder w.core w.ports
     → IsNodeInOrder (done h d w).core (done h d w).ports
@@ -137,15 +124,9 @@ has_given {N} {n} {n2} {w = w} u live ends store number tasks usable order rest 
 
 -- ## Activation
 
-uicc_starts : (r : Role) (value : ℕ) → IsUicc r → MayStart r (ActStart value)
-uicc_starts Bare value is = absurd is
-uicc_starts (Clf s) value is = absurd is
-uicc_starts (Uicc s) value is = tt
-
 -- the end of a host is activated with any identifier
 uicc_may_start : (value : ℕ) (o : Option Port) → IfSome o (λ (p : Port). IsUicc p.side.role) → MayStartAt value o
-uicc_may_start value None is = tt
-uicc_may_start value (Some p) is = uicc_starts p.side.role value is
+uicc_may_start value o is = grind arith
 
 -- what is asked of a host may come to its end
 pub asked_may : (what : ToEnd) (host : ℕ) (core : Core) (ports : List Port) → IsAskedOf what → core.node ≢ 0 → IsNodeInOrder core ports

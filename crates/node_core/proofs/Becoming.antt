@@ -1,35 +1,23 @@
 -- An end of a node that becomes active in a step doesn't wait behind it, so that it takes a reset.
-use Rattle.std.proofs.Common.{◌≡◌, ℕ, zero, suc, ◌+◌, Bool, true, false, List, [], ◌∷◌, map, refl, sym, ap, ◌∙◌, subst}
-use Rattle.std.specs.Prelude.{Option, Some, None, IfSome, option_map, ◌==◌, nat_le}
+use Rattle.std.proofs.Common.{◌≡◌, ℕ, zero, suc, Bool, true, false, List, [], ◌∷◌, map, refl, sym, ap, ◌∙◌, subst, arith}
+use Rattle.std.specs.Prelude.{Option, Some, None, IfSome, option_map, ◌==◌}
 use Rattle.std.specs.List.{find, flat_map}
-use Rattle.std.proofs.lemmas.Bool.{true≢false}
-use Rattle.node_core.proofs.Words.{Act, ActEvent, AtEnd, BeginsStep, EndState, Entry, IsReached, LinkInput, Node, Port, Role, Work, act_answer, activated}
-use Rattle.node_core.proofs.Words.{after_input, all_come, goes_through_ends, got_at, has_come, have_turns, input_at, is_open, passes, port_at, put_down, report}
+use Rattle.node_core.proofs.Words.{ActEvent, AtEnd, BeginsStep, EndState, Entry, IsReached, LinkInput, Node, Port, Role, Work, act_answer, activated}
+use Rattle.node_core.proofs.Words.{after_input, all_come, goes_through_ends, got_at, has_come, have_turns, input_at, is_open, passes, port_at, report}
 use Rattle.node_core.proofs.Words.{reset_refusal, role_after, settles, steps, synced, unless_cut}
-use Rattle.swp_base.specs.declared.control_frames.Act.TheVariants.{Ready, SyncId, PowerMode}
-use Rattle.swp_base.specs.declared.control_frames.Control.TheVariants.{I, S, Rset, Ua, Act as ActFrame, Clt}
-use Rattle.swp_act.specs.declared.ActEvent.TheVariants.{Start as ActStart, Take as ActTake, Tick as ActTick, Stop as ActStop}
-use Rattle.swp_act.specs.declared.Phase.{Phase}
-use Rattle.swp_act.specs.declared.Phase.TheVariants.{Inactive, Awaiting, Active}
-use Rattle.swp_act.specs.Activation.{out_ticked}
 use Rattle.shdlc_core.specs.declared.answers.LinkState.TheVariants.{Down}
 use Rattle.shdlc_core.specs.Machine.{after_frames}
 use Rattle.link_laws.proofs.sessions.Ties.{fetched-phase}
-use Rattle.link_laws.specs.machine.Machine.{LinkEnd as Machine}
-use Rattle.link_laws.specs.machine.Machine.{sent_all}
-use Rattle.link_laws.specs.machine.Machine.Role.{Bare, Clf, Uicc}
-use Rattle.link_laws.specs.machine.Machine.LinkInput.{Take, TakeUnknown, TakeBroken, Tick, Reset, Start, Stop, FromNode, Fetch}
+use Rattle.link_laws.specs.machine.Machine.{LinkEnd as Machine, sent_all}
 use Rattle.link_laws.proofs.machine.Runs.{Sound, sound}
 use Rattle.node_deeds.proofs.Ports.{find-map}
 use Rattle.node_machine.specs.Parts.{Deed}
 use Rattle.node_core.proofs.Joining.{stays_cut, goes_on}
 use Rattle.node_core.proofs.Quiet.{LinkSeen, link_at}
 use Rattle.node_core.proofs.Elsewhere.{host_at, same_links, turns_links}
-use Rattle.node_core.proofs.EndKinds.{acted_role}
 use Rattle.node_core.proofs.Settling.{settled_quiet}
 use Rattle.node_core.proofs.Sendables.{found_all}
 use Rattle.node_core.proofs.Between.{runs_reached}
-use Rattle.node_core.proofs.Unwritten.{acted_phase, put_down_phase}
 
 -- ## One end
 
@@ -39,48 +27,8 @@ record Opens (r : Role) (event : ActEvent) : Type 0 where
   opened : is_open (role_after r event) ≡ true
   stays : (act_answer r event).ended_link ≡ false
 
-ticked_never : (p : Phase) (last : Option Act) → (out_ticked p last).became_active ≡ true → ⊥
-ticked_never Inactive last is = true≢false (sym is)
-ticked_never Active last is = true≢false (sym is)
-ticked_never (Awaiting tries ticks) last is = by (nat_le 10 (ticks + 1)) (nat_le 3 tries) refl refl
-  where
-    by : (a b : Bool) → nat_le 10 (ticks + 1) ≡ a → nat_le 3 tries ≡ b → ⊥
-    by false b p q = let z : false ≡ true = rw p at is in true≢false (sym z)
-    by true false p q = let z : false ≡ true = rw (p, q) at is in true≢false (sym z)
-    by true true p q = let z : false ≡ true = rw (p, q) at is in true≢false (sym z)
-
 opens : (r : Role) (event : ActEvent) → (act_answer r event).became_active ≡ true → Opens r event
-opens Bare event is = absurd (true≢false (sym is))
-opens (Clf s) (ActStart value) is = absurd (true≢false (sym is))
-opens (Clf s) ActStop is = absurd (true≢false (sym is))
-opens (Clf s) ActTick is = absurd (ticked_never s.phase s.last is)
-opens (Clf s) (ActTake act true) is = absurd (true≢false (sym is))
-opens (Clf s) (ActTake (PowerMode code) false) is = absurd (true≢false (sym is))
-opens (Clf s) (ActTake (SyncId id) false) is = go s.phase refl
-  where
-    go : (p : Phase) → s.phase ≡ p → Opens (Clf s) (ActTake (SyncId id) false)
-    go Inactive q = absurd (let z : false ≡ true = rw q at is in true≢false (sym z))
-    go (Awaiting tries ticks) q = absurd (let z : false ≡ true = rw q at is in true≢false (sym z))
-    go Active q = absurd (let z : false ≡ true = rw q at is in true≢false (sym z))
-opens (Clf s) (ActTake Ready false) is = go s.phase refl
-  where
-    go : (p : Phase) → s.phase ≡ p → Opens (Clf s) (ActTake Ready false)
-    go Inactive q = absurd (let z : false ≡ true = rw q at is in true≢false (sym z))
-    go (Awaiting tries ticks) q = record { closed = rw q refl; opened = rw q refl; stays = rw q refl }
-    go Active q = absurd (let z : false ≡ true = rw q at is in true≢false (sym z))
-opens (Uicc s) (ActStart value) is = absurd (true≢false (sym is))
-opens (Uicc s) ActStop is = absurd (true≢false (sym is))
-opens (Uicc s) ActTick is = absurd (ticked_never s.phase s.last is)
-opens (Uicc s) (ActTake act true) is = absurd (true≢false (sym is))
-opens (Uicc s) (ActTake (SyncId id) false) is = absurd (true≢false (sym is))
-opens (Uicc s) (ActTake Ready false) is = absurd (true≢false (sym is))
-opens (Uicc s) (ActTake (PowerMode code) false) is = go (nat_le code 1) s.phase refl refl
-  where
-    go : (b : Bool) (p : Phase) → nat_le code 1 ≡ b → s.phase ≡ p → Opens (Uicc s) (ActTake (PowerMode code) false)
-    go false p z q = absurd (let x : false ≡ true = rw (z, act_answer) at is in true≢false (sym x))
-    go true Inactive z q = absurd (let x : false ≡ true = rw (z, q, act_answer) at is in true≢false (sym x))
-    go true (Awaiting tries ticks) z q = record { closed = rw q refl; opened = rw (z, q) refl; stays = rw (z, q, act_answer) refl }
-    go true Active z q = absurd (let x : false ≡ true = rw (z, q, act_answer) at is in true≢false (sym x))
+opens r event is = grind arith
 
 -- it is active, and its link is Down
 record IsReady (e : Machine) : Type 0 where
@@ -88,47 +36,10 @@ record IsReady (e : Machine) : Type 0 where
   phase : e.shdlc.phase ≡ Down
 
 ready_by : (e : Machine) (event : ActEvent) → Sound e → (act_answer e.role event).became_active ≡ true → IsReady (activated e event)
-ready_by e event is became =
-    let o = opens e.role event became in
-    let out = act_answer e.role event in
-    let f : Machine = record (put_down out.ended_link e) { role = role_after e.role event } in
-    record {
-      active = ap is_open (acted_role out.send f) ∙ o.opened;
-      phase = acted_phase out.send f ∙ put_down_phase out.ended_link e (is.closed o.closed).phase;
-    }
-
-none_became : {P : Type 0} → false ≡ true → P
-none_became is = absurd (true≢false (sym is))
+ready_by e event is became = grind arith
 
 ready_behind : (e : Machine) (i : LinkInput) → Sound e → (report e i).became_active ≡ true → IsReady (after_input e i)
-ready_behind e (Take (ActFrame act again)) is became = ready_by e (ActTake act again) is became
-ready_behind e (Take (I ns nr info)) is became = none_became became
-ready_behind e (Take (S kind nr)) is became = none_became became
-ready_behind e (Take (Rset window caps)) is became = none_became became
-ready_behind e (Take Ua) is became = none_became became
-ready_behind e (Take Clt) is became = none_became became
-ready_behind e TakeUnknown is became = none_became became
-ready_behind e (TakeBroken fault) is became = none_became became
-ready_behind e Tick is became = by (is_open e.role) refl
-  where
-    by : (b : Bool) → is_open e.role ≡ b → IsReady (after_input e Tick)
-    by true q = none_became (rw q at became)
-    by false q = let ticks : (act_answer e.role ActTick).became_active ≡ true = rw q at became in rw q (ready_by e ActTick is ticks)
-ready_behind e (Reset window) is became = none_became became
-ready_behind e (Start value) is became = never e.role became
-  where
-    never : (r : Role) → (act_answer r (ActStart value)).became_active ≡ true → IsReady (after_input e (Start value))
-    never Bare z = none_became z
-    never (Clf s) z = none_became z
-    never (Uicc s) z = none_became z
-ready_behind e Stop is became = never e.role became
-  where
-    never : (r : Role) → (act_answer r ActStop).became_active ≡ true → IsReady (after_input e Stop)
-    never Bare z = none_became z
-    never (Clf s) z = none_became z
-    never (Uicc s) z = none_became z
-ready_behind e (FromNode t) is became = none_became became
-ready_behind e Fetch is became = none_became became
+ready_behind e i is became = grind arith
 
 frames_phase : (n : ℕ) (s : EndState) → (after_frames n s).phase ≡ s.phase
 frames_phase zero s = refl
@@ -189,8 +100,7 @@ come_there h i (q ∷ ports) p is = by (q.desk.host == h) refl (come_there h i p
     by : (b : Bool) → (q.desk.host == h) ≡ b
         → (port_at ports h ≡ Some p → port_at (map (λ (x : Port). has_come x (input_at (AtEnd h i) x)) ports) h ≡ Some (has_come p (Some i)))
         → port_at (map (λ (x : Port). has_come x (input_at (AtEnd h i) x)) (q ∷ ports)) h ≡ Some (has_come p (Some i))
-    by true z later = let same : q ≡ p = (let there : Some q ≡ Some p = rw z at is in cc) in rw (z, z) (ap (λ (x : Port). Some (has_come x (Some i))) same)
-    by false z later = rw (z, z) (later (rw z at is))
+    by b z later = grind arith
 
 links_at : (a b : List Port) (h : ℕ) → map link_at a ≡ map link_at b → option_map link_at (port_at a h) ≡ option_map link_at (port_at b h)
 links_at a b h same =

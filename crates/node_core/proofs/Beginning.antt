@@ -1,13 +1,12 @@
 -- A node that has booted runs.
-use Rattle.std.proofs.Common.{◌≡◌, ◌≢◌, ℕ, zero, suc, ◌+◌, ◌≤◌, List, [], ◌∷◌, map, length, refl, sym, ap, subst, arith}
-use Rattle.std.specs.Prelude.{◌==◌, false, None, IsTrue}
+use Rattle.std.proofs.Common.{◌≡◌, ℕ, zero, suc, ◌+◌, ◌≤◌, List, [], ◌∷◌, map, length, refl, sym, ap, subst, arith}
+use Rattle.std.specs.Prelude.{None, IsTrue}
 use Rattle.std.specs.List.{AllByRecursion}
-use Rattle.std.proofs.lemmas.Bool.{ne_eqb}
 use Rattle.link_laws.specs.messages.Links.{IsClf}
-use Rattle.node_core.proofs.Words.{AreAtMostDue, AreHeldWhileOneWaits, AreInTime, AreOfHosts, EndsStandFor, HasOwnLink, IsUicc, IsUsable, Node, Port, RunsAs}
-use Rattle.node_core.proofs.Words.{between, has, hosts_linked, init_running}
+use Rattle.node_core.proofs.Words.{AreAtMostDue, AreHeldWhileOneWaits, AreInTime, AreOfHosts, EndsStandFor, HasOwnLink, IsUsable, Node, Port, RunsAs, between}
+use Rattle.node_core.proofs.Words.{has, hosts_linked, init_running}
 use Rattle.swp_base.specs.declared.link_terms.Role.{Role as Named}
-use Rattle.swp_base.specs.declared.link_terms.Role.TheVariants.{Bare, Clf, Uicc}
+use Rattle.swp_base.specs.declared.link_terms.Role.TheVariants.{Clf, Uicc}
 use Rattle.node_ends.specs.Making.{new_port}
 use Rattle.gate_admin.specs.View.{hosts_where}
 use Rattle.node_core.specs.Booting.{role_at}
@@ -24,9 +23,7 @@ pub record BeginsAs {N : Type 0} (number : ℕ) (role : Named) (hosts : List ℕ
   pub init : n.tasks.init ≡ None
 
 one_few : (role : Named) (h : ℕ) → length (new_port role h).side.acts + length (new_port role h).side.shdlc.due ≤ 5
-one_few Bare h = omega arith
-one_few Clf h = omega arith
-one_few Uicc h = omega arith
+one_few role h = grind arith
 
 new_few : (role : Named) (hosts : List ℕ) → AreAtMostDue 5 (map (new_port role) hosts)
 new_few role [] = tt
@@ -48,16 +45,9 @@ new_clfs : (hosts : List ℕ) → AllByRecursion (λ (p : Port). IsClf p.side.ro
 new_clfs [] = tt
 new_clfs (h ∷ hosts) = (tt, new_clfs hosts)
 
-new_uiccs : (hosts : List ℕ) → AllByRecursion (λ (p : Port). IsUicc p.side.role) (map (new_port Uicc) hosts)
-new_uiccs [] = tt
-new_uiccs (h ∷ hosts) = (tt, new_uiccs hosts)
-
 -- the new ends of a controller, and those of a host
 clf_roles : (node : ℕ) (hosts : List ℕ) → node ≡ 0 → HaveOwnRoles node (map (new_port Clf) hosts)
 clf_roles node hosts none = record { clf = λ zero. new_clfs hosts; uicc = λ some. absurd (some none) }
-
-uicc_roles : (node : ℕ) (hosts : List ℕ) → node ≢ 0 → HaveOwnRoles node (map (new_port Uicc) hosts)
-uicc_roles node hosts some = record { clf = λ zero. absurd (some zero); uicc = λ other. new_uiccs hosts }
 
 -- a node with new ends, whose links are in order
 new_runs : {N : Type 0} (n : Node N) (number : ℕ) (role : Named) (hosts : List ℕ) → BeginsAs number role hosts n → IsUsable n.store
@@ -77,9 +67,6 @@ new_runs n number role hosts b usable of own roles =
       held = new_held role hosts;
     }
 
-some_number : (k : ℕ) → (suc k == 0) ≡ false
-some_number k = ne_eqb (suc k) 0 (λ e. omega (arith, e))
-
 -- the controller with links to the hosts of a mask, or a host with the link of its number
 pub linked_runs : {N : Type 0} (n : Node N) (number mask : ℕ) → number ≤ 7 → BeginsAs number (role_at number) (hosts_linked number mask) n
     → IsUsable n.store → RunsAs n (core_kept n) (map (new_port (role_at number)) (hosts_linked number mask))
@@ -87,18 +74,11 @@ linked_runs n zero mask low b usable =
     let hosts : List ℕ = hosts_where (has mask) in
     new_runs n 0 Clf hosts b usable (links_within Clf hosts (hosts_within (has mask))) (λ some. absurd (some b.number_is))
     (clf_roles n.number hosts b.number_is)
-linked_runs n (suc k) mask low b usable =
-    let none = some_number k in
-    let begins = rw none at b in
-    let same = begins.number_is in
-    rw (none) (new_runs n (suc k) Uicc (suc k ∷ []) begins usable ((omega arith, low), tt) (λ some. ap (λ (h : ℕ). h ∷ []) (sym same))
-    (uicc_roles n.number (suc k ∷ []) (λ zero. omega (arith, same, zero))))
+linked_runs n (suc k) mask low b usable = grind arith
 
 -- a host has the link of its number
 pub host_role : (h : ℕ) → 1 ≤ h → role_at h ≡ Uicc
-host_role zero some = absurd (omega (arith, some))
-host_role (suc k) some = rw (some_number k) refl
+host_role h some = grind arith
 
 pub host_linked : (h mask : ℕ) → 1 ≤ h → hosts_linked h mask ≡ h ∷ []
-host_linked zero mask some = absurd (omega (arith, some))
-host_linked (suc k) mask some = rw (some_number k) refl
+host_linked h mask some = grind arith

@@ -1,12 +1,8 @@
 -- A step of a node that runs: what it may begin with, and that the node runs behind it.
 use Rattle.std.proofs.Common.{◌≡◌, ℕ, ◌≤◌, Bool, true, false, List, [], ◌∷◌, map, refl, sym, ap, ◌∙◌, subst, arith}
-use Rattle.std.specs.Prelude.{Option, Some, None, ◌==◌}
-use Rattle.std.proofs.lemmas.Bool.Decides.{nat_tests}
-use Rattle.swp_act.specs.declared.ActEvent.TheVariants.{Start as ActStart}
+use Rattle.std.specs.Prelude.{Option, None, ◌==◌}
 use Rattle.node_core.proofs.Words.{AreAtMostDue, AreHeldWhileOneWaits, AreInTime, AreYoung, BeginsStep, Brings, EndsStandFor, Entry, Foretells, HasStepped}
-use Rattle.node_core.proofs.Words.{IsInStep, IsNodeInOrder, IsUsable, Node, NodeInput, Port, Role, Stored, WereMade, Work, between, plan_left, port_at, steps}
-use Rattle.link_laws.specs.machine.Machine.Role.{Bare, Clf, Uicc}
-use Rattle.link_end.specs.Roles.{MayStart}
+use Rattle.node_core.proofs.Words.{IsInStep, IsNodeInOrder, IsUsable, Node, NodeInput, Port, Stored, WereMade, Work, between, plan_left, port_at, steps}
 use Rattle.node_ends.specs.Ends.{IsHeldWhileOneWaits, MayStartAt}
 use Rattle.node_core.proofs.Elsewhere.{hosts_differ}
 use Rattle.node_core.proofs.Staying.{steps_fine}
@@ -32,15 +28,8 @@ held_here h (p ∷ ports) held = by (held_here h ports held.1) (p.desk.host == h
     by later true q = rw q held.0
     by later false q = rw q later
 
--- low or full power
-power_starts : (r : Role) (value : ℕ) → value ≤ 1 → MayStart r (ActStart value)
-power_starts Bare value low = tt
-power_starts (Clf s) value low = grind (arith, nat_tests)
-power_starts (Uicc s) value low = tt
-
 pub power_may_start : (value : ℕ) (o : Option Port) → value ≤ 1 → MayStartAt value o
-power_may_start value None low = tt
-power_may_start value (Some p) low = power_starts p.side.role value low
+power_may_start value o low = grind arith
 
 -- ## What it brings
 

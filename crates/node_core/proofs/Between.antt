@@ -1,12 +1,11 @@
 -- A node between its steps: what is kept of its ends then, and that all its frames go out one by one.
-use Rattle.std.proofs.Common.{◌≡◌, ℕ, zero, suc, ◌+◌, ◌≤◌, Bool, true, false, not, List, []}
-use Rattle.std.proofs.Common.{◌∷◌, ◌++◌, map, length, refl, sym, ap, ap₂, ◌∙◌, subst, arith, append-nil}
+use Rattle.std.proofs.Common.{◌≡◌, ℕ, ◌+◌, ◌≤◌, Bool, true, false, not, List, [], ◌∷◌, ◌++◌, map, length, refl, sym, ap, ap₂, ◌∙◌, subst, arith, append-nil}
 use Rattle.std.specs.Prelude.{Option, Some, None, option_map, slice_get, ◌==◌, ◌&&◌, IsTrue}
 use Rattle.std.specs.List.{AllByRecursion}
 use Rattle.std.proofs.lemmas.List.{length-map}
 use Rattle.node_core.proofs.Words.{AreAllDifferent, AreAtMostDue, AreHeldWhileOneWaits, AreInTime, BeginsStep, Control, Core, EndsStandFor, Entry, HasNoneEnded}
 use Rattle.node_core.proofs.Words.{HasStepped, IsInStep, IsNodeInOrder, IsReached, IsUsable, KeptEnds, Node, PoolState, Port, RunsAs, Seat, SeatsStandFor}
-use Rattle.node_core.proofs.Words.{Stored, Tasks, Work, at_place, between, changed_if, due_count, has_sent, init_running, port_at, with_port}
+use Rattle.node_core.proofs.Words.{Stored, Work, at_place, between, changed_if, due_count, has_sent, port_at, with_port}
 use Rattle.shdlc_core.specs.declared.answers.Due.{Due}
 use Rattle.shdlc_core.specs.Machine.{all_frames, fetched, fragment_due, Fragment}
 use Rattle.link_laws.specs.machine.Machine.{LinkEnd as Machine, ActDue, among, next_frame, frame_fetched, frames_out, sent_all, nearer}
@@ -14,7 +13,6 @@ use Rattle.link_laws.specs.machine.AtRest.{end_rests}
 use Rattle.link_laws.specs.machine.Laws.{fetches, after_fetches, most_fetches}
 use Rattle.link_laws.proofs.machine.Reports.{fetched_all, left_all}
 use Rattle.link_laws.proofs.places.Joined.{idle_after, left}
-use Rattle.node_machine.specs.Parts.{Desk as DeskOf}
 use Rattle.node_machine.specs.Node.{with_error}
 use Rattle.node_ends.specs.Ends.{SeatStandsFor, IsHeldWhileOneWaits, frame_at, are_at_rest}
 use Rattle.node_ends.specs.Desks.{age_at}
@@ -35,29 +33,11 @@ abbrev pub begun : Port → Port
 begun p = record p { late = false; ended = false; turns = [] }
 
 seat_kept : {pool : PoolState} {s : Seat} (p : Port) → SeatStandsFor pool s (begun p) → SeatStandsFor pool s (between p)
-seat_kept p k = record {
-  holds = k.holds;
-  desk = k.desk;
-  late = k.late;
-  ended = k.ended;
-  reached = k.reached;
-  acked = k.acked;
-  aside = k.aside;
-  sound = k.sound;
-}
+seat_kept p k = grind arith
 
 seat_back : {pool : PoolState} {s : Seat} {p : Port} → SeatStandsFor pool s (between p) → p.late ≡ false → p.ended ≡ false
     → SeatStandsFor pool s p
-seat_back k late ended = record {
-  holds = k.holds;
-  desk = k.desk;
-  late = k.late ∙ sym late;
-  ended = k.ended ∙ sym ended;
-  reached = k.reached;
-  acked = k.acked;
-  aside = k.aside;
-  sound = k.sound;
-}
+seat_back k late ended = grind arith
 
 seats_kept : (pool : PoolState) (seats : List Seat) (ports : List Port) → SeatsStandFor pool seats (map begun ports)
     → SeatsStandFor pool seats (map between ports)
@@ -99,8 +79,7 @@ kept_with h f same [] = refl
 kept_with h f same (p ∷ ports) = ap₂ (λ (q : Port) qs. q ∷ qs) (one (p.desk.host == h)) (kept_with h f same ports)
   where
     one : (b : Bool) → between (changed_if b f p) ≡ changed_if b f (between p)
-    one true = same p
-    one false = refl
+    one b = grind arith
 
 -- ## What is so of them
 
@@ -128,12 +107,7 @@ usable_with {N} same is = let P : Stored N → Type 0 = λ s. IsUsable s in subs
 
 pub core_with : {N : Type 0} {n n2 : Node N} {core : Core} → n2.store ≡ n.store → n2.tasks ≡ n.tasks → CoreStandsFor n core
     → CoreStandsFor n2 core
-core_with {N} store tasks k = record {
-  journal = k.journal ∙ ap (λ (s : Stored N). s.journal.state) (sym store);
-  tables = k.tables ∙ ap (λ (s : Stored N). s.tables) (sym store);
-  command = k.command ∙ ap (λ (t : Tasks). t.command) (sym tasks);
-  init = k.init ∙ ap (λ (t : Tasks). init_running t.init) (sym tasks);
-}
+core_with store tasks k = grind arith
 
 -- a node runs, whose ends rest
 pub runs_so : {N : Type 0} {n : Node N} {core : Core} (k : ℕ) (ports : List Port) → k ≤ 4 → IsUsable n.store → IsTrue n.store.journal.live
@@ -154,8 +128,7 @@ runs_so k ports less usable live number stands ends order all = record {
 -- ## Frames
 
 no_frames : (n : ℕ) (e : Machine) → next_frame e ≡ None → fetches n e ≡ []
-no_frames zero e none = refl
-no_frames (suc n) e none = rw none refl
+no_frames n e none = grind arith
 
 never_none : (xs : List Control) (y : Control) (ys : List Control) → xs ++ y ∷ ys ≡ [] → ⊥
 never_none [] y ys is = cc
@@ -203,11 +176,7 @@ few_due p few = omega (arith, few)
 -- at most nine frames wait at an end of a node that runs
 few_of_seat : {pool : PoolState} {s : Seat} (p : Port) → SeatStandsFor pool s (between p) → length p.side.acts + length p.side.shdlc.due ≤ 5
     → length p.side.acts + left p.side.shdlc ≤ 9
-few_of_seat p k few =
-    let link = k.holds.stands.halfway.link in
-    let next = link.kept.sender.next in
-    let narrow = link.narrow.session in
-    omega (arith, few, next, narrow)
+few_of_seat p k few = grind arith
 
 pub few_wait : {N : Type 0} {n : Node N} {core : Core} {ports : List Port} → RunsAs n core ports
     → AllByRecursion (λ (p : Port). length p.side.acts + left p.side.shdlc ≤ 9) ports
@@ -251,13 +220,7 @@ sent_due e = go e.acts refl e.shdlc.due refl (fragment_due e.shdlc.session) refl
     Less = (due_count (frame_fetched e) ≤ due_count e) × ((frame_fetched e).shdlc.ready ≡ e.shdlc.ready)
 
     fetched_less : (length (fetched e.shdlc).due ≤ length e.shdlc.due) × ((fetched e.shdlc).ready ≡ e.shdlc.ready)
-    fetched_less = by e.shdlc.due refl (fragment_due e.shdlc.session) refl
-      where
-        by : (due : List Due) → e.shdlc.due ≡ due → (o : Option Fragment) → fragment_due e.shdlc.session ≡ o
-            → (length (fetched e.shdlc).due ≤ length e.shdlc.due) × ((fetched e.shdlc).ready ≡ e.shdlc.ready)
-        by [] q None r = rw (q, r) (omega (arith, q), refl)
-        by [] q (Some info) r = rw (q, r) (omega (arith, q), refl)
-        by (d ∷ ds) q o r = rw q (omega arith, refl)
+    fetched_less = grind arith
 
     go : (acts : List ActDue) → e.acts ≡ acts → (due : List Due) → e.shdlc.due ≡ due → (o : Option Fragment) → fragment_due e.shdlc.session ≡ o
         → Less
@@ -330,8 +293,7 @@ has_stepped {N} {n} {n2} {w = w} u ends store number tasks usable order rest =
     }
   where
     alive : (b : Bool) → not b ≡ false → b ≡ true
-    alive true q = refl
-    alive false q = cc
+    alive b q = grind arith
 
 -- ## Refused frames
 
@@ -341,8 +303,7 @@ error_desks h (p ∷ ports) = by (error_desks h ports) (p.desk.host == h) refl
   where
     by : map (λ (p : Port). p.desk) (with_port h one_more_error ports) ≡ with_error h (map (λ (p : Port). p.desk) ports) → (b : Bool)
         → (p.desk.host == h) ≡ b → map (λ (p : Port). p.desk) (with_port h one_more_error (p ∷ ports)) ≡ with_error h (map (λ (p : Port). p.desk) (p ∷ ports))
-    by later true q = rw q (ap (λ (ds : List DeskOf). (one_more_error p).desk ∷ ds) later)
-    by later false q = rw q (ap (λ (ds : List DeskOf). p.desk ∷ ds) later)
+    by later b q = grind arith
 
 error_seen : (k : ℕ) (p : Port) → Of (Rests k) p → Of (Rests k) (one_more_error p)
 error_seen k p is = is
@@ -395,12 +356,10 @@ kept_at h (p ∷ ports) = by (p.desk.host == h) refl (kept_at h ports)
   where
     by : (b : Bool) → (p.desk.host == h) ≡ b → port_at (map between ports) h ≡ option_map between (port_at ports h)
         → port_at (map between (p ∷ ports)) h ≡ option_map between (port_at (p ∷ ports) h)
-    by true q later = rw q refl
-    by false q later = rw q later
+    by b q later = grind arith
 
 kept_frame : (o : Option Port) → frame_at (option_map between o) ≡ frame_at o
-kept_frame None = refl
-kept_frame (Some p) = refl
+kept_frame o = grind arith
 
 pub kept_frame_at : (h : ℕ) (ports : List Port) → frame_at (port_at (map between ports) h) ≡ frame_at (port_at ports h)
 kept_frame_at h ports = ap frame_at (kept_at h ports) ∙ kept_frame (port_at ports h)

@@ -1,6 +1,6 @@
 -- What begins a step of a node.
 use Rattle.std.proofs.Common.{◌≡◌, ℕ, ◌≤◌, true, List, [], ◌∷◌, map, refl, sym, ap, subst, arith}
-use Rattle.std.specs.Prelude.{Option, Some, None, option_map, IfSome, Result, Ok, Err, OnErr}
+use Rattle.std.specs.Prelude.{Option, Some, option_map, IfSome, Result, Err, OnErr}
 use Rattle.std.specs.List.{flat_map}
 use Rattle.std.specs.Option.{option_map_or}
 use Rattle.node_core.proofs.Words.{AreAllDifferent, AreAtMostDue, AreFewDue, AreOfHosts, AtEnd, Core, HasNoneEnded, IsNodeInOrder, LinkInput, NodeInput, Plan}
@@ -15,8 +15,6 @@ use Rattle.node_core.specs.declared.inputs.NodeInput.TheVariants.{At, Tick}
 use Rattle.node_ends.specs.Inputs.{frame_said, MayComeAt, refusal_at}
 use Rattle.node_core.specs.Inputs.{input_of_node, MayComeToNode, refusal_by, sync_by}
 use Rattle.node_core.proofs.Elsewhere.{host_at}
-use Rattle.node_core.proofs.Arriving.{lpdu_outside}
-use Rattle.node_core.proofs.Lateness.{reset_silent}
 use Rattle.node_core.proofs.Refusing.{refused_is, refused_stays, tick_synced, late_few}
 use Rattle.node_core.proofs.Resting.{MakesOneMore, MakeOneMore}
 use Rattle.node_core.proofs.Staying.{come_order, late_order}
@@ -28,11 +26,7 @@ use Rattle.node_core.proofs.SeenAsNode.{kept_refusal}
 
 -- it comes from outside of the node
 pub end_outside : (what : ToEnd) (o : Option Port) → MayComeAt what o → is_outside (input_of_end what) ≡ true
-end_outside (Frame read) o may =
-    let P : LinkInput → Type 0 = λ i. is_outside i ≡ true in subst P (ap frame_said (sym may.1)) (lpdu_outside may.0)
-end_outside (Reset window) o may = refl
-end_outside (Start value) o may = refl
-end_outside Stop o may = refl
+end_outside what o may = grind arith
 
 -- it makes at most one more control frame
 end_more : (what : ToEnd) (o : Option Port) → MayComeAt what o → MakesOneMore (input_of_end what)
@@ -47,11 +41,7 @@ node_more (At host what) ports may = end_more what (port_at ports host) may
 node_more Tick ports may = tt
 
 kept_may_at : (what : ToEnd) (o : Option Port) → MayComeAt what o → MayComeAt what (option_map between o)
-kept_may_at (Frame read) o may = may
-kept_may_at (Reset window) o may = may
-kept_may_at (Start value) None may = tt
-kept_may_at (Start value) (Some p) may = may
-kept_may_at Stop o may = tt
+kept_may_at what o may = grind arith
 
 -- what isn't kept of an end says nothing of it
 pub kept_may : (input : ToNode) (ports : List Port) → MayComeToNode input ports → MayComeToNode input (map between ports)
@@ -71,15 +61,11 @@ kept_refused Tick ports = refl
 -- of what is refused nothing is noted
 pub silent_refused : (core : Core) (ports : List Port) (h : ℕ) (what : ToEnd) (why : ResetRefused) → refusal_at what (port_at ports h) ≡ Some why
     → option_map_or (λ (p : Port). told_at core p (Some (input_of_end what))) (port_at ports h) [] ≡ []
-silent_refused core ports h (Frame read) why is = cc
-silent_refused core ports h (Reset window) why is = reset_silent core ports h window why (refused_is window (port_at ports h) why is)
-silent_refused core ports h (Start value) why is = cc
-silent_refused core ports h Stop why is = cc
+silent_refused core ports h what why is = grind arith
 
 -- so it is where that was answered
 pub where_refused : {X Y Q : Type 0} (r : Result X Y) → ((why : Y) → r ≡ Err why → Q) → OnErr r Q
-where_refused (Ok x) so = tt
-where_refused (Err why) so = so why refl
+where_refused r so = grind arith
 
 -- it leaves a step as it was
 pub refused_same : (input : ToNode) (why : ResetRefused) (w : Work) → AreAllDifferent (map host_at w.ports) → HasNoneEnded w.ports
@@ -121,9 +107,7 @@ came_few TimePasses more w few = late_few w.ports few
 
 pub came_planned : (input : NodeInput) (w : Work) (plan : Option Plan)
     → times_out input (all_come input (record w { plan = plan })) ≡ record (times_out input (all_come input w)) { plan = plan }
-came_planned (AtEnd h i) w plan = refl
-came_planned TimePasses w plan = refl
+came_planned input w plan = grind arith
 
 pub came_written : (input : NodeInput) (w : Work) → (times_out input (all_come input w)).writes ≡ w.writes
-came_written (AtEnd h i) w = refl
-came_written TimePasses w = refl
+came_written input w = grind arith

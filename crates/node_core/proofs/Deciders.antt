@@ -1,10 +1,10 @@
 -- What a node looks at as it decides.
-use Rattle.std.proofs.Common.{◌≡◌, ◌≢◌, ℕ, ◌≤◌, Bool, true, false, not, List, [], ◌∷◌, map, refl, sym, ap, ap₂, ◌∙◌, subst}
+use Rattle.std.proofs.Common.{◌≡◌, ◌≢◌, ℕ, ◌≤◌, Bool, true, not, List, [], ◌∷◌, map, refl, sym, ap, ◌∙◌, arith}
 use Rattle.std.specs.Prelude.{Option, Some, None, option_map, slice_get, ◌==◌}
 use Rattle.std.specs.Option.{option_map_or}
-use Rattle.std.proofs.lemmas.Bool.{eqb-true, eq-eqb}
-use Rattle.node_core.proofs.Words.{AreOfHosts, Desk, Entry, Handling, HasOwnLink, Init, IsInStep, IsNodeInOrder, Message, Node, Port, Work, got_at, handling}
-use Rattle.node_core.proofs.Words.{has_link, init_running, is_up, port_at}
+use Rattle.std.proofs.lemmas.Bool.{eq-eqb}
+use Rattle.node_core.proofs.Words.{AreOfHosts, Desk, Entry, HasOwnLink, IsInStep, IsNodeInOrder, Message, Node, Port, Work, got_at, handling, has_link}
+use Rattle.node_core.proofs.Words.{init_running, is_up, port_at}
 use Rattle.node_machine.specs.Parts.{Desk as DeskOf}
 use Rattle.node_deeds.specs.Shown.{desk_shown}
 use Rattle.node_deeds.specs.Cores.{handled}
@@ -14,10 +14,7 @@ use Rattle.node_deeds.specs.Hosts.{IsHostAt}
 
 -- a controller handles a message while no init runs
 pub handled_idle : {N : Type 0} (n : Node N) (m : Message) → n.number ≡ 0 → init_running n.tasks.init ≡ None → handling n m ≡ handled m.0 m.1
-handled_idle n m number none = ap₂ (λ (k : ℕ) (o : Option Init). as_handled k o) number none
-  where
-    as_handled : ℕ → Option Init → Handling
-    as_handled k o = record { node = k; init = o; message = m }
+handled_idle n m number none = grind arith
 
 -- ## Hosts
 
@@ -25,12 +22,7 @@ handled_idle n m number none = ap₂ (λ (k : ℕ) (o : Option Init). as_handled
 one_port : (node : ℕ) (ports : List Port) (h : ℕ) (p : Port) → map (λ (q : Port). q.desk.host) ports ≡ node ∷ [] → port_at ports h ≡ Some p → h ≡ node
 one_port node [] h p own at = cc
 one_port node (q ∷ r ∷ ports) h p own at = cc
-one_port node (q ∷ []) h p own at =
-    let first : q.desk.host ≡ node = cc in by (q.desk.host == h) refl first
-  where
-    by : (b : Bool) → (q.desk.host == h) ≡ b → q.desk.host ≡ node → h ≡ node
-    by true e first = sym (eqb-true q.desk.host h e) ∙ first
-    by false e first = (let none : None ≡ Some p = rw e at at in cc)
+one_port node (q ∷ []) h p own at = grind arith
 
 -- where a message waits, the end is that of a host's own link
 pub own_host : (w : Work) (h : ℕ) {m : Message} {ms : List Message} → w.core.node ≢ 0 → HasOwnLink w.core.node w.ports → got_at w.ports h ≡ m ∷ ms
@@ -61,10 +53,7 @@ pub record LooksAt {N : Type 0} (n : Node N) (d : Desk) (up : Bool) (w : Work) :
 
 desk_is : (p : Port) (d : Desk) (ports : List Port) → ports ≡ p ∷ [] → Some (desk_shown d) ≡ option_map (λ (q : Port). q.desk) (slice_get ports 0)
     → p.desk ≡ desk_shown d
-desk_is p d ports is shown =
-    let one : Some (desk_shown d) ≡ Some p.desk = shown ∙ ap (λ (l : List Port). option_map (λ (q : Port). q.desk) (slice_get l 0)) is in
-    let same : desk_shown d ≡ p.desk = cc in
-    sym same
+desk_is p d ports is shown = grind arith
 
 pub found_one : (node : ℕ) (p : Port) → p.desk.host ≡ node → port_at (p ∷ []) node ≡ Some p
 found_one node p host = let e : (p.desk.host == node) ≡ true = eq-eqb p.desk.host node host in rw e refl
@@ -79,20 +68,8 @@ looks_at {n = n} {w = w} d up u live some order shown linked =
     let host : o.port.desk.host ≡ n.number = o.host ∙ u.node in
     let own : d.host ≡ n.number = ap (λ (x : DeskOf). x.host) (sym desk) ∙ host in
     let at : port_at w.ports n.number ≡ Some o.port = ap (λ (l : List Port). port_at l n.number) o.ports_are ∙ found_one n.number o.port host in
-    let is_up : up ≡ is_up o.port.side.shdlc.phase = linked ∙ (ap (has_link w.ports) own
-    ∙ ap (λ (q : Option Port). option_map_or (λ (p : Port). is_up p.side.shdlc.phase) q false) at) in
-    record {
-      port = o.port;
-      at = at;
-      is = record {
-        node = u.node ∙ sym own;
-        kept = record { journal = k.journal; tables = k.tables };
-        command = k.command;
-        init = k.init;
-        seen = ap₂ (λ (x : DeskOf) (b : Bool). (x, b)) desk (sym is_up);
-      };
-      host = own;
-    }
+    let is_up : up ≡ is_up o.port.side.shdlc.phase = linked ∙ (grind arith) in
+    grind arith
 
 -- there is an end of it
 pub some_desk : {N : Type 0} {n : Node N} {noted start : List Entry} {short : Bool} {w : Work} → IsInStep n noted short start w
@@ -105,7 +82,4 @@ some_desk {w = w} u some order none =
 pub own_number : (d : Desk) (ports : List Port) → AreOfHosts ports → Some (desk_shown d) ≡ option_map (λ (q : Port). q.desk) (slice_get ports 0)
     → (1 ≤ d.host) × (d.host ≤ 7)
 own_number d [] hosts shown = cc
-own_number d (p ∷ ports) hosts shown =
-    let same : desk_shown d ≡ p.desk = cc in
-    let P : ℕ → Type 0 = λ n. (1 ≤ n) × (n ≤ 7) in
-    subst P (sym (ap (λ (x : DeskOf). x.host) same)) hosts.0
+own_number d (p ∷ ports) hosts shown = grind arith

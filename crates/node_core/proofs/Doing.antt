@@ -1,22 +1,19 @@
 -- One deed, as it is done and as it is noted.
-use Rattle.std.proofs.Common.{◌≡◌, ◌≢◌, ℕ, Bool, true, false, not, List, [], ◌∷◌, ◌++◌, map, length, refl, sym, ap, ◌∙◌, subst, append_assoc, append-nil}
+use Rattle.std.proofs.Common.{◌≡◌, ◌≢◌, ℕ, Bool, true, false, not, List, [], ◌∷◌, ◌++◌, map, refl, sym, ap, ◌∙◌, subst, append_assoc, append-nil, arith}
 use Rattle.std.specs.Prelude.{Option, Some, None, is_none, is_ok, ◌==◌, ◌⊎◌, Result, Ok, Err}
-use Rattle.std.proofs.Common.{inl, inr}
 use Rattle.nv_journal.specs.declared.JournalFault.{JournalFault}
 use Rattle.nv_journal.specs.declared.JournalFault.TheVariants.{NvFault, GenerationsSpent}
 use Rattle.std.specs.Option.{option_map_or}
-use Rattle.std.proofs.lemmas.Bool.{true≢false, eqb-true}
-use Rattle.node_core.proofs.Words.{AreMade, Brings, Command, Core, End, EndsStandFor, Entry, Foretells, Give, IsInStep, KeptEnds, Message, Node, Port, Refused}
-use Rattle.node_core.proofs.Words.{Stored, WereMade, Work, Write, after_turn, body_of, commit_writes, end_of_node, fails_within, give_refusal, noted_of, noting}
-use Rattle.node_core.proofs.Words.{plan_behind, plan_left, port_at, takes_at, turn_at, unnumbered, with_port}
+use Rattle.std.proofs.lemmas.Bool.{true≢false}
+use Rattle.node_core.proofs.Words.{AreMade, Brings, Command, Core, End, EndsStandFor, Entry, Give, IsInStep, KeptEnds, Message, Node, Port, Refused, Stored}
+use Rattle.node_core.proofs.Words.{WereMade, Work, Write, after_turn, body_of, commit_writes, end_of_node, give_refusal, noted_of, noting, port_at, takes_at}
+use Rattle.node_core.proofs.Words.{turn_at, unnumbered, with_port}
 use Rattle.trace_model.specs.declared.entry.Entry.TheVariants as entry
 use Rattle.journal_laws.specs.declared.state.State.{State}
 use Rattle.hci_tables.specs.Tables.{apply}
 use Rattle.hci_store.specs.Committing.{record_fits, committed}
-use Rattle.node_machine.specs.Carrying.{commit, keeps, loses_power}
-use Rattle.node_machine.specs.Carrying.{has_room_for}
+use Rattle.node_machine.specs.Carrying.{commit, keeps, loses_power, has_room_for}
 use Rattle.link_end.specs.declared.report.SendRefused.{SendRefused}
-use Rattle.link_end.specs.Reports.{by_refusal_told}
 use Rattle.node_ends.specs.Ends.{given_at}
 use Rattle.node_core.specs.Nodes.{CoreStandsFor}
 
@@ -45,11 +42,7 @@ host_at h [] p is = cc
 host_at h (q ∷ ports) p is = by (host_at h ports p) (q.desk.host == h) refl
   where
     by : (port_at ports h ≡ Some p → p.desk.host ≡ h) → (b : Bool) → (q.desk.host == h) ≡ b → p.desk.host ≡ h
-    by later true e =
-        let first : Some q ≡ Some p = rw e at is in
-        let same : q ≡ p = cc in
-        ap (λ (x : Port). x.desk.host) (sym same) ∙ eqb-true q.desk.host h e
-    by later false e = later (rw e at is)
+    by later b e = grind arith
 
 -- what is noted of a message that an end takes for sending
 pub record IsSent (core : Core) (h : ℕ) (m : Message) (notes : List Entry) : Type 0 where
@@ -79,8 +72,7 @@ pub sent_under_way : {N : Type 0} {n : Node N} {ends : KeptEnds} {noted now star
     → IsInStep (record n { ends = ends }) now short start (turn_at h (Give m) w)
 sent_under_way {n = n} {noted = noted} {now = now} {start = start} {w = w} {at = at} m h u stands takes stays more is =
     let s = sent_noted w.core h m w.ports takes in
-    let at_is : noted ++ entry.Sent at 0 m.0 m.1 ∷ [] ≡ noted ++ entry.Sent (end_of_node w.core h) 0 m.0 m.1 ∷ [] =
-    ap (λ (e : End). noted ++ entry.Sent e 0 m.0 m.1 ∷ []) is in
+    let at_is : noted ++ entry.Sent at 0 m.0 m.1 ∷ [] ≡ noted ++ entry.Sent (end_of_node w.core h) 0 m.0 m.1 ∷ [] = grind arith in
     record {
       node = u.node;
       core = λ live. (let k = u.core live in record { journal = k.journal; tables = k.tables; command = k.command; init = k.init });
@@ -94,16 +86,7 @@ sent_under_way {n = n} {noted = noted} {now = now} {start = start} {w = w} {at =
 -- nothing is noted of a message that an end doesn't take
 pub none_noted : (core : Core) (h : ℕ) (m : Message) (ports : List Port) → false ≡ takes_at m (port_at ports h)
     → option_map_or (noted_of core (Give m)) (port_at ports h) [] ≡ []
-none_noted core h m ports refuses = by (port_at ports h) refl
-  where
-    by_refusal : (p : Port) → port_at ports h ≡ Some p → (o : Option Refused) → give_refusal p.side m ≡ o
-        → option_map_or (noted_of core (Give m)) (port_at ports h) [] ≡ []
-    by_refusal p at None q = absurd (true≢false (sym (refuses ∙ (ap (takes_at m) at ∙ ap (λ o. is_none o) q))))
-    by_refusal p at (Some why) q = rw (at, q) refl
-
-    by : (o : Option Port) → port_at ports h ≡ o → option_map_or (noted_of core (Give m)) (port_at ports h) [] ≡ []
-    by None at = rw at refl
-    by (Some p) at = by_refusal p at (give_refusal p.side m) refl
+none_noted core h m ports refuses = grind arith
 
 -- a message was refused, and nothing noted
 pub refused_under_way : {N : Type 0} {n : Node N} {ends : KeptEnds} {noted start : List Entry} {was : Bool} {w : Work} (m : Message) (h : ℕ)
@@ -122,20 +105,10 @@ refused_under_way {start = start} {w = w} m h u stands refuses = record {
 
 -- whether an end takes a message, by what it tells
 pub told_taken : (m : Message) (port : Option Port) → Ok tt ≡ given_at m port → true ≡ takes_at m port
-told_taken m None is = cc
-told_taken m (Some p) is = by (give_refusal p.side m) is
-  where
-    by : (o : Option Refused) → Ok tt ≡ by_refusal_told o → true ≡ is_none o
-    by None e = refl
-    by (Some why) e = cc
+told_taken m port is = grind arith
 
 pub told_refused : (m : Message) (port : Option Port) (why : SendRefused) → Err why ≡ given_at m port → false ≡ takes_at m port
-told_refused m None why is = refl
-told_refused m (Some p) why is = by (give_refusal p.side m) is
-  where
-    by : (o : Option Refused) → Err why ≡ by_refusal_told o → false ≡ is_none o
-    by None e = cc
-    by (Some because) e = refl
+told_refused m port why is = grind arith
 
 -- ## Commits
 
@@ -147,14 +120,12 @@ pub made_ok : (P : Bool → Type 0) (r : Result (Unit {0}) JournalFault) → r �
 made_ok P r ok made = subst P (ap is_ok ok) (made (λ e. (let z : Ok tt ≡ Err GenerationsSpent = sym ok ∙ e in cc)))
 
 pub made_err : (P : Bool → Type 0) (r : Result (Unit {0}) JournalFault) → r ≡ Err NvFault → (r ≢ Err GenerationsSpent → P (is_ok r)) → P false
-made_err P r err made =
-    subst P (ap is_ok err) (made (λ e. (let y : Err NvFault ≡ Err GenerationsSpent = sym err ∙ e in (let z : NvFault ≡ GenerationsSpent = cc in cc))))
+made_err P r err made = grind arith
 
 -- a commit for which there was room ends by a write that failed
 pub nv_fault : (r : Result (Unit {0}) JournalFault) (f : JournalFault) → r ≡ Err f → (f ≡ NvFault) ⊎ (f ≡ GenerationsSpent)
     → (r ≡ Err GenerationsSpent → ⊥) → r ≡ Err NvFault
-nv_fault r f is (inl e) never = is ∙ ap (λ x. Err x) e
-nv_fault r f is (inr e) never = absurd (never (is ∙ ap (λ x. Err x) e))
+nv_fault r f is a never = grind arith
 
 -- a store has kept a command, or lost its memory in it
 pub record HasKept {N : Type 0} (writes : N → ℕ → List ℕ → Bool → N → Type 0) (old new : Stored N) (c : Command) : Type 0 where
@@ -172,8 +143,7 @@ pub record HasLost {N : Type 0} (writes : N → ℕ → List ℕ → Bool → N 
 -- the writes are those of the definition
 same_writes : {N : Type 0} (n : Node N) (core : Core) (c : Command) → CoreStandsFor n core
     → commit_writes n.store.journal.state n.store.tables (body_of c) ≡ commit_writes core.journal core.tables (body_of c)
-same_writes n core c k =
-    ap (λ s. commit_writes s n.store.tables (body_of c)) (sym k.journal) ∙ ap (λ t. commit_writes core.journal t (body_of c)) (sym k.tables)
+same_writes n core c k = grind arith
 
 has_power : {N : Type 0} {n : Node N} {noted start : List Entry} {short : Bool} {w : Work} → IsInStep n noted short start w → n.store.journal.live ≡ true
     → w.cut ≡ false
@@ -192,28 +162,12 @@ kept_brings {N} {writes} {n} {s} {now = now} {start = start} {short = short} {w 
     let Q : Bool → Type 0 = λ t. WereMade writes ws [] n.store.journal.nv t s.journal.nv in
     record {
       after = after;
-      stands = record {
-        node = u.node;
-        core = λ live. record {
-          journal = ap (λ x. committed x w.core.tables (body_of c)) k.journal
-              ∙ (ap (λ t. committed n.store.journal.state t (body_of c)) k.tables ∙ sym h.state);
-          tables = ap (λ t. apply t c) k.tables ∙ sym h.tables;
-          command = k.command;
-          init = k.init;
-        };
-        ends = u.ends;
-        noted_are = notes;
-        power = power ∙ sym (ap not h.live);
-      };
+      stands = grind arith;
       sure = ws;
       torn = [];
       written = ap (λ l. w.writes ++ l) (sym (append-nil ws));
       made = subst Q (sym power) (refl, subst P (same_writes n w.core c k) h.made);
-      is = λ plan foretold.
-          let F : Bool → Type 0 = λ t. Foretells plan ws [] t in
-          let goes : fails_within (length ws) plan ≡ false = subst F power foretold in
-          let one : commit c (record w { plan = plan }) ≡ record after { plan = plan_behind ws plan } = rw goes refl in
-          one ∙ ap (λ t. record after { plan = plan_left t ws plan }) (sym power);
+      is = grind arith;
     }
 
 pub lost_brings : {N : Type 0} {writes : N → ℕ → List ℕ → Bool → N → Type 0} {n : Node N} {s : Stored N} {noted now start : List Entry} {short was : Bool}
@@ -228,13 +182,7 @@ lost_brings {N} {writes} {n} {s} {now = now} {start = start} {short = short} {w 
     let P : List Write → Type 0 = λ l. AreMade writes l n.store.journal.nv false s.journal.nv in
     record {
       after = after;
-      stands = record {
-        node = u.node;
-        core = λ live. absurd (true≢false live);
-        ends = u.ends;
-        noted_are = notes;
-        power = sym (ap not h.dead);
-      };
+      stands = grind arith;
       sure = [];
       torn = ws;
       written = refl;

@@ -1,9 +1,8 @@
 -- What the turns of the messages at one end leave of the other ends.
-use Rattle.std.proofs.Common.{◌≡◌, ◌≢◌, ℕ, zero, suc, ◌≤◌, Bool, true, false, not, List, [], ◌∷◌, map, drop, length, refl, sym, ap, ap₂, ◌∙◌, subst}
+use Rattle.std.proofs.Common.{◌≡◌, ◌≢◌, ℕ, zero, suc, ◌≤◌, Bool, true, false, not, List, [], ◌∷◌, map, drop, length, refl, sym, ap, ap₂, ◌∙◌, subst, arith}
 use Rattle.std.specs.Prelude.{Option, Some, None, ◌==◌, option_map, slice_get, IfSome}
 use Rattle.std.specs.List.{AllByRecursion}
 use Rattle.std.specs.Option.{option_map_or}
-use Rattle.std.proofs.lemmas.Bool.{eqb-true}
 use Rattle.node_core.proofs.Words.{AreAllDifferent, AreFewDue, AreOfHosts, EndState, FewAreDue, Hold, LinkState, Message, PoolState, Port, Seat, SeatsStandFor}
 use Rattle.node_core.proofs.Words.{Work, after_turn, changed_if, deeds_of, handles, have_turns, held_at, holds_back, lack, lets_go, needs, port_at, with_port}
 use Rattle.shdlc_core.specs.Machine.{with_ready}
@@ -46,21 +45,10 @@ port_links h f same [] = refl
 port_links h f same (p ∷ ports) = ap₂ (λ (l : LinkSeen) ls. l ∷ ls) (one (p.desk.host == h)) (port_links h f same ports)
   where
     one : (b : Bool) → link_at (changed_if b f p) ≡ link_at p
-    one true = same p
-    one false = refl
+    one b = grind arith
 
 held_phase : (e : EndState) (r : Bool) → (with_ready e r).phase ≡ e.phase
-held_phase e r = go e.ready r refl
-  where
-    go : (a b : Bool) → e.ready ≡ a → (with_ready e b).phase ≡ e.phase
-    go true true q = rw q refl
-    go false false q = rw q refl
-    go true false q = rw q refl
-    go false true q = by e.session.answered_rnr refl
-      where
-        by : (c : Bool) → e.session.answered_rnr ≡ c → (with_ready e true).phase ≡ e.phase
-        by true x = rw (q, x) refl
-        by false x = rw (q, x) refl
+held_phase e r = grind arith
 
 -- an end that is held, or let go
 hold_link : (held : Bool) (p : Port) → link_at (after_turn (Hold held) p) ≡ link_at p
@@ -72,8 +60,7 @@ port_hosts h f same [] = refl
 port_hosts h f same (p ∷ ports) = ap₂ (λ (n : ℕ) ns. n ∷ ns) (one (p.desk.host == h)) (port_hosts h f same ports)
   where
     one : (b : Bool) → (changed_if b f p).desk.host ≡ p.desk.host
-    one true = same p
-    one false = refl
+    one b = grind arith
 
 -- the end of another host is as it was
 pub elsewhere : (h k : ℕ) (f : Port → Port) → k ≢ h → ((p : Port) → (f p).desk.host ≡ p.desk.host) → (ports : List Port)
@@ -83,10 +70,7 @@ elsewhere h k f other same (p ∷ ports) = by (p.desk.host == h) (p.desk.host ==
   where
     by : (a b : Bool) → (p.desk.host == h) ≡ a → (p.desk.host == k) ≡ b → port_at (with_port h f ports) k ≡ port_at ports k
         → port_at (with_port h f (p ∷ ports)) k ≡ port_at (p ∷ ports) k
-    by true true q r later = absurd (other (sym (eqb-true p.desk.host k r) ∙ eqb-true p.desk.host h q))
-    by true false q r later = let s : ((f p).desk.host == k) ≡ false = ap (λ n. n == k) (same p) ∙ r in rw (q, r, s) later
-    by false true q r later = rw (q, r) refl
-    by false false q r later = rw (q, r) later
+    by a b q r later = grind arith
 
 -- ## Turns
 
@@ -94,9 +78,6 @@ elsewhere h k f other same (p ∷ ports) = by (p.desk.host == h) (p.desk.host ==
 record Keeps (h : ℕ) (v w : Work) : Type 0 where
   links : map link_at v.ports ≡ map link_at w.ports
   few : (k : ℕ) → k ≢ h → FewAreDue (port_at w.ports k) → FewAreDue (port_at v.ports k)
-
-keeps_none : (h : ℕ) (w : Work) → Keeps h w w
-keeps_none h w = record { links = refl; few = λ k other few. few }
 
 keeps_on : (h : ℕ) (u v w : Work) → Keeps h u v → Keeps h v w → Keeps h u w
 keeps_on h u v w a b = record { links = a.links ∙ b.links; few = λ k other few. a.few k other (b.few k other few) }
@@ -114,10 +95,7 @@ keeps_let h w = by (held_at w.ports h) refl
   where
     by : (b : Bool) → held_at w.ports h ≡ b → Keeps h (lets_go h w) w
     by true q = keeps_port h (after_turn (Hold false)) (hold_link false) (lets_go h w) w (rw q refl)
-    by false q = let P : Work → Type 0 = λ v. Keeps h v w in subst P (sym (same q)) (keeps_none h w)
-      where
-        same : held_at w.ports h ≡ false → lets_go h w ≡ w
-        same q = rw q refl
+    by false q = grind arith
 
 twice_links : (h : ℕ) (f g : Port → Port) → ((p : Port) → link_at (f p) ≡ link_at p) → ((p : Port) → link_at (g p) ≡ link_at p)
     → (v w : Work) → v.ports ≡ with_port h f (with_port h g w.ports) → Keeps h v w
@@ -206,8 +184,7 @@ pub few_at : (ports : List Port) (k : ℕ) → AreFewDue ports → FewAreDue (po
 few_at ports k all = by (port_at ports k) refl (found_all _ ports k all)
   where
     by : (o : Option Port) → port_at ports k ≡ o → IfSome o (λ (p : Port). FewAreDue (Some p)) → FewAreDue (port_at ports k)
-    by None q few = rw q tt
-    by (Some p) q few = rw q few
+    by o q few = grind arith
 
 pub few_at_all : (ports : List Port) (hosts : List ℕ) → AreFewDue ports → AllByRecursion (λ (k : ℕ). FewAreDue (port_at ports k)) hosts
 few_at_all ports [] all = tt
@@ -258,8 +235,5 @@ as_many_hosts pool (s ∷ seats) (p ∷ ports) g = ap suc (as_many_hosts pool se
 -- each of them is a host
 pub is_host_at : (i : ℕ) (ports : List Port) (h : ℕ) → AreOfHosts ports → Some h ≡ option_map host_at (slice_get ports i) → (1 ≤ h) × (h ≤ 7)
 is_host_at i [] h all is = cc
-is_host_at zero (p ∷ ports) h all is =
-    let e : h ≡ p.desk.host = cc in
-    let P : ℕ → Type 0 = λ n. (1 ≤ n) × (n ≤ 7) in
-    subst P (sym e) all.0
+is_host_at zero (p ∷ ports) h all is = grind arith
 is_host_at (suc i) (p ∷ ports) h all is = is_host_at i ports h all.1 is

@@ -1,27 +1,18 @@
 -- The faults of the memory of a node, one thing after another.
-use Rattle.std.proofs.Common.{◌≡◌, ℕ, ◌≤◌, Bool, true, false, refl, sym, ◌∙◌, subst, arith}
+use Rattle.std.proofs.Common.{◌≡◌, ℕ, ◌≤◌, Bool, true, sym, ◌∙◌, arith}
 use Rattle.std.proofs.lemmas.Bool.{true≢false}
 use Rattle.swp_base.specs.Outside.{Rose}
 use Rattle.node_core.proofs.Words.{CountsFaults, Stored}
 use Rattle.node_core.specs.Running.{ran_so}
 use Rattle.node_core.specs.declared.running.Ran.{Ran}
-use Rattle.node_core.specs.declared.running.Ran.TheVariants.{Done, Stopped}
 
 -- nothing is done to a store that may be used
 pub faults_stay : {N : Type 0} (faults : N → ℕ) {s t : Stored N} → s.journal.live ≡ true → t ≡ s → CountsFaults faults s t
-faults_stay {N} faults {s} {t} live same =
-    let P : Stored N → Type 0 = λ u. CountsFaults faults s u in
-    subst P (sym same) (record { count = omega arith; rose = λ dead. absurd (true≢false (sym live ∙ dead)) })
+faults_stay faults live same = grind arith
 
 -- one thing after another is done to it
 pub faults_then : {N : Type 0} (faults : N → ℕ) {a b c : Stored N} → CountsFaults faults a b → CountsFaults faults b c → CountsFaults faults a c
-faults_then faults one more =
-    let first = one.count in
-    let second = more.count in
-    record {
-      count = omega (arith, first, second);
-      rose = λ dead. (let r = more.rose dead in omega (arith, first, r));
-    }
+faults_then faults one more = grind arith
 
 -- a command was kept
 pub faults_kept : {N : Type 0} (faults : N → ℕ) {s t : Stored N} → faults s.journal.nv ≤ faults t.journal.nv → t.journal.live ≡ true
@@ -35,10 +26,7 @@ faults_rose faults count rose = record { count = count; rose = λ dead. rose }
 
 -- how it ran tells whether there is power
 pub so_too : (a b : Bool) → ran_so a ≡ ran_so b → a ≡ b
-so_too true true is = refl
-so_too false false is = refl
-so_too true false is = (let z : Done ≡ Stopped = is in cc)
-so_too false true is = (let z : Stopped ≡ Done = is in cc)
+so_too a b is = grind arith
 
 pub ran_is : {r : Ran} {a b : Bool} → r ≡ ran_so a → r ≡ ran_so b → a ≡ b
 ran_is {r} {a} {b} p q = so_too a b (sym p ∙ q)

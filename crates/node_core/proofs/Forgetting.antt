@@ -1,7 +1,7 @@
 -- Creations are forgotten at all ends of a node, one after another.
-use Rattle.std.proofs.Common.{◌≡◌, ℕ, zero, suc, Bool, true, false, ◌&&◌, ◌||◌, List, [], ◌∷◌, refl, ap₂, ◌∙◌}
-use Rattle.std.specs.Prelude.{Option, Some, None, ◌==◌}
-use Rattle.node_core.proofs.Words.{Creation, Port, asked_at, at_place, first_changed, forgets, is_forgotten, is_over, is_over_at, next_changed}
+use Rattle.std.proofs.Common.{◌≡◌, ℕ, zero, suc, Bool, ◌&&◌, ◌||◌, List, [], ◌∷◌, refl, ap₂, ◌∙◌, arith}
+use Rattle.std.specs.Prelude.{◌==◌}
+use Rattle.node_core.proofs.Words.{Port, at_place, first_changed, forgets, is_over, is_over_at, next_changed}
 use Rattle.node_ends.proofs.Seated.{at_place_as}
 
 -- what of an end says that its session is over
@@ -12,11 +12,7 @@ abbrev over_of : Port → Over
 over_of p = (p.desk.host, is_over p)
 
 forgets_over : (ports : List Port) (p : Port) → over_of (forgets ports p) ≡ over_of p
-forgets_over ports p = by (is_forgotten ports (asked_at p)) refl
-  where
-    by : (b : Bool) → is_forgotten ports (asked_at p) ≡ b → over_of (forgets ports p) ≡ over_of p
-    by true q = rw q refl
-    by false q = rw q refl
+forgets_over ports p = grind arith
 
 over_same : (f : Port → Port) → ((p : Port) → over_of (f p) ≡ over_of p) → (i : ℕ) (ports : List Port) (h : ℕ)
     → is_over_at (first_changed i f ports) h ≡ is_over_at ports h
@@ -27,11 +23,7 @@ over_same f same (suc i) (p ∷ ports) h =
     ap₂ (λ (o : Over) b. ((o.0 == h) && o.1) || b) (same p) (over_same f same i ports h)
 
 forgets_same : (a b : List Port) → ((h : ℕ) → is_over_at a h ≡ is_over_at b h) → (p : Port) → forgets a p ≡ forgets b p
-forgets_same a b same p = by (asked_at p) refl
-  where
-    by : (o : Option Creation) → asked_at p ≡ o → forgets a p ≡ forgets b p
-    by None q = rw q refl
-    by (Some c) q = rw (q, same c.asker) refl
+forgets_same a b same p = grind arith
 
 -- the next one forgets as it would have at first
 pub next_forgets : (i : ℕ) (ports : List Port)

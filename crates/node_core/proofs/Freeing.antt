@@ -1,11 +1,7 @@
 -- Blocks of askers whose creations are forgotten are free.
-use Rattle.std.proofs.Common.{◌≡◌, ℕ, zero, suc, ◌≤◌, Bool, true, false, not, List, [], ◌∷◌, ◌++◌, map, take, length, refl, sym, ap, ◌∙◌, arith}
-use Rattle.std.proofs.Common.{add-one, append_assoc, ◌+◌}
-use Rattle.std.proofs.Common.{append_assoc, append-nil}
-use Rattle.std.specs.Prelude.{Option, Some, None, slice_get}
-use Rattle.std.proofs.Common.{inl, inr}
-use Rattle.std.specs.Prelude.{◌⊎◌}
-use Rattle.std.proofs.lemmas.Bool.{true≢false}
+use Rattle.std.proofs.Common.{◌≡◌, ℕ, zero, suc, ◌≤◌, Bool, true, false, List, [], ◌∷◌, ◌++◌, map, take, length, refl, sym, ap, ◌∙◌, arith, add-one}
+use Rattle.std.proofs.Common.{append_assoc, ◌+◌, append_assoc, append-nil}
+use Rattle.std.specs.Prelude.{Option, Some, slice_get, ◌⊎◌}
 use Rattle.std.specs.List.{flat_map, filter, filter_map}
 use Rattle.std.specs.Option.{option_map_or}
 use Rattle.std.proofs.lemmas.List.Concat.{flat_map-cons}
@@ -29,16 +25,14 @@ all_freed all (p ∷ ports) = by (asked_at p) refl (all_freed all ports) ∙ sym
         ≡ flat_map (freed_at all) ports
         → map (λ (c : Creation). Releases c.asker) (filter (λ (c : Creation). is_over_at all c.asker) (filter_map asked_at (p ∷ ports)))
         ≡ freed_at all p ++ flat_map (freed_at all) ports
-    one c true over q later = rw (q, over) (ap (λ l. Releases c.asker ∷ l) later)
-    one c false over q later = rw (q, over) later
+    one c b over q later = grind arith
 
     by : (o : Option Creation) → asked_at p ≡ o
         → map (λ (c : Creation). Releases c.asker) (filter (λ (c : Creation). is_over_at all c.asker) (filter_map asked_at ports))
         ≡ flat_map (freed_at all) ports
         → map (λ (c : Creation). Releases c.asker) (filter (λ (c : Creation). is_over_at all c.asker) (filter_map asked_at (p ∷ ports)))
         ≡ freed_at all p ++ flat_map (freed_at all) ports
-    by None q later = rw q later
-    by (Some c) q later = one c (is_over_at all c.asker) refl q later
+    by o q later = grind arith
 
 pub next_freed : (t : Port → List Deed) (i : ℕ) (ports : List Port)
     → flat_map t (take (suc i) ports) ≡ flat_map t (take i ports) ++ option_map_or t (slice_get ports i) []
@@ -78,10 +72,7 @@ owed_each late r (p ∷ ports) = flat_map-cons (owed_at late r) p ports ∙ by (
         → flat_map (owed_at late r) ports ≡ flat_map (λ (q : Port). owed r (asked_at q)) (filter (has_ended_so late) ports)
         → owed_at late r p ++ flat_map (owed_at late r) ports
         ≡ flat_map (λ (q : Port). owed r (asked_at q)) (filter (has_ended_so late) (p ∷ ports))
-    by true q later =
-        rw q (ap (λ l. owed r (asked_at p) ++ l) later
-        ∙ sym (flat_map-cons (λ (x : Port). owed r (asked_at x)) p (filter (has_ended_so late) ports)))
-    by false q later = rw q later
+    by b q later = grind arith
 
 pub owed_all : (late : Bool) (r : Response) (i : ℕ) (ports : List Port) → length ports ≤ i
     → flat_map (owed_at late r) (take i ports) ≡ flat_map (λ (p : Port). owed r (asked_at p)) (filter (has_ended_so late) ports)
@@ -105,26 +96,17 @@ pub record DoesOn {N : Type 0} (n : Node N) (noted : List Entry) (short : Bool) 
 pub one_done : {N : Type 0} {n n2 : Node N} {noted noted2 start : List Entry} {short short2 : Bool} {d : Deed} {left all : List Deed} {w : Work}
     (k : DoesOn n noted short start (d ∷ left) all w) → n.store.journal.live ≡ true → (done 0 d k.now).cut ≡ k.now.cut
     → IsInStep n2 noted2 short2 start (done 0 d k.now) → DoesOn n2 noted2 short2 start left all w
-one_done {d = d} {left = left} k live same under =
-    let power : (done 0 d k.now).cut ≡ false = same ∙ (k.under.power ∙ ap not live) in
-    let goes : all_done 0 (d ∷ left) k.now ≡ all_done 0 left (done 0 d k.now) = rw power refl in
-    record { now = done 0 d k.now; under = under; onto = sym goes ∙ k.onto }
+one_done k live same under = grind arith
 
 -- deeds, and those behind them
 pub all_then : (xs ys : List Deed) (w : Work) → (all_done 0 (xs ++ ys) w ≡ unless_cut (all_done 0 ys) (all_done 0 xs w)) ⊎ (w.cut ≡ true)
-all_then [] ys w = by w.cut refl
-  where
-    by : (b : Bool) → w.cut ≡ b → (all_done 0 ys w ≡ unless_cut (all_done 0 ys) w) ⊎ (w.cut ≡ true)
-    by true q = inr q
-    by false q = inl (rw q refl)
+all_then [] ys w = grind arith
 all_then (d ∷ xs) ys w = by (done 0 d w).cut refl (all_then xs ys (done 0 d w))
   where
     by : (b : Bool) → (done 0 d w).cut ≡ b
         → (all_done 0 (xs ++ ys) (done 0 d w) ≡ unless_cut (all_done 0 ys) (all_done 0 xs (done 0 d w))) ⊎ ((done 0 d w).cut ≡ true)
         → (all_done 0 (d ∷ xs ++ ys) w ≡ unless_cut (all_done 0 ys) (all_done 0 (d ∷ xs) w)) ⊎ (w.cut ≡ true)
-    by true q later = inl (rw (q, q) refl)
-    by false q (inr cut) = absurd (true≢false (sym cut ∙ q))
-    by false q (inl same) = inl (rw q same)
+    by b q later = grind arith
 
 -- where no write fails
 pub all_joined : (xs ys : List Deed) (w : Work) → w.cut ≡ false → (all_done 0 xs w).cut ≡ false
@@ -136,5 +118,4 @@ all_joined xs ys w live on = by (all_then xs ys w)
 
     by : (all_done 0 (xs ++ ys) w ≡ unless_cut (all_done 0 ys) (all_done 0 xs w)) ⊎ (w.cut ≡ true)
         → all_done 0 ys (all_done 0 xs w) ≡ all_done 0 (xs ++ ys) w
-    by (inl same) = goes ∙ sym same
-    by (inr cut) = absurd (true≢false (sym cut ∙ live))
+    by a = grind arith

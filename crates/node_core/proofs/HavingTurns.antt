@@ -1,12 +1,10 @@
 -- A message that has its turn.
-use Rattle.std.proofs.Common.{◌≡◌, ◌≢◌, ℕ, Bool, true, false, List, [], ◌∷◌, map, refl, sym, ap, ◌∙◌, subst}
-use Rattle.std.specs.Prelude.{Option, Some, None, option_map}
+use Rattle.std.proofs.Common.{◌≡◌, ◌≢◌, ℕ, Bool, true, false, List, [], ◌∷◌, map, refl, sym, ap, ◌∙◌, subst, arith}
+use Rattle.std.specs.Prelude.{Option, Some, None, option_map, ◌==◌}
 use Rattle.node_core.proofs.Words.{AreGranted, Brings, Core, FewAreDue, Foretells, Handling, Hold, Init, IsOnTask, IsSendable, Message, Plan, Port, Work}
 use Rattle.node_core.proofs.Words.{controller_deeds, deeds_of, deeds_shown, end_view, handles, has_turn, have_turns, held_at, holds_back, host_deeds, lack}
 use Rattle.node_core.proofs.Words.{lack_shown, lets_go, needs, own_view, port_at, turn_at, unless_cut, view_of}
-use Rattle.std.specs.Option.{option_map_or}
 use Rattle.node_machine.specs.Parts.{Deed as DeedOf}
-use Rattle.std.specs.Prelude.{◌==◌}
 use Rattle.std.proofs.lemmas.Bool.{ne_eqb}
 use Rattle.node_deeds.specs.declared.deeds.Deed.{Deed}
 use Rattle.node_deeds.specs.declared.room.Shortfall.{Shortfall}
@@ -35,68 +33,34 @@ has_none h m deeds short w is none plan = rw (is, none) refl
 
 -- nothing is lacking
 pub no_some : {X : Type 0} (o : Option X) → ((x : X) → o ≡ Some x → ⊥) → o ≡ None
-no_some None none = refl
-no_some (Some x) none = absurd (none x refl)
+no_some o none = grind arith
 
 -- ## What is done without a write
 
 pub held_cut : (h : ℕ) (short : ℕ × ℕ) (w : Work) → (holds_back h short w).cut ≡ w.cut
-held_cut h short w = by (option_map_or (λ (p : Port). p.desk.holds) (port_at w.ports h) false) refl
-  where
-    by : (b : Bool) → option_map_or (λ (p : Port). p.desk.holds) (port_at w.ports h) false ≡ b → (holds_back h short w).cut ≡ w.cut
-    by true q = rw q refl
-    by false q = rw q refl
+held_cut h short w = grind arith
 
 pub held_writes : (h : ℕ) (short : ℕ × ℕ) (w : Work) → (holds_back h short w).writes ≡ w.writes
-held_writes h short w = by (option_map_or (λ (p : Port). p.desk.holds) (port_at w.ports h) false) refl
-  where
-    by : (b : Bool) → option_map_or (λ (p : Port). p.desk.holds) (port_at w.ports h) false ≡ b → (holds_back h short w).writes ≡ w.writes
-    by true q = rw q refl
-    by false q = rw q refl
+held_writes h short w = grind arith
 
 pub held_anyway : (h : ℕ) (short : ℕ × ℕ) (w : Work) (plan : Option Plan)
     → holds_back h short (record w { plan = plan }) ≡ record (holds_back h short w) { plan = plan }
-held_anyway h short w plan = by (option_map_or (λ (p : Port). p.desk.holds) (port_at w.ports h) false) refl
-  where
-    by : (b : Bool) → option_map_or (λ (p : Port). p.desk.holds) (port_at w.ports h) false ≡ b
-        → holds_back h short (record w { plan = plan }) ≡ record (holds_back h short w) { plan = plan }
-    by true q = rw q refl
-    by false q = rw q refl
+held_anyway h short w plan = grind arith
 
 pub let_cut : (h : ℕ) (w : Work) → (lets_go h w).cut ≡ w.cut
-let_cut h w = by (held_at w.ports h) refl
-  where
-    by : (b : Bool) → held_at w.ports h ≡ b → (lets_go h w).cut ≡ w.cut
-    by true q = rw q refl
-    by false q = rw q refl
+let_cut h w = grind arith
 
 pub let_writes : (h : ℕ) (w : Work) → (lets_go h w).writes ≡ w.writes
-let_writes h w = by (held_at w.ports h) refl
-  where
-    by : (b : Bool) → held_at w.ports h ≡ b → (lets_go h w).writes ≡ w.writes
-    by true q = rw q refl
-    by false q = rw q refl
+let_writes h w = grind arith
 
 pub let_anyway : (h : ℕ) (w : Work) (plan : Option Plan) → lets_go h (record w { plan = plan }) ≡ record (lets_go h w) { plan = plan }
-let_anyway h w plan = by (held_at w.ports h) refl
-  where
-    by : (b : Bool) → held_at w.ports h ≡ b → lets_go h (record w { plan = plan }) ≡ record (lets_go h w) { plan = plan }
-    by true q = rw q refl
-    by false q = rw q refl
+let_anyway h w plan = grind arith
 
 -- ## Definitions that are the same
 
 pub brings_same : {N : Type 0} {writes : N → ℕ → List ℕ → Bool → N → Type 0} {old new : N} {S : Work → Type 0} {f g : Work → Work} {w : Work}
     → Brings writes old new S f w → ((plan : Option Plan) → g (record w { plan = plan }) ≡ f (record w { plan = plan })) → Brings writes old new S g w
-brings_same b same = record {
-  after = b.after;
-  stands = b.stands;
-  sure = b.sure;
-  torn = b.torn;
-  written = b.written;
-  made = b.made;
-  is = λ plan foretold. same plan ∙ b.is plan foretold;
-}
+brings_same b same = grind arith
 
 -- the ends after a message was handled, where no write failed
 pub quiet_after : {N : Type 0} {writes : N → ℕ → List ℕ → Bool → N → Type 0} {old new : N} {S : Work → Type 0} {w : Work} (h : ℕ) (m : Message)

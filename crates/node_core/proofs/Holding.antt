@@ -1,5 +1,5 @@
 -- A message that lacks room.
-use Rattle.std.proofs.Common.{◌≡◌, ℕ, Bool, true, false, List, [], ◌∷◌, refl, ap, ◌∙◌}
+use Rattle.std.proofs.Common.{◌≡◌, ℕ, Bool, true, false, List, [], ◌∷◌, refl, arith}
 use Rattle.std.specs.Prelude.{◌==◌}
 use Rattle.std.specs.Option.{option_map_or}
 use Rattle.trace_model.specs.declared.entry.Entry.TheVariants as entry
@@ -9,12 +9,7 @@ use Rattle.node_core.specs.Handling.{is_noted_held}
 
 -- it is noted, and then the end is held
 pub held_so : (h : ℕ) (short : ℕ × ℕ) (w : Work) → turn_at h (Hold true) (is_noted_held h short w) ≡ holds_back h short w
-held_so h short w = by (option_map_or (λ (p : Port). p.desk.holds) (port_at w.ports h) false) refl
-  where
-    by : (b : Bool) → option_map_or (λ (p : Port). p.desk.holds) (port_at w.ports h) false ≡ b
-        → turn_at h (Hold true) (is_noted_held h short w) ≡ holds_back h short w
-    by true q = rw q refl
-    by false q = rw q refl
+held_so h short w = grind arith
 
 pub was_noted : (h : ℕ) (short : ℕ × ℕ) (w : Work) → option_map_or (λ (p : Port). p.desk.holds) (port_at w.ports h) false ≡ true
     → is_noted_held h short w ≡ w
@@ -32,10 +27,7 @@ few_on h f (p ∷ ports) same few = by (few_on h f ports same) (p.desk.host == h
   where
     by : (FewAreDue (port_at ports h) → FewAreDue (port_at (with_port h (λ p. record p { desk = f p.desk }) ports) h)) → (b : Bool)
         → (p.desk.host == h) ≡ b → FewAreDue (port_at (with_port h (λ p. record p { desk = f p.desk }) (p ∷ ports)) h)
-    by later true q =
-        let one : ((f p.desk).host == h) ≡ true = ap (λ n. n == h) (same p.desk) ∙ q in
-        rw (q, one) (rw q at few)
-    by later false q = rw (q, q) (later (rw q at few))
+    by later b q = grind arith
 
 pub few_held : (h : ℕ) (short : ℕ × ℕ) (w : Work) → FewAreDue (port_at w.ports h) → FewAreDue (port_at (is_noted_held h short w).ports h)
 few_held h short w few = by (option_map_or (λ (p : Port). p.desk.holds) (port_at w.ports h) false) refl

@@ -1,5 +1,5 @@
 -- Where nothing is left to do at the ends of a node and no identifier came, its step is over.
-use Rattle.std.proofs.Common.{◌≡◌, ℕ, Bool, true, false, not, ◌&&◌, ◌||◌, List, [], ◌∷◌, map, refl, sym, ap, ap₂, ◌∙◌}
+use Rattle.std.proofs.Common.{◌≡◌, ℕ, Bool, true, false, not, ◌&&◌, ◌||◌, List, [], ◌∷◌, map, refl, sym, ap, ap₂, ◌∙◌, arith}
 use Rattle.std.specs.Prelude.{Option, Some, None, IfSome, is_some}
 use Rattle.std.specs.List.{AllByRecursion, list_any}
 use Rattle.std.specs.Option.{option_map_or}
@@ -16,12 +16,10 @@ use Rattle.node_core.proofs.Sendables.{found_all}
 use Rattle.node_core.proofs.Undisturbed.{nothing_ended}
 
 pub none_came : {X : Type 0} (o : Option X) → is_some o ≡ false → o ≡ None
-none_came None q = refl
-none_came (Some x) q = cc
+none_came o q = grind arith
 
 both : (a b : Bool) → (a && b) ≡ true → (a ≡ true) × (b ≡ true)
-both true b q = (refl, q)
-both false b q = cc
+both a b q = grind arith
 
 -- an end at which nothing is left to do
 idle_parts : (p : Port) → is_idle p ≡ true → (is_over p ≡ false) × (p.side.got ≡ []) × (is_held p.side ≡ false)

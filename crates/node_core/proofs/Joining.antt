@@ -1,7 +1,6 @@
 -- What a node does one thing after another, as far as its memory goes along.
-use Rattle.std.proofs.Common.{◌≡◌, inl, inr, ℕ, suc, ◌-◌, Bool, true, false, List, [], ◌∷◌, ◌++◌, length, refl, sym, ap, ◌∙◌, subst, arith}
-use Rattle.std.proofs.Common.{append_assoc, append-nil}
-use Rattle.std.specs.Prelude.{Option, Some, None, ◌==◌, ◌&&◌, nat_le}
+use Rattle.std.proofs.Common.{◌≡◌, inl, inr, ℕ, suc, Bool, true, false, List, [], ◌∷◌, ◌++◌, length, refl, sym, ap, ◌∙◌, subst, arith, append_assoc, append-nil}
+use Rattle.std.specs.Prelude.{Option, ◌==◌, ◌&&◌, nat_le}
 use Rattle.std.proofs.lemmas.Bool.{true≢false, eqb-true}
 use Rattle.std.proofs.lemmas.Bool.Decides.{nat_tests}
 use Rattle.swp_base.specs.InMemory.{plan_after}
@@ -9,33 +8,18 @@ use Rattle.node_core.proofs.Words.{AreMade, Brings, Foretells, Plan, WereMade, W
 
 -- ## Plans
 
--- where none of the next writes fails, the first of them doesn't, and none behind it
-number_step : (k n : ℕ) → (nat_le 1 k && nat_le k (suc n)) ≡ false → (k == 1) ≡ false → (nat_le 1 (k - 1) && nat_le (k - 1) n) ≡ false
-number_step k n none other = grind (arith, nat_tests)
-
 first_fails : (k n : ℕ) → (nat_le 1 k && nat_le k (suc n)) ≡ false → (k == 1) ≡ true → ⊥
 first_fails k n none is = let e : k ≡ 1 = eqb-true k 1 is in grind (arith, nat_tests)
 
 fails_step : (n : ℕ) (plan : Option Plan) → fails_within (suc n) plan ≡ false → fails_within n (plan_after plan) ≡ false
-fails_step n None none = refl
-fails_step n (Some p) none = by (p.nth == 1) refl
-  where
-    by : (b : Bool) → (p.nth == 1) ≡ b → fails_within n (plan_after (Some p)) ≡ false
-    by true q = rw q refl
-    by false q = rw q (number_step p.nth n none q)
+fails_step n plan none = grind arith
 
 pub fewer_fail : (n : ℕ) (plan : Option Plan) → fails_within 0 plan ≡ false
-fewer_fail n None = refl
-fewer_fail n (Some p) = grind (arith, nat_tests)
+fewer_fail n plan = grind arith
 
 fails_on : (n : ℕ) (plan : Option Plan) → fails_within (suc n) plan ≡ false → (m : ℕ) → fails_within m (plan_after plan) ≡ false
     → fails_within (suc m) plan ≡ false
-fails_on n None none m later = refl
-fails_on n (Some p) none m later = by (p.nth == 1) refl
-  where
-    by : (b : Bool) → (p.nth == 1) ≡ b → fails_within (suc m) (Some p) ≡ false
-    by true q = absurd (first_fails p.nth n none q)
-    by false q = let l : (nat_le 1 (p.nth - 1) && nat_le (p.nth - 1) m) ≡ false = rw q at later in grind (arith, nat_tests)
+fails_on n plan none m later = grind arith
 
 pub fails_parts : (a b : List Write) (plan : Option Plan) → fails_within (length (a ++ b)) plan ≡ false
     → (fails_within (length a) plan ≡ false) × (fails_within (length b) (plan_behind a plan) ≡ false)
@@ -84,19 +68,7 @@ module _ {N : Type 0} (writes : N → ℕ → List ℕ → Bool → N → Type 0
   -- the memory stays and a node that has no power does nothing more
   pub brings_cut : {old mid new : N} {R S : Work → Type 0} {f : Work → Work} (g : Work → Work) {w : Work} (b : Brings writes old mid R f w) → b.after.cut ≡ true
       → mid ≡ new → S b.after → Brings writes old new S (λ v. unless_cut g (f v)) w
-  brings_cut {old} {mid} {new} {R} {S} {f} g {w} b cut same stands =
-      let P : N → Type 0 = λ m. WereMade writes b.sure b.torn old b.after.cut m in
-      record {
-        after = b.after;
-        stands = stands;
-        sure = b.sure;
-        torn = b.torn;
-        written = b.written;
-        made = subst P same b.made;
-        is = λ plan foretold.
-            ap (unless_cut g) (b.is plan foretold)
-            ∙ stays_cut g (record b.after { plan = plan_left b.after.cut b.sure plan }) cut;
-      }
+  brings_cut g b cut same stands = grind arith
 
   -- a node that has its power goes on
   pub brings_then : {old mid new : N} {R S : Work → Type 0} {f g : Work → Work} {w : Work} (b : Brings writes old mid R f w) → b.after.cut ≡ false
@@ -118,8 +90,7 @@ module _ {N : Type 0} (writes : N → ℕ → List ℕ → Bool → N → Type 0
             let parts = foretold_parts c.after.cut b.sure c.sure c.torn plan foretold in
             let Q : Bool → Type 0 = λ t. Foretells plan b.sure b.torn t in
             let R2 : Bool → Type 0 = λ t. f (record w { plan = plan }) ≡ record b.after { plan = plan_left t b.sure plan } in
-            let one : f (record w { plan = plan }) ≡ record b.after { plan = plan_behind b.sure plan } =
-            subst R2 live (b.is plan (subst Q (sym live) parts.0)) in
+            let one : f (record w { plan = plan }) ≡ record b.after { plan = plan_behind b.sure plan } = grind arith in
             ap (unless_cut g) one
             ∙ (goes_on g (record b.after { plan = plan_behind b.sure plan }) live
             ∙ (c.is (plan_behind b.sure plan) parts.1

@@ -9,9 +9,8 @@ use Rattle.std.proofs.lemmas.Bool.{eqb-true, eq-eqb, true≢false}
 use Rattle.shdlc_core.specs.declared.answers.Due.TheVariants.{Rr as Rr_due}
 use Rattle.shdlc_core.specs.Machine.{with_ready}
 use Rattle.node_core.proofs.Words.{AreAllDifferent, Asks, Commits, Drops, EndState, Ends, FetchMessage, Give, Hears, Hold, IsAnswered, Message, Notice, Orders}
-use Rattle.node_core.proofs.Words.{Port, Refused, Release, Releases, SaysOk, Sends, SetAside, SetsErrors, Tells, Turn, Work, after_turn, all_done}
-use Rattle.node_core.proofs.Words.{aside_refusal, changed_if, deeds_of, done, give_refusal, given, goes_through_ends, got_at, handles, have_turns, held_at}
-use Rattle.node_core.proofs.Words.{holds_back, lack, lets_go, needs, passes, port_at, unless, with_port}
+use Rattle.node_core.proofs.Words.{Port, Release, Releases, SaysOk, Sends, SetAside, SetsErrors, Tells, Turn, Work, after_turn, all_done, changed_if, deeds_of}
+use Rattle.node_core.proofs.Words.{done, goes_through_ends, got_at, handles, have_turns, held_at, holds_back, lack, lets_go, needs, passes, port_at, with_port}
 use Rattle.link_laws.specs.machine.Machine.{LinkEnd as Machine, turn}
 use Rattle.node_machine.specs.Parts.{Desk as DeskOf, Deed}
 use Rattle.node_machine.specs.Parts.Deed.{GoesOn}
@@ -50,18 +49,10 @@ StaysYounger F = (s : Seen) (h a b : ℕ) → a ≤ b → F s h b → F s h a
 -- ## What is done to one end
 
 give_seen : (m : Message) (e : Machine) → seen_of (turn e (Give m)) ≡ seen_of e
-give_seen m e = by (give_refusal e m)
-  where
-    by : (o : Option Refused) → seen_of (unless o e (given e m)) ≡ seen_of e
-    by None = refl
-    by (Some why) = refl
+give_seen m e = grind arith
 
 aside_seen : (e : Machine) → seen_of (turn e SetAside) ≡ seen_of e
-aside_seen e = by (aside_refusal e)
-  where
-    by : (o : Option Refused) → seen_of (unless o e (record e { aside = e.aside + 1 })) ≡ seen_of e
-    by None = refl
-    by (Some why) = refl
+aside_seen e = grind arith
 
 turned_so : (F : Fact) (t : Turn) (p : Port) → seen_of (turn p.side t) ≡ seen_of p.side → Of F p → Of F (after_turn t p)
 turned_so F t p same is = let P : Seen → Type 0 = λ s. F s p.desk.host (notice_age p.desk) in subst P (sym same) is
@@ -92,8 +83,7 @@ port_so F h f on ports all =
     each_so (λ (p : Port). Of F p) (λ (p : Port). Of F p) (λ (p : Port). changed_if (p.desk.host == h) f p) (λ p. one p (p.desk.host == h)) ports all
   where
     one : (p : Port) (b : Bool) → Of F p → Of F (changed_if b f p)
-    one p true is = on p is
-    one p false is = is
+    one p b is = grind arith
 
 desk_so : (F : Fact) → StaysYounger F → (h : ℕ) (f : DeskOf → DeskOf) → ((d : DeskOf) → (f d).host ≡ d.host)
     → ((d : DeskOf) → notice_age (f d) ≤ notice_age d) → (ports : List Port) → OfAll F ports
@@ -151,11 +141,7 @@ abbrev pub Either : ℕ → Fact → Fact → Fact
 Either h F G s k a = pick (k == h) (F s k a) (G s k a)
 
 either_stays : (h : ℕ) (F G : Fact) → StaysYounger F → StaysYounger G → StaysYounger (Either h F G)
-either_stays h F G one other s k a b less = by (k == h)
-  where
-    by : (t : Bool) → pick t (F s k b) (G s k b) → pick t (F s k a) (G s k a)
-    by true is = one s k a b less is
-    by false is = other s k a b less is
+either_stays h F G one other s k a b less = grind arith
 
 -- the end of this host is changed
 change_so : (h : ℕ) (F F2 G : Fact) (f : Port → Port) → ((p : Port) → (f p).desk.host ≡ p.desk.host) → ((p : Port) → Of F p → Of F2 (f p))
@@ -165,18 +151,10 @@ change_so h F F2 G f same on ports all =
     (λ p. one p (p.desk.host == h) refl) ports all
   where
     there : (p : Port) → (p.desk.host == h) ≡ true → Of F2 (f p) → Of (Either h F2 G) (f p)
-    there p q is =
-        let P : Bool → Type 0 = λ t. pick t (Of F2 (f p)) (Of G (f p)) in
-        subst P (sym (ap (λ n. n == h) (same p) ∙ q)) is
+    there p q is = grind arith
 
     one : (p : Port) (b : Bool) → (p.desk.host == h) ≡ b → Of (Either h F G) p → Of (Either h F2 G) (changed_if b f p)
-    one p true q is =
-        let P : Bool → Type 0 = λ t. pick t (Of F p) (Of G p) in
-        there p q (on p (subst P q is))
-    one p false q is =
-        let P : Bool → Type 0 = λ t. pick t (Of F p) (Of G p) in
-        let R : Bool → Type 0 = λ t. pick t (Of F2 p) (Of G p) in
-        subst R (sym q) (subst P q is)
+    one p b q is = grind arith
 
 either_is : (h : ℕ) (F F2 G : Fact) → ((p : Port) → Of F p → Of F2 p) → (ports : List Port) → OfAll (Either h F G) ports
     → OfAll (Either h F2 G) ports
@@ -184,8 +162,7 @@ either_is h F F2 G on ports all =
     each_is (λ (p : Port). Of (Either h F G) p) (λ (p : Port). Of (Either h F2 G) p) (λ p. one p (p.desk.host == h)) ports all
   where
     one : (p : Port) (b : Bool) → pick b (Of F p) (Of G p) → pick b (Of F2 p) (Of G p)
-    one p true is = on p is
-    one p false is = is
+    one p b is = grind arith
 
 -- ## What is so before its turns and behind them
 
@@ -213,17 +190,7 @@ rests_stays n s h a b less is = (ready_stays (n + 1) s h a b less is.0, is.1)
 -- ## An end is held, or let go
 
 held_ready : (e : EndState) (r : Bool) → (with_ready e r).ready ≡ r
-held_ready e r = go e.ready r refl
-  where
-    go : (a b : Bool) → e.ready ≡ a → (with_ready e b).ready ≡ b
-    go true true q = rw q refl
-    go false false q = rw q refl
-    go true false q = rw q refl
-    go false true q = by e.session.answered_rnr refl
-      where
-        by : (c : Bool) → e.session.answered_rnr ≡ c → (with_ready e true).ready ≡ true
-        by true x = rw (q, x) refl
-        by false x = rw (q, x) refl
+held_ready e r = grind arith
 
 held_due : (e : EndState) (r : Bool) → length (with_ready e r).due ≤ length e.due + 1
 held_due e r = go e.ready r refl
@@ -251,9 +218,7 @@ go_rests : (n : ℕ) (p : Port) → Of (Waits n []) p → Of (Rests n) (after_tu
 go_rests n p is = (hold_ready n false p is.0, λ some. absurd (some is.1))
 
 none_rests : (n : ℕ) (p : Port) → Of (Waits n []) p → Of (Rests n) p
-none_rests n p is =
-    let few = is.0.0 in
-    ((omega (arith, few), is.0.1), λ some. absurd (some is.1))
+none_rests n p is = grind arith
 
 fetched_waits : (n : ℕ) (m : Message) (ms : List Message) (p : Port) → Of (Waits n (m ∷ ms)) p → Of (Waits n ms) (after_turn FetchMessage p)
 fetched_waits n m ms p is = (is.0, ap (λ (got : List Message). drop 1 got) is.1)
@@ -352,17 +317,10 @@ none_among g [] differ = refl
 none_among g (h ∷ hosts) differ = by (g == h) refl (none_among g hosts differ.1)
   where
     by : (b : Bool) → (g == h) ≡ b → is_among g hosts ≡ false → is_among g (h ∷ hosts) ≡ false
-    by true q later = absurd (differ.0 (sym (eqb-true g h q)))
-    by false q later = rw q later
-
--- the others stay as they are while the end of h has its turns
-mixed_other : (n h : ℕ) (hosts : List ℕ) (p : Port) → (p.desk.host == h) ≡ false → Of (Mixed n (h ∷ hosts)) p → Of (Mixed n hosts) p
-mixed_other n h hosts p q is =
-    let P : Bool → Type 0 = λ t. pick (t || is_among p.desk.host hosts) (Of (Ready n) p) (Of (Rests n) p) in subst P q is
+    by b q later = grind arith
 
 mixed_first : (n h : ℕ) (hosts : List ℕ) (p : Port) → (p.desk.host == h) ≡ true → Of (Mixed n (h ∷ hosts)) p → Of (Ready n) p
-mixed_first n h hosts p q is =
-    let P : Bool → Type 0 = λ t. pick (t || is_among p.desk.host hosts) (Of (Ready n) p) (Of (Rests n) p) in subst P q is
+mixed_first n h hosts p q is = grind arith
 
 turn_begins : (n h : ℕ) (hosts : List ℕ) (ports : List Port) → AreAllDifferent (map host_at ports) → OfAll (Mixed n (h ∷ hosts)) ports
     → OfAll (Either h (Waits n (got_at ports h)) (Mixed n hosts)) ports
@@ -373,15 +331,10 @@ turn_begins n h hosts (p ∷ ports) differ all = by (turn_begins n h hosts ports
     X ms = Either h (Waits n ms) (Mixed n hosts)
 
     elsewhere_so : (ms : List Message) (q : Port) → (q.desk.host == h) ≡ false → Of (Mixed n (h ∷ hosts)) q → Of (X ms) q
-    elsewhere_so ms q is so =
-        let P : Bool → Type 0 = λ t. pick t (Of (Waits n ms) q) (Of (Mixed n hosts) q) in subst P (sym is) (mixed_other n h hosts q is so)
+    elsewhere_so ms q is so = grind arith
 
     differs : (a b : ℕ) → (a ≡ b → ⊥) → (a == b) ≡ false
-    differs a b apart = go (a == b) refl
-      where
-        go : (t : Bool) → (a == b) ≡ t → (a == b) ≡ false
-        go true e = absurd (apart (eqb-true a b e))
-        go false e = e
+    differs a b apart = grind arith
 
     others : (ms : List Message) (qs : List Port) → AllByRecursion (λ (g : ℕ). g ≢ h) (map host_at qs) → OfAll (Mixed n (h ∷ hosts)) qs
         → OfAll (X ms) qs
@@ -454,8 +407,7 @@ all_mixed n hosts (p ∷ ports) sub all =
     (subst P (sym (sub p.desk.host first)) all.0, all_mixed n hosts ports (λ g q. sub g (later g q (g == p.desk.host))) all.1)
   where
     later : (g : ℕ) → is_among g (map host_at ports) ≡ true → (b : Bool) → (b || is_among g (map host_at ports)) ≡ true
-    later g q true = refl
-    later g q false = q
+    later g q b = grind arith
 
 -- What a pass leaves at the ends, where no write fails.
 pub passes_rest : (n : ℕ) (w : Work) → AreAllDifferent (map host_at w.ports) → OfAll (Ready n) w.ports → (passes w).cut ≡ false

@@ -1,20 +1,16 @@
 -- Notices grow older at all ends of a node, and links of late ones are reset.
-use Rattle.std.proofs.Common.{◌≡◌, ℕ, zero, suc, ◌-◌, ◌≤◌, Bool, true, false, List, [], ◌∷◌, ◌++◌, map, take, length, refl, sym, ap, ap₂, ◌∙◌, subst, arith}
+use Rattle.std.proofs.Common.{◌≡◌, ℕ, zero, suc, ◌≤◌, Bool, true, false, List, [], ◌∷◌, ◌++◌, map, take, length, refl, sym, ap, ap₂, ◌∙◌, subst, arith}
 use Rattle.std.proofs.Common.{append_assoc, append-nil}
-use Rattle.std.specs.Prelude.{Option, Some, None, slice_get}
+use Rattle.std.specs.Prelude.{Option, Some, None, slice_get, Err, is_some, option_map, ◌||◌}
 use Rattle.std.specs.List.{AllByRecursion, flat_map}
-use Rattle.std.specs.Prelude.{Ok, Err, is_some, option_map, ◌||◌}
 use Rattle.std.proofs.lemmas.List.Concat.{flat_map-cons}
-use Rattle.node_core.proofs.Words.{AreFewDue, AreYoung, Asked, Core, EndsStandFor, Entry, IsInStep, IsReached, KeptEnds, LinkReport, Node, Notice, PoolState}
-use Rattle.node_core.proofs.Words.{Port, Refused, ResetRefused, Seat, SeatsStandFor, TimePasses, Work, after_input, all_changed, at_place, entries_for}
-use Rattle.node_core.proofs.Words.{first_changed, if_up, is_late, kept_number, next_changed, none_changed, noting, own_side, port_at, report, report_told}
-use Rattle.node_core.proofs.Words.{reset_late, reset_refusal, times_out, told, told_at, whole_acked, with_older}
-use Rattle.link_end.specs.Reports.{reset_told}
+use Rattle.node_core.proofs.Words.{AreFewDue, AreYoung, Asked, Core, EndsStandFor, Entry, IsInStep, IsReached, KeptEnds, LinkReport, Node, PoolState, Port}
+use Rattle.node_core.proofs.Words.{Refused, ResetRefused, Seat, SeatsStandFor, TimePasses, Work, after_input, all_changed, at_place, entries_for, first_changed}
+use Rattle.node_core.proofs.Words.{if_up, is_late, kept_number, next_changed, none_changed, noting, own_side, port_at, report, report_told, reset_late}
+use Rattle.node_core.proofs.Words.{reset_refusal, times_out, told, told_at, whole_acked, with_older}
+use Rattle.link_end.specs.Reports.{reset_told, nothing_told}
 use Rattle.std.specs.Option.{option_map_or}
-use Rattle.link_laws.specs.machine.Machine.{LinkEnd as Machine}
 use Rattle.link_laws.specs.machine.Machine.LinkInput.{Reset}
-use Rattle.link_laws.specs.entries.Entries.{End as Side}
-use Rattle.link_end.specs.Reports.{nothing_told}
 use Rattle.node_machine.specs.Node.{told_late}
 use Rattle.node_ends.specs.Desks.{IsYoung, have_notices}
 use Rattle.node_ends.specs.Ends.{late_told}
@@ -26,13 +22,7 @@ use Rattle.node_core.proofs.Ticking.{next_told, all_told, found_there}
 -- the ends of a node in a step have changed
 pub ends_changed : {N : Type 0} {n : Node N} {ends : KeptEnds} {noted start : List Entry} {short : Bool} {w : Work} (ports : List Port)
     → IsInStep n noted short start w → EndsStandFor ends ports → IsInStep (record n { ends = ends }) noted short start (record w { ports = ports })
-ends_changed ports u stands = record {
-  node = u.node;
-  core = λ live. (let k = u.core live in record { journal = k.journal; tables = k.tables; command = k.command; init = k.init });
-  ends = stands;
-  noted_are = u.noted_are;
-  power = u.power;
-}
+ends_changed ports u stands = grind arith
 
 -- ## Older notices
 
@@ -81,23 +71,8 @@ reset_there i w = next_there i reset_late w.ports
 
 -- ## One of them
 
--- a reset that is refused tells nothing
-pub refused_tells : (who : Side) (n : ℕ) (m : Machine) (window : Option ℕ) (why : Refused) → reset_refusal m ≡ Some why
-    → told who n (report m (Reset window)) (whole_acked (after_input m (Reset window))) ≡ []
-refused_tells who n m window why q =
-    let none : (whole_acked m - whole_acked m) ≡ 0 = omega arith in
-    rw (q, none) refl
-
 pub silent_late : (core : Core) (p : Port) → late_told (Some p) ≡ None → told_late core p ≡ []
-silent_late core p none = by (is_late p) refl
-  where
-    refused : is_late p ≡ true → (o : Option Refused) → reset_refusal p.side ≡ o → told_late core p ≡ []
-    refused late None q = absurd (let z : Some (record nothing_told { ended = if_up p.side.shdlc Asked }) ≡ None = rw (late, q) at none in cc)
-    refused late (Some why) q = rw late (ap (entries_for p.desk.host) (refused_tells (own_side core) p.session p.side None why q))
-
-    by : (b : Bool) → is_late p ≡ b → told_late core p ≡ []
-    by true late = refused late (reset_refusal p.side) refl
-    by false late = rw late refl
+silent_late core p none = grind arith
 
 -- what is told of one that isn't refused is the report of the reset
 pub late_report : (p : Port) (r : LinkReport) → IsReached p.side → late_told (Some p) ≡ Some r
@@ -129,9 +104,6 @@ placed_there i f [] p is = cc
 placed_there zero f (q ∷ ports) p is = let e : q ≡ p = cc in ap (λ (x : Port). Some (f x)) e
 placed_there (suc i) f (q ∷ ports) p is = placed_there i f ports p is
 
-late_side : (p : Port) → is_late p ≡ true → (reset_late p).side ≡ after_input p.side (Reset None)
-late_side p late = rw late refl
-
 late_host : (p : Port) → is_late p ≡ true → (reset_late p).desk.host ≡ p.desk.host
 late_host p late = rw late refl
 
@@ -150,22 +122,16 @@ late_acked ends ports i h p e is late same =
     let differ = hosts_differ ends.pool ends.seats all e.hosts e.each in
     let found = found_there i all (reset_late p) differ (placed_there i reset_late ports p is) in
     ap (λ (n : ℕ). option_map_or (λ (q : Port). kept_number (whole_acked q.side)) (port_at all n) 0) (same ∙ sym (late_host p late))
-    ∙ (ap (λ (o : Option Port). option_map_or (λ (q : Port). kept_number (whole_acked q.side)) o 0) found
-    ∙ ap (λ (m : Machine). kept_number (whole_acked m)) (late_side p late))
+    ∙ (grind arith)
 
 -- ## No notices
 
 neither : (a b : Bool) → (a || b) ≡ false → (a ≡ false) × (b ≡ false)
-neither true b q = cc
-neither false b q = (refl, q)
+neither a b q = grind arith
 
 -- an end without a notice stays as it is
 none_here : (core : Core) (p : Port) → is_some p.desk.notice ≡ false → (with_older p ≡ p) × (reset_late p ≡ p) × (told_late core p ≡ [])
-none_here core p none = by p.desk.notice refl none
-  where
-    by : (o : Option Notice) → p.desk.notice ≡ o → is_some o ≡ false → (with_older p ≡ p) × (reset_late p ≡ p) × (told_late core p ≡ [])
-    by None q none = (rw q refl, rw q refl, rw q refl)
-    by (Some n) q none = cc
+none_here core p none = grind arith
 
 none_older : (core : Core) (ports : List Port) → have_notices ports ≡ false → map with_older ports ≡ ports
 none_older core [] none = refl
@@ -205,13 +171,4 @@ reached_each pool (s ∷ seats) (p ∷ ports) g = (g.0.reached, reached_each poo
 pub reset_silent : (core : Core) (ports : List Port) (h : ℕ) (window : Option ℕ) (why : ResetRefused)
     → Some (Err why) ≡ option_map (λ (p : Port). reset_told p.side window) (port_at ports h)
     → option_map_or (λ (p : Port). told_at core p (Some (Reset window))) (port_at ports h) [] ≡ []
-reset_silent core ports h window why is = by (port_at ports h) is
-  where
-    one : (p : Port) (o : Option Refused) → reset_refusal p.side ≡ o → Err why ≡ reset_told p.side window → told_at core p (Some (Reset window)) ≡ []
-    one p None q z = absurd (let y : Err why ≡ Ok (record nothing_told { ended = if_up p.side.shdlc Asked }) = rw q at z in cc)
-    one p (Some refused) q z = ap (entries_for p.desk.host) (refused_tells (own_side core) p.session p.side window refused q)
-
-    by : (o : Option Port) → Some (Err why) ≡ option_map (λ (p : Port). reset_told p.side window) o
-        → option_map_or (λ (p : Port). told_at core p (Some (Reset window))) o [] ≡ []
-    by None some = refl
-    by (Some p) some = let z : Err why ≡ reset_told p.side window = cc in one p (reset_refusal p.side) refl z
+reset_silent core ports h window why is = grind arith

@@ -12,8 +12,7 @@ kept_all P test [] all = tt
 kept_all P test (x ∷ xs) all = by (kept_all P test xs all.1) (test x) refl
   where
     by : AllByRecursion P (filter test xs) → (b : Bool) → test x ≡ b → AllByRecursion P (filter test (x ∷ xs))
-    by later true q = rw q (all.0, later)
-    by later false q = rw q later
+    by later b q = grind arith
 
 kept_different : (test : ℕ → Bool) (xs : List ℕ) → AreAllDifferent xs → AreAllDifferent (filter test xs)
 kept_different test [] differ = tt

@@ -1,18 +1,15 @@
 -- Entries that are noted one after another.
-use Rattle.std.proofs.Common.{◌≡◌, ℕ, zero, suc, Bool, true, false, not, List, [], ◌∷◌, ◌++◌, map, refl, sym, ap, ◌∙◌, subst, append_assoc, append-nil, arith}
-use Rattle.std.specs.Prelude.{Option, Some, None, is_none, is_some, ◌==◌, ◌&&◌, option_to_list}
-use Rattle.std.proofs.lemmas.Bool.{eqb-true, true≢false}
+use Rattle.std.proofs.Common.{◌≡◌, ℕ, Bool, true, false, not, List, [], ◌∷◌, ◌++◌, map, refl, sym, ap, ◌∙◌, subst, append_assoc, append-nil, arith}
+use Rattle.std.specs.Prelude.{Option, Some, None, is_none, is_some, ◌==◌, ◌&&◌, option_to_list, nat_lt}
 use Rattle.std.proofs.lemmas.Grind.{flat_map-append}
 use Rattle.std.proofs.lemmas.List.{map-append}
 use Rattle.node_core.proofs.Words.{AreNotes, EndsStandFor, Entry, IsInStep, KeptEnds, Message, Node, Port, Work, end_of, entries_for, kept_number}
 use Rattle.node_core.proofs.Words.{noting, report_told, told, unnumbered}
-use Rattle.link_laws.specs.entries.Entries.{Entry as Noted}
+use Rattle.link_laws.specs.entries.Entries.{Entry as Noted, End as Side, if_so}
 use Rattle.history.specs.Steps.{entry_of}
 use Rattle.swp_base.specs.declared.link_terms.Cause.{Cause}
-use Rattle.std.specs.Prelude.{nat_lt}
 use Rattle.trace_model.specs.declared.entry.Entry.TheVariants as entry
 use Rattle.link_laws.specs.machine.Machine.{Report, oldest}
-use Rattle.link_laws.specs.entries.Entries.{End as Side, if_so}
 use Rattle.link_laws.specs.entries.Entries.Entry.{Up, Down, Active, GaveUp, Acked, Got}
 use Rattle.node_core.specs.Noting.{tells_nothing, without_message}
 
@@ -43,8 +40,7 @@ unnoted_by {V} noted short {old} {after} {es} is same =
     subst P (sym is) (notes_are (no_notes (short old) (noted old)) same)
 
 still : (was short : Bool) → (was ≡ true → short ≡ true) → short ≡ false → was ≡ false
-still true short stays kept = absurd (true≢false (sym (stays refl) ∙ kept))
-still false short stays kept = refl
+still was short stays kept = grind arith
 
 -- some are noted, and then others
 pub notes_then : {a b c : Bool} {x y z es fs : List Entry} → AreNotes a b x y es → AreNotes b c y z fs → AreNotes a c x z (es ++ fs)
@@ -80,26 +76,21 @@ both h xs ys {es} {fs} one other =
 
 down_plain : (h : ℕ) (who : Side) (o : Option Cause)
     → map unnumbered (entries_for h (map (Down who) (option_to_list o))) ≡ entries_for h (map (Down who) (option_to_list o))
-down_plain h who None = refl
-down_plain h who (Some cause) = refl
+down_plain h who o = grind arith
 
 up_plain : (h : ℕ) (who : Side) (n : ℕ) (b : Bool) → map unnumbered (entries_for h (if_so b (Up who n))) ≡ entries_for h (if_so b (Up who 0))
-up_plain h who n true = refl
-up_plain h who n false = refl
+up_plain h who n b = grind arith
 
 active_plain : (h : ℕ) (who : Side) (b : Bool) → map unnumbered (entries_for h (if_so b (Active who))) ≡ entries_for h (if_so b (Active who))
-active_plain h who true = refl
-active_plain h who false = refl
+active_plain h who b = grind arith
 
 gave_up_plain : (h : ℕ) (who : Side) (o : Option ℕ)
     → map unnumbered (entries_for h (map (GaveUp who) (option_to_list o))) ≡ entries_for h (map (GaveUp who) (option_to_list o))
-gave_up_plain h who None = refl
-gave_up_plain h who (Some tries) = refl
+gave_up_plain h who o = grind arith
 
 acked_plain : (h : ℕ) (who : Side) (n count : ℕ) (b : Bool)
     → map unnumbered (entries_for h (if_so b (Acked who n count))) ≡ entries_for h (if_so b (Acked who 0 (kept_number count)))
-acked_plain h who n count true = refl
-acked_plain h who n count false = refl
+acked_plain h who n count b = grind arith
 
 got_plain : (h : ℕ) (who : Side) (n : ℕ) (ms : List Message)
     → map unnumbered (entries_for h (map (Got who n) ms)) ≡ entries_for h (map (Got who 0) ms)
@@ -123,35 +114,20 @@ told_plain h who n x acked =
     (got_plain h who n x.got))))) in
     ap (λ l. l ++ g) (whole h d u a v k)
     ∙ (append_assoc (entries_for h d) (entries_for h u ++ (entries_for h a ++ (entries_for h v ++ entries_for h k))) g
-    ∙ (ap (λ l. entries_for h d ++ l) (append_assoc (entries_for h u) (entries_for h a ++ (entries_for h v ++ entries_for h k)) g
-    ∙ ap (λ l. entries_for h u ++ l) (append_assoc (entries_for h a) (entries_for h v ++ entries_for h k) g
-    ∙ ap (λ l. entries_for h a ++ l) (append_assoc (entries_for h v) (entries_for h k) g)))
+    ∙ (ap (λ l. entries_for h d ++ l) (grind arith)
     ∙ sym numbered))
 
 -- ## Nothing is noted
-
-first_true : (a b : Bool) → (a && b) ≡ true → a ≡ true
-first_true true b q = refl
-first_true false b q = absurd (true≢false (sym q))
 
 nothing : (h : ℕ) (who : Side) (n acked : ℕ) (o : Option Cause) (b a : Bool) (v : Option ℕ) (k : ℕ) (ms : List Message)
     → (is_none o && (not b && (not a && (is_none v && ((k == 0) && not (is_some (oldest ms))))))) ≡ true
     → map (Down who) (option_to_list o) ++ (if_so b (Up who n) ++ (if_so a (Active who)
     ++ (map (GaveUp who) (option_to_list v) ++ (if_so (nat_lt 0 k) (Acked who n acked) ++ map (Got who n) ms)))) ≡ []
-nothing h who n acked None false false None zero [] q = refl
-nothing h who n acked None false false None zero (m ∷ ms) q = absurd (true≢false (sym q))
-nothing h who n acked None false false None (suc k) ms q =
-    let e = eqb-true (suc k) 0 (first_true (suc k == 0) (not (is_some (oldest ms))) q) in absurd (omega (arith, e))
-nothing h who n acked None false false (Some v) k ms q = absurd (true≢false (sym q))
-nothing h who n acked None false true v k ms q = absurd (true≢false (sym q))
-nothing h who n acked None true a v k ms q = absurd (true≢false (sym q))
-nothing h who n acked (Some o) b a v k ms q = absurd (true≢false (sym q))
+nothing h who n acked o b a v k ms q = grind arith
 
 pub told_nothing : (h : ℕ) (who : Side) (n : ℕ) (x : Report) (acked : ℕ) → tells_nothing (report_told x) ≡ true
     → [] ≡ map unnumbered (entries_for h (told who n x acked))
-told_nothing h who n x acked q =
-    ap (λ (es : List Noted). map unnumbered (entries_for h es))
-    (sym (nothing h who n acked x.ended x.began x.became_active x.gave_up x.acked x.got q))
+told_nothing h who n x acked q = grind arith
 
 -- ## A node in a step
 
@@ -170,5 +146,4 @@ comes_noted {before = before} {start = start} {was = was} {short = short} {w = w
 }
 
 pub no_some : {X : Type 0} (o : Option X) → ((x : X) → o ≡ Some x → ⊥) → o ≡ None
-no_some None none = refl
-no_some (Some x) none = absurd (none x refl)
+no_some o none = grind arith

@@ -1,18 +1,16 @@
 -- A node stays in order: its turns leave its links and their hosts, and an init that runs waits for the answer to its command.
-use Rattle.std.proofs.Common.{◌≡◌, ◌≢◌, ℕ, Bool, true, false, List, [], ◌∷◌, map, refl, sym, ap, ◌∙◌, subst}
+use Rattle.std.proofs.Common.{◌≡◌, ◌≢◌, ℕ, Bool, true, false, List, [], ◌∷◌, map, refl, sym, ap, ◌∙◌, subst, arith}
 use Rattle.std.specs.Prelude.{Option, Some, None, ◌==◌}
 use Rattle.std.specs.Option.{option_map, option_map_or}
-use Rattle.node_core.proofs.Words.{AreGranted, Asks, Brings, Commits, Core, Drops, Ends, Foretells, Hears, Init, IsAnswered, IsNodeInOrder, IsOnTask, Message}
-use Rattle.node_core.proofs.Words.{Orders, Plan, Port, Releases, SaysOk, Sends, SetsErrors, Tells, Work, Write, all_done, body_of, commit_writes}
+use Rattle.node_core.proofs.Words.{AreGranted, Brings, Core, Foretells, Init, IsNodeInOrder, IsOnTask, Message, Plan, Port, Work, Write, all_done}
 use Rattle.node_core.proofs.Words.{controller_deeds, deeds_of, done, end_view, goes_through_ends, got_at, handles, has_turn, have_turns, held_at, holds_back}
 use Rattle.node_core.proofs.Words.{host_deeds, lack, lets_go, needs, own_view, passes, plan_behind, plan_left, port_at, unless_cut, view_of}
 use Rattle.node_machine.specs.Parts.{Deed}
-use Rattle.node_machine.specs.Parts.Deed.{GoesOn}
 use Rattle.node_core.proofs.Joining.{goes_on}
 use Rattle.node_core.proofs.Allowing.{controller_allowed}
 use Rattle.node_core.proofs.HostAllowing.{host_allowed}
 use Rattle.node_core.proofs.Elsewhere.{host_at, let_links, held_links, handled_links, of_hosts}
-use Rattle.node_core.proofs.EndKinds.{kind_at, same_kinds, hosts_alike, roles_alike, roles_of}
+use Rattle.node_core.proofs.EndKinds.{kind_at, same_kinds, hosts_alike, roles_alike}
 
 -- ## Hosts and tasks
 
@@ -25,12 +23,7 @@ in_order_at core a b same order = record {
 }
 
 pub with_task : (core other : Core) (ports : List Port) → other.node ≡ core.node → IsOnTask other → IsNodeInOrder core ports → IsNodeInOrder other ports
-with_task core other ports node task order = record {
-  hosts = order.hosts;
-  own = λ some. order.own (λ none. some (node ∙ none)) ∙ ap (λ (n : ℕ). n ∷ []) (sym node);
-  roles = roles_of core.node other.node ports node order.roles;
-  task = task;
-}
+with_task core other ports node task order = grind arith
 
 -- ## Without a write that fails
 
@@ -39,49 +32,13 @@ none_behind [] = refl
 none_behind (x ∷ writes) = none_behind writes
 
 done_plan : (h : ℕ) (d : Deed) (w : Work) → w.plan ≡ None → (done h d w).plan ≡ None
-done_plan h (Commits c) w none = rw none (none_behind (commit_writes w.core.journal w.core.tables (body_of c)))
-done_plan h (Sends to m) w none = none
-done_plan h SaysOk w none = none
-done_plan h (Asks to message c) w none = none
-done_plan h (Releases asker) w none = none
-done_plan h (Tells to message) w none = none
-done_plan h IsAnswered w none = none
-done_plan h (Drops pid) w none = none
-done_plan h (SetsErrors errors) w none = none
-done_plan h (Orders message) w none = none
-done_plan h Hears w none = none
-done_plan h (GoesOn i) w none = none
-done_plan h (Ends e) w none = none
+done_plan h d w none = grind arith
 
 done_cut : (h : ℕ) (d : Deed) (w : Work) → w.plan ≡ None → (done h d w).cut ≡ w.cut
-done_cut h (Commits c) w none = rw none refl
-done_cut h (Sends to m) w none = refl
-done_cut h SaysOk w none = refl
-done_cut h (Asks to message c) w none = refl
-done_cut h (Releases asker) w none = refl
-done_cut h (Tells to message) w none = refl
-done_cut h IsAnswered w none = refl
-done_cut h (Drops pid) w none = refl
-done_cut h (SetsErrors errors) w none = refl
-done_cut h (Orders message) w none = refl
-done_cut h Hears w none = refl
-done_cut h (GoesOn i) w none = refl
-done_cut h (Ends e) w none = refl
+done_cut h d w none = grind arith
 
 pub done_node : (h : ℕ) (d : Deed) (w : Work) → w.plan ≡ None → (done h d w).core.node ≡ w.core.node
-done_node h (Commits c) w none = rw none refl
-done_node h (Sends to m) w none = refl
-done_node h SaysOk w none = refl
-done_node h (Asks to message c) w none = refl
-done_node h (Releases asker) w none = refl
-done_node h (Tells to message) w none = refl
-done_node h IsAnswered w none = refl
-done_node h (Drops pid) w none = refl
-done_node h (SetsErrors errors) w none = refl
-done_node h (Orders message) w none = refl
-done_node h Hears w none = refl
-done_node h (GoesOn i) w none = refl
-done_node h (Ends e) w none = refl
+done_node h d w none = grind arith
 
 -- a node that has its power, and in which no write is to fail
 pub record IsSure (w : Work) : Type 0 where
@@ -115,11 +72,7 @@ granted_leave h init (d ∷ deeds) w s granted =
     let l = granted_leave h init deeds next power (subst G (planless w s.plan) granted.1) in
     let S : Work → Type 0 = λ v. IsSure v in
     let T : Work → Type 0 = λ v. IsOnTask v.core in
-    record {
-      sure = subst S (sym same) l.sure;
-      node = ap (λ (v : Work). v.core.node) same ∙ (l.node ∙ done_node h d w s.plan);
-      task = subst T (sym same) l.task;
-    }
+    grind arith
 
 -- ## Turns
 
@@ -179,10 +132,7 @@ let_fine h w f = by (held_at w.ports h) refl
 
     by : (b : Bool) → held_at w.ports h ≡ b → IsFine (lets_go h w)
     by true q = let o : IsNodeInOrder w.core _ = rw q at order in rw q (record { sure = record { power = f.sure.power; plan = f.sure.plan }; order = o })
-    by false q = let P : Work → Type 0 = λ v. IsFine v in subst P (sym (same q)) f
-      where
-        same : held_at w.ports h ≡ false → lets_go h w ≡ w
-        same q = rw q refl
+    by false q = grind arith
 
 pub turns_fine : (h : ℕ) (ms : List Message) (w : Work) → IsFine w → IsFine (have_turns h ms w)
 turns_fine h [] w f = let_fine h w f

@@ -2,11 +2,11 @@
 use Rattle.std.proofs.Common.{◌≡◌, ◌≢◌, ℕ, suc, ◌≤◌, Bool, true, false, not, List, [], ◌∷◌, map, drop, length, refl, sym, ap, ◌∙◌, subst, arith}
 use Rattle.std.specs.Prelude.{Option, Some, None, option_map, slice_get, ◌==◌, ◌&&◌}
 use Rattle.std.specs.Option.{option_map_or}
-use Rattle.std.proofs.lemmas.Bool.{eqb-true, true≢false}
+use Rattle.std.proofs.lemmas.Bool.{true≢false}
 use Rattle.std.specs.List.{AllByRecursion}
 use Rattle.std.proofs.lemmas.List.{drop_all}
-use Rattle.node_core.proofs.Words.{AreAllDifferent, AreFewDue, Brings, Entry, FewAreDue, Foretells, IsInStep, IsNodeInOrder, Message, Node, Port, Work}
-use Rattle.node_core.proofs.Words.{goes_through_ends, got_at, have_turns, held_at, lets_go, passes, plan_left, port_at}
+use Rattle.node_core.proofs.Words.{AreAllDifferent, AreFewDue, Brings, Entry, FewAreDue, IsInStep, IsNodeInOrder, Message, Node, Port, Work, goes_through_ends}
+use Rattle.node_core.proofs.Words.{got_at, have_turns, held_at, lets_go, passes, plan_left, port_at}
 use Rattle.link_laws.specs.machine.Machine.{is_held}
 use Rattle.node_ends.specs.Ends.{rests}
 use Rattle.node_core.proofs.Joining.{brings_plain, brings_then, brings_cut}
@@ -37,21 +37,13 @@ module _ {N : Type 0} (writes : N → ℕ → List ℕ → Bool → N → Type 0
       → Brings writes old new S passes w
   all_passed b = brings_same b (λ plan. refl)
 
-first_true : (a b : Bool) → (a && b) ≡ true → a ≡ true
-first_true true b q = refl
-first_true false b q = absurd (true≢false (sym q))
-
 -- an end that rests
 pub none_waits : (ms : List Message) (held : Bool) → ((length ms == 0) && not held) ≡ true → ms ≡ []
 none_waits [] held q = refl
-none_waits (m ∷ ms) held q =
-    let e = eqb-true (length (m ∷ ms)) 0 (first_true (length (m ∷ ms) == 0) (not held) q) in absurd (omega (arith, e))
+none_waits (m ∷ ms) held q = grind arith
 
 pub not_held : (ms : List Message) (held : Bool) → ((length ms == 0) && not held) ≡ true → held ≡ false
-not_held ms false q = refl
-not_held [] true q = absurd (true≢false (sym q))
-not_held (m ∷ ms) true q =
-    let e = eqb-true (length (m ∷ ms)) 0 (first_true (length (m ∷ ms) == 0) false q) in absurd (omega (arith, e))
+not_held ms held q = grind arith
 
 -- ## One end after another
 
@@ -100,9 +92,7 @@ next_few k h is =
 after_turns : {N : Type 0} {writes : N → ℕ → List ℕ → Bool → N → Type 0} {old new : N} {S : Work → Type 0} {w : Work} (h : ℕ) (ms : List Message)
     (b : Brings writes old new S (have_turns h ms) w) → b.after.cut ≡ false → have_turns h ms (record w { plan = None })
     ≡ record b.after { plan = plan_left b.after.cut b.sure None }
-after_turns h ms b live =
-    let F : Bool → Type 0 = λ t. Foretells None b.sure b.torn t in
-    b.is None (subst F (sym live) refl)
+after_turns h ms b live = grind arith
 
 few_left : (hosts : List ℕ) (h : ℕ) (a b : List Port) → AllByRecursion (λ (g : ℕ). g ≢ h) hosts
     → AllByRecursion (λ (g : ℕ). FewAreDue (port_at a g)) hosts → ((g : ℕ) → g ≢ h → FewAreDue (port_at a g) → FewAreDue (port_at b g))
@@ -155,8 +145,7 @@ pass_rests {N} {writes} {first} {n} {noted} {start} {short} {i} {w} k none live 
         let quiet : rests p ≡ true = ap (λ (o : Option Port). option_map_or rests o false) (sym q) ∙ none in
         let got : [] ≡ got_at k.now.ports h =
         sym (none_waits p.side.got (is_held p.side) quiet) ∙ ap (λ (o : Option Port). option_map_or (λ (x : Port). x.side.got) o []) (sym at) in
-        let held : held_at k.now.ports h ≡ false =
-        ap (λ (o : Option Port). option_map_or (λ (x : Port). is_held x.side) o false) at ∙ not_held p.side.got (is_held p.side) quiet in
+        let held : held_at k.now.ports h ≡ false = grind arith in
         let U : Work → Type 0 = λ v. IsInStep n noted short start v in
         let T : List Message → Type 0 = λ ms. Brings writes n.store.journal.nv n.store.journal.nv (IsInStep n noted short start) (have_turns h ms) k.now in
         let b = subst T got (plainly writes {n2 = n} (lets_go h) k.under live refl (subst U (sym (stays h k.now held)) k.under) (let_cut h k.now)

@@ -1,8 +1,8 @@
 -- Over a memory whose failing write is planned, what a node did is what the machine does under that plan.
-use Rattle.std.proofs.Common.{◌≡◌, inl, inr, ℕ, Bool, true, false, not, List, [], ◌∷◌, ◌++◌, length, refl, sym, ap, ◌∙◌, subst, append-nil}
+use Rattle.std.proofs.Common.{◌≡◌, inl, inr, Bool, true, false, not, List, [], ◌∷◌, ◌++◌, length, sym, ap, ◌∙◌, subst, append-nil, arith}
 use Rattle.std.specs.Prelude.{None}
 use Rattle.std.proofs.lemmas.Bool.{true≢false, not-false, not-true}
-use Rattle.swp_base.specs.InMemory.{Memory, is_next, memory_after, WritesAsPlanned}
+use Rattle.swp_base.specs.InMemory.{Memory, is_next, WritesAsPlanned}
 use Rattle.node_core.proofs.Words.{AreMade, Brings, Foretells, WereMade, Work, Write, fails_within, plan_behind, plan_left}
 use Rattle.journal_laws.specs.Planned.{after_planned}
 use Rattle.journal_laws.proofs.Planned.{plan_of_memory_after, planned_answer, planned_memory}
@@ -17,13 +17,9 @@ plan_made (w ∷ ws) m n (inr rest) =
     plan_made ws rest.0 n rest.2
     ∙ ap (plan_behind ws) (ap (λ (x : Memory). x.plan) rest.1.memory ∙ plan_of_memory_after m w.at w.bytes later)
 
-spent_at : (m : Memory) (at : ℕ) (bytes : List ℕ) → is_next m.plan ≡ true → (memory_after m at bytes).plan ≡ None
-spent_at m at bytes next = rw next refl
-
 plan_spent : (ws : List Write) (m n : Memory) → AreMade WritesAsPlanned ws m false n → n.plan ≡ None
 plan_spent [] m n made = absurd (true≢false (sym made.0))
-plan_spent (w ∷ ws) m n (inl failed) =
-    ap (λ (x : Memory). x.plan) failed.1.memory ∙ spent_at m w.at w.bytes (not-false (is_next m.plan) (sym failed.1.answer))
+plan_spent (w ∷ ws) m n (inl failed) = grind arith
 plan_spent (w ∷ ws) m n (inr rest) = plan_spent ws rest.0 n rest.2
 
 -- the plan foretells what was made, and this is left of it

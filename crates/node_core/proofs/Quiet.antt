@@ -1,12 +1,12 @@
 -- What deeds leave at the ends of a node as it was: how many control frames wait there to be sent, whether they are held, what goes before
 -- their links, and the states of these.
-use Rattle.std.proofs.Common.{◌≡◌, ℕ, ◌+◌, ◌≤◌, Bool, true, false, not, List, [], ◌∷◌, ◌++◌, map, length, refl, sym, ap, ap₂, ◌∙◌, subst}
+use Rattle.std.proofs.Common.{◌≡◌, ℕ, ◌+◌, ◌≤◌, Bool, true, false, not, List, [], ◌∷◌, map, length, refl, sym, ap, ap₂, ◌∙◌, subst, arith}
 use Rattle.std.specs.Prelude.{Option, Some, None, ◌==◌, option_map}
 use Rattle.std.specs.List.{find}
 use Rattle.std.specs.Option.{option_map_or}
 use Rattle.node_core.proofs.Words.{Asks, Command, Commits, Drops, Ends, FetchMessage, FewAreDue, Give, Hears, IsAnswered, LinkState, Message, Orders, Port}
-use Rattle.node_core.proofs.Words.{Refused, Release, Releases, Role, SaysOk, Sends, SetAside, SetsErrors, Tells, Work, after_turn, all_done, aside_refusal}
-use Rattle.node_core.proofs.Words.{body_of, changed_if, commit_writes, done, fails_within, give_refusal, given, handles, held_at, port_at, unless, with_port}
+use Rattle.node_core.proofs.Words.{Release, Releases, Role, SaysOk, Sends, SetAside, SetsErrors, Tells, Work, after_turn, all_done, changed_if, done, handles}
+use Rattle.node_core.proofs.Words.{held_at, port_at, with_port}
 use Rattle.node_machine.specs.Parts.{Deed, Desk as DeskOf}
 use Rattle.node_machine.specs.Parts.Deed.{GoesOn}
 use Rattle.node_machine.specs.Carrying.{commit}
@@ -29,19 +29,10 @@ link_at p = (p.desk.host, p.side.role, p.side.shdlc.phase)
 -- ## What is done to one end
 
 give_quiet : (m : Message) (p : Port) → quiet_at (after_turn (Give m) p) ≡ quiet_at p
-give_quiet m p = by (give_refusal p.side m)
-  where
-    by : (o : Option Refused) → quiet_at (record p { side = unless o p.side (given p.side m); turns = p.turns ++ Give m ∷ [] }) ≡ quiet_at p
-    by None = refl
-    by (Some why) = refl
+give_quiet m p = grind arith
 
 aside_quiet : (p : Port) → quiet_at (after_turn SetAside p) ≡ quiet_at p
-aside_quiet p = by (aside_refusal p.side)
-  where
-    by : (o : Option Refused)
-        → quiet_at (record p { side = unless o p.side (record p.side { aside = p.side.aside + 1 }); turns = p.turns ++ SetAside ∷ [] }) ≡ quiet_at p
-    by None = refl
-    by (Some why) = refl
+aside_quiet p = grind arith
 
 -- ## All ends
 
@@ -51,8 +42,7 @@ with_port_quiet h f same [] = refl
 with_port_quiet h f same (p ∷ ports) = ap₂ (λ (q : Quiet) qs. q ∷ qs) (one (p.desk.host == h)) (with_port_quiet h f same ports)
   where
     one : (b : Bool) → quiet_at (changed_if b f p) ≡ quiet_at p
-    one true = same p
-    one false = refl
+    one b = grind arith
 
 -- ## Deeds
 
@@ -66,11 +56,7 @@ keeps_desk h f same ports =
     (λ p. ap (λ (n : ℕ). (n, length p.side.acts + length p.side.shdlc.due, p.side.shdlc.ready, p.side.role, p.side.shdlc.phase)) (same p.desk)) ports
 
 pub commit_ports : (c : Command) (w : Work) → (commit c w).ports ≡ w.ports
-commit_ports c w = by (fails_within (length (commit_writes w.core.journal w.core.tables (body_of c))) w.plan) refl
-  where
-    by : (b : Bool) → fails_within (length (commit_writes w.core.journal w.core.tables (body_of c))) w.plan ≡ b → (commit c w).ports ≡ w.ports
-    by true q = rw q refl
-    by false q = rw q refl
+commit_ports c w = grind arith
 
 pub done_quiet : (h : ℕ) (d : Deed) (w : Work) → map quiet_at (done h d w).ports ≡ map quiet_at w.ports
 done_quiet h (Commits c) w = ap (map quiet_at) (commit_ports c w)
@@ -117,20 +103,17 @@ FewIn None = Unit {0}
 FewIn (Some q) = q.1 ≤ 6
 
 few_in : (o : Option Port) → FewAreDue o → FewIn (option_map quiet_at o)
-few_in None few = tt
-few_in (Some p) few = few
+few_in o few = grind arith
 
 in_few : (o : Option Port) → FewIn (option_map quiet_at o) → FewAreDue o
-in_few None few = tt
-in_few (Some p) few = few
+in_few o few = grind arith
 
 pub few_kept : (a b : List Port) (h : ℕ) → map quiet_at a ≡ map quiet_at b → FewAreDue (port_at a h) → FewAreDue (port_at b h)
 few_kept a b h same few = in_few (port_at b h) (subst FewIn (same_at a b h same) (few_in (port_at a h) few))
 
 held_in : (o : Option Port) → option_map_or (λ (p : Port). not p.side.shdlc.ready) o false
     ≡ option_map_or (λ (q : Quiet). not q.2) (option_map quiet_at o) false
-held_in None = refl
-held_in (Some p) = refl
+held_in o = grind arith
 
 pub held_kept : (a b : List Port) (h : ℕ) → map quiet_at a ≡ map quiet_at b → held_at a h ≡ held_at b h
 held_kept a b h same =

@@ -1,19 +1,14 @@
 -- A reset that is refused changes nothing, and a tick brings no identifier.
-use Rattle.std.proofs.Common.{◌≡◌, ◌≢◌, ℕ, ◌+◌, ◌≤◌, Bool, true, false, List, [], ◌∷◌, ◌++◌, map, refl, sym, ap, ap₂, ◌∙◌, subst, arith, append-nil}
-use Rattle.std.specs.Prelude.{Option, Some, None, Ok, Err, option_map, ◌==◌, nat_le}
+use Rattle.std.proofs.Common.{◌≡◌, ◌≢◌, ℕ, ◌≤◌, Bool, true, false, List, [], ◌∷◌, ◌++◌, map, refl, sym, ap, ap₂, ◌∙◌, subst, arith, append-nil}
+use Rattle.std.specs.Prelude.{Option, Some, None, Err, option_map, ◌==◌}
 use Rattle.std.specs.List.{AllByRecursion, flat_map}
 use Rattle.std.proofs.lemmas.Bool.{eqb-true}
-use Rattle.swp_act.specs.declared.Phase.{Phase}
-use Rattle.swp_act.specs.declared.Phase.TheVariants.{Inactive, Awaiting, Active}
-use Rattle.node_core.proofs.Words.{Act, AreAllDifferent, AreAtMostDue, AreFewDue, AreYoung, Asked, AtEnd, Core, Entry, HasNoneEnded, Port, Refused}
-use Rattle.node_core.proofs.Words.{ResetRefused, Role, TimePasses, Work, act_answer, after_input, all_come, due_count, has_come, if_up, input_at, is_late}
-use Rattle.node_core.proofs.Words.{is_open, port_at, report, reset_few_due, reset_late, reset_refusal, reset_refusal_at, synced, with_older, with_port}
-use Rattle.swp_act.specs.declared.ActEvent.TheVariants.{Tick as ActTick}
-use Rattle.swp_act.specs.Activation.{out_ticked}
+use Rattle.node_core.proofs.Words.{AreAllDifferent, AreAtMostDue, AreFewDue, AreYoung, AtEnd, Core, Entry, HasNoneEnded, Port, ResetRefused, TimePasses, Work}
+use Rattle.node_core.proofs.Words.{after_input, all_come, due_count, has_come, input_at, is_late, port_at, report, reset_few_due, reset_late, reset_refusal_at}
+use Rattle.node_core.proofs.Words.{synced, with_older, with_port}
 use Rattle.link_laws.specs.machine.Machine.{LinkEnd as Machine}
 use Rattle.link_laws.specs.machine.Machine.LinkInput.{Reset, Tick}
-use Rattle.link_laws.specs.machine.Machine.Role.{Bare, Clf, Uicc}
-use Rattle.link_end.specs.Reports.{reset_refused, reset_told, nothing_told}
+use Rattle.link_end.specs.Reports.{reset_told}
 use Rattle.node_ends.proofs.Dues.{tick_few}
 use Rattle.node_core.proofs.Elsewhere.{host_at}
 use Rattle.node_core.proofs.Arriving.{come_is}
@@ -25,11 +20,7 @@ use Rattle.node_core.proofs.Stepping.{silent_synced}
 
 refused_side : (p : Port) (window : Option ℕ) (why : ResetRefused) → Err why ≡ reset_told p.side window → p.ended ≡ false
     → has_come p (Some (Reset window)) ≡ p
-refused_side p window why is going = by (reset_refusal p.side) refl
-  where
-    by : (o : Option Refused) → reset_refusal p.side ≡ o → has_come p (Some (Reset window)) ≡ p
-    by None q = absurd (let y : Err why ≡ Ok (record nothing_told { ended = if_up p.side.shdlc Asked }) = rw q at is in cc)
-    by (Some r) q = rw q (ap (λ (b : Bool). record p { ended = b }) (sym going))
+refused_side p window why is going = grind arith
 
 refused_ports : (h : ℕ) (window : Option ℕ) (why : ResetRefused) (ports : List Port) → AreAllDifferent (map host_at ports) → HasNoneEnded ports
     → Some (Err why) ≡ option_map (λ (p : Port). reset_told p.side window) (port_at ports h)
@@ -48,9 +39,7 @@ refused_ports h window why (p ∷ ports) differ none is = by (refused_ports h wi
         let N : ℕ → Type 0 = λ m. AllByRecursion (λ (g : ℕ). g ≢ m) (map host_at ports) in
         rw q (ap₂ (λ (x : Port) xs. x ∷ xs) (refused_side p window why told none.0.1)
         (none_with h (λ p. has_come p (Some (Reset window))) ports (subst N (eqb-true p.desk.host h q) differ.0)))
-    by later false q =
-        let told : Told = rw q at is in
-        rw q (ap (λ xs. p ∷ xs) (later told))
+    by later false q = grind arith
 
 -- a reset that is refused leaves a step as it was
 pub refused_stays : (h : ℕ) (window : Option ℕ) (why : ResetRefused) (w : Work) → AreAllDifferent (map host_at w.ports) → HasNoneEnded w.ports
@@ -64,39 +53,12 @@ refused_stays h window why w differ none is =
 -- so it was told
 pub refused_is : (window : Option ℕ) (o : Option Port) (why : ResetRefused) → reset_refusal_at o ≡ Some why
     → Some (Err why) ≡ option_map (λ (p : Port). reset_told p.side window) o
-refused_is window None why is = cc
-refused_is window (Some p) why is = by (reset_refusal p.side) refl
-  where
-    by : (r : Option Refused) → reset_refusal p.side ≡ r → Some (Err why) ≡ Some (reset_told p.side window)
-    by None q = absurd (let z : None ≡ Some why = rw q at is in cc)
-    by (Some refused) q =
-        let z : Some (reset_refused refused) ≡ Some why = rw q at is in
-        let e : why ≡ reset_refused refused = cc in
-        rw q (ap (λ (x : ResetRefused). Some (Err x)) e)
+refused_is window o why is = grind arith
 
 -- ## Ticks
 
-ticked_silent : (phase : Phase) (last : Option Act) → (out_ticked phase last).sync ≡ None
-ticked_silent Inactive last = refl
-ticked_silent (Awaiting tries ticks) last = by (nat_le 10 (ticks + 1)) (nat_le 3 tries) refl refl
-  where
-    by : (a b : Bool) → nat_le 10 (ticks + 1) ≡ a → nat_le 3 tries ≡ b → (out_ticked (Awaiting tries ticks) last).sync ≡ None
-    by false b p q = rw p refl
-    by true true p q = rw (p, q) refl
-    by true false p q = rw (p, q) refl
-ticked_silent Active last = refl
-
-tick_answer_silent : (r : Role) → (act_answer r ActTick).sync ≡ None
-tick_answer_silent Bare = refl
-tick_answer_silent (Clf s) = ticked_silent s.phase s.last
-tick_answer_silent (Uicc s) = ticked_silent s.phase s.last
-
 tick_silent : (e : Machine) → (report e Tick).sync ≡ None
-tick_silent e = by (is_open e.role) refl
-  where
-    by : (b : Bool) → is_open e.role ≡ b → (report e Tick).sync ≡ None
-    by true q = rw q refl
-    by false q = rw q (tick_answer_silent e.role)
+tick_silent e = grind arith
 
 pub tick_synced : (core : Core) (ports : List Port) → flat_map (synced core TimePasses) ports ≡ []
 tick_synced core ports = silent_synced core TimePasses (λ p. (let s = tick_silent p.side in rw s refl)) ports

@@ -1,5 +1,5 @@
 -- A message that is relayed: it has its turn and is sent in one.
-use Rattle.std.proofs.Common.{◌≡◌, ℕ, Bool, true, false, List, [], ◌∷◌, ◌++◌, map, refl, sym, ap, ◌∙◌, subst, append-nil}
+use Rattle.std.proofs.Common.{◌≡◌, ℕ, Bool, true, false, List, [], ◌∷◌, ◌++◌, map, refl, sym, ap, ◌∙◌, subst, append-nil, arith}
 use Rattle.std.specs.Prelude.{◌==◌}
 use Rattle.std.specs.Option.{option_map_or}
 use Rattle.node_core.proofs.Words.{Brings, End, EndsStandFor, Entry, FetchMessage, Give, IsInStep, KeptEnds, Message, Node, Port, Sends, Work, after_turn}
@@ -25,8 +25,7 @@ either_first h (p ∷ ports) = by (p.desk.host == h) refl (either_first h ports)
     by : (b : Bool) → (p.desk.host == h) ≡ b → with_port h (after_turn FetchMessage) (with_port h not_held ports)
         ≡ with_port h not_held (with_port h (after_turn FetchMessage) ports)
         → with_port h (after_turn FetchMessage) (with_port h not_held (p ∷ ports)) ≡ with_port h not_held (with_port h (after_turn FetchMessage) (p ∷ ports))
-    by true q later = rw (q, q) (ap (λ (l : List Port). not_held (after_turn FetchMessage p) ∷ l) later)
-    by false q later = rw (q, q) (ap (λ (l : List Port). p ∷ l) later)
+    by b q later = grind arith
 
 pub got_still : (h : ℕ) (ports : List Port) → got_at (with_port h not_held ports) h ≡ got_at ports h
 got_still h [] = refl
@@ -34,8 +33,7 @@ got_still h (p ∷ ports) = by (p.desk.host == h) refl (got_still h ports)
   where
     by : (b : Bool) → (p.desk.host == h) ≡ b → got_at (with_port h not_held ports) h ≡ got_at ports h
         → got_at (with_port h not_held (p ∷ ports)) h ≡ got_at (p ∷ ports) h
-    by true q later = rw (q, q) refl
-    by false q later = rw (q, q) later
+    by b q later = grind arith
 
 -- ## Turns
 
@@ -67,8 +65,7 @@ pub relayed_sent : {N : Type 0} {n : Node N} {ends : KeptEnds} {noted now start 
     → IsInStep (record n { ends = ends }) now short start (turn_at to (Give m) (turned h w))
 relayed_sent {noted = noted} {start = start} {w = w} {at = at} m h to u stands takes stays more is =
     let s = sent_noted w.core to m (turned h w).ports takes in
-    let at_is : noted ++ entry.Sent at 0 m.0 m.1 ∷ [] ≡ noted ++ entry.Sent (end_of_node w.core to) 0 m.0 m.1 ∷ [] =
-    ap (λ (e : End). noted ++ entry.Sent e 0 m.0 m.1 ∷ []) is in
+    let at_is : noted ++ entry.Sent at 0 m.0 m.1 ∷ [] ≡ noted ++ entry.Sent (end_of_node w.core to) 0 m.0 m.1 ∷ [] = grind arith in
     relayed m h to u stands s.notes_are
     (λ kept. more_noted start w.entries (entry.Sent (end_of_node w.core to) s.session m.0 m.1) stays (λ k. more k ∙ at_is) u.noted_are kept)
 
@@ -82,11 +79,7 @@ relayed_nowhere {start = start} {w = w} m h to u stands refuses =
 -- ## The whole turn
 
 pub one_done : (h : ℕ) (d : DeedOf) (w : Work) → all_done h (d ∷ []) w ≡ done h d w
-one_done h d w = by (done h d w).cut refl
-  where
-    by : (b : Bool) → (done h d w).cut ≡ b → all_done h (d ∷ []) w ≡ done h d w
-    by true q = rw q refl
-    by false q = rw q refl
+one_done h d w = grind arith
 
 pub relay_handles : {N : Type 0} (writes : N → ℕ → List ℕ → Bool → N → Type 0) {n n2 : Node N} {noted now start : List Entry} {was short : Bool} {w : Work}
     (h to : ℕ) (m : Message) → IsInStep n noted was start w → n.store.journal.live ≡ true → n2.store ≡ n.store

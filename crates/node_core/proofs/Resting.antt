@@ -1,16 +1,14 @@
 -- What a step of a node leaves at its ends for the next one, where no write fails.
-use Rattle.std.proofs.Common.{◌≡◌, ℕ, ◌+◌, ◌≤◌, Bool, true, false, not, List, [], ◌∷◌, map, refl, sym, ap, ap₂, ◌∙◌, subst, arith}
-use Rattle.std.specs.Prelude.{Option, Some, None, ◌||◌, ◌&&◌, ◌==◌, nat_le}
+use Rattle.std.proofs.Common.{◌≡◌, ℕ, ◌+◌, ◌≤◌, Bool, true, false, List, [], ◌∷◌, map, refl, sym, ap, ap₂, ◌∙◌, subst, arith}
+use Rattle.std.specs.Prelude.{Option, Some, None, ◌||◌}
 use Rattle.std.specs.List.{AllByRecursion, flat_map}
 use Rattle.std.proofs.lemmas.Bool.{true≢false}
-use Rattle.std.proofs.lemmas.Bool.Decides.{nat_tests}
 use Rattle.link_laws.specs.machine.Machine.{LinkEnd as Machine}
-use Rattle.node_core.proofs.Words.{AreAllDifferent, AtEnd, LinkInput, NodeInput, Notice, Port, TimePasses, Work, after_input, all_come, all_done, all_owed}
-use Rattle.node_core.proofs.Words.{asked_at, due_count, forgets, forgotten, has_come, input_at, is_forgotten, is_late, is_over, left_over, passes}
-use Rattle.node_core.proofs.Words.{reset_few_due, reset_late, settles, steps, synced, times_out, unless_cut, with_older, without_notice}
+use Rattle.node_core.proofs.Words.{AreAllDifferent, AtEnd, LinkInput, NodeInput, Port, TimePasses, Work, after_input, all_come, all_done, all_owed, due_count}
+use Rattle.node_core.proofs.Words.{forgets, forgotten, has_come, input_at, is_late, is_over, left_over, passes, reset_few_due, reset_late, settles, steps}
+use Rattle.node_core.proofs.Words.{synced, times_out, unless_cut, with_older, without_notice}
 use Rattle.link_laws.specs.machine.Machine.LinkInput.{Tick}
 use Rattle.node_machine.specs.Parts.{Deed}
-use Rattle.node_ends.specs.Desks.{forgotten_at}
 use Rattle.node_ends.proofs.Dues.{tick_few}
 use Rattle.node_core.proofs.Joining.{stays_cut, goes_on}
 use Rattle.node_core.proofs.Elsewhere.{host_at, same_hosts}
@@ -34,22 +32,10 @@ pub record HasCome (n : ℕ) (p : Port) : Type 0 where
 
 -- an input comes to an end that is at rest
 come_one : (o : Option LinkInput) → ((i : LinkInput) → o ≡ Some i → MakesOneMore i) → (p : Port) → Of (Ready 0) p → HasCome 1 (has_come p o)
-come_one None more p r = let few = r.0 in record { few = omega (arith, few); in_time = λ over. r.1 }
-come_one (Some i) more p r =
-    let few = r.0 in
-    let one = more i refl p.side in
-    record { few = omega (arith, few, one); in_time = λ over. r.1 }
+come_one o more p r = grind arith
 
 input_more : (input : NodeInput) → MakeOneMore input → (p : Port) (i : LinkInput) → input_at input p ≡ Some i → MakesOneMore i
-input_more (AtEnd h j) more p i is = by (p.desk.host == h) refl
-  where
-    by : (b : Bool) → (p.desk.host == h) ≡ b → MakesOneMore i
-    by true q =
-        let same : Some j ≡ Some i = rw q at is in
-        let e : j ≡ i = cc in
-        let P : LinkInput → Type 0 = λ x. MakesOneMore x in
-        subst P e more
-    by false q = absurd (let none : None ≡ Some i = rw q at is in cc)
+input_more (AtEnd h j) more p i is = grind arith
 input_more TimePasses more p i is =
     let e : Tick ≡ i = cc in
     let P : LinkInput → Type 0 = λ x. MakesOneMore x in
@@ -63,25 +49,7 @@ come_all input more w all =
 -- ## Notices that are late
 
 older_age : (p : Port) → notice_age (with_older p).desk ≤ notice_age p.desk + 1
-older_age p = by p.desk.notice refl
-  where
-    by : (o : Option Notice) → p.desk.notice ≡ o → notice_age (with_older p).desk ≤ notice_age p.desk + 1
-    by None q = rw q (omega arith)
-    by (Some n) q = rw q (omega arith)
-
--- a notice that isn't late, and whose session hasn't ended, is in time
-late_age : (p : Port) → p.ended ≡ false → is_late p ≡ false → notice_age p.desk ≤ 99
-late_age p going late = by p.desk.notice refl
-  where
-    by : (o : Option Notice) → p.desk.notice ≡ o → notice_age p.desk ≤ 99
-    by None q = rw q (omega arith)
-    by (Some n) q =
-        let less : (nat_le 100 n.age && not false) ≡ false = rw (q, going) at late in
-        rw q (grind (arith, nat_tests))
-
-ended_first : (b c : Bool) → (b || c) ≡ false → b ≡ false
-ended_first true c q = q
-ended_first false c q = refl
+older_age p = grind arith
 
 reset_one : (p : Port) → HasCome 1 p → HasCome 2 (reset_late (with_older p))
 reset_one p has = by (is_late (with_older p)) refl
@@ -90,10 +58,7 @@ reset_one p has = by (is_late (with_older p)) refl
     by true q =
         let few = has.few in
         let one = reset_few_due p.side None in
-        rw q (record {
-          few = omega (arith, few, one);
-          in_time = λ over. absurd (is_over_late over);
-        })
+        rw q ((grind arith))
       where
         is_over_late : (p.ended || true) ≡ false → ⊥
         is_over_late over = go p.ended over
@@ -101,12 +66,7 @@ reset_one p has = by (is_late (with_older p)) refl
             go : (c : Bool) → (c || true) ≡ false → ⊥
             go true e = true≢false e
             go false e = true≢false e
-    by false q =
-        let few = has.few in
-        rw q (record {
-          few = omega (arith, few);
-          in_time = λ over. late_age (with_older p) (ended_first p.ended p.late over) q;
-        })
+    by false q = grind arith
 
 more_few : (p : Port) → HasCome 1 p → HasCome 2 p
 more_few p has = let few = has.few in record { few = omega (arith, few); in_time = has.in_time }
@@ -126,24 +86,10 @@ out_all TimePasses w all = each_twice w.ports all
 -- ## Sessions that ended
 
 forgets_one : (ports : List Port) (p : Port) → HasCome 2 p → HasCome 2 (forgets ports p)
-forgets_one ports p has = by (is_forgotten ports (asked_at p)) refl
-  where
-    by : (b : Bool) → is_forgotten ports (asked_at p) ≡ b → HasCome 2 (forgets ports p)
-    by true q = rw q (notice p.desk.notice refl)
-      where
-        notice : (o : Option Notice) → p.desk.notice ≡ o → HasCome 2 (forgotten_at p)
-        notice None z = rw z (record { few = has.few; in_time = λ over. omega arith })
-        notice (Some n) z =
-            let old : is_over p ≡ false → n.age ≤ 99 = rw z at has.in_time in
-            rw z (record { few = has.few; in_time = old })
-    by false q = rw q has
+forgets_one ports p has = grind arith
 
 without_one : (p : Port) → HasCome 2 p → Of (Ready 2) (without_notice p)
-without_one p has = by (is_over p) refl
-  where
-    by : (b : Bool) → is_over p ≡ b → Of (Ready 2) (without_notice p)
-    by true q = rw q (has.few, omega arith)
-    by false q = rw q (has.few, has.in_time q)
+without_one p has = grind arith
 
 left_all : (w : Work) → AllByRecursion (HasCome 2) w.ports → OfAll (Ready 2) (left_over w).ports
 left_all w all = go w.ports all
@@ -179,16 +125,14 @@ come_hosts_all input [] = refl
 come_hosts_all input (p ∷ ports) = ap₂ (λ (n : ℕ) ns. n ∷ ns) (one (input_at input p)) (come_hosts_all input ports)
   where
     one : (o : Option LinkInput) → (has_come p o).desk.host ≡ p.desk.host
-    one None = refl
-    one (Some i) = refl
+    one o = grind arith
 
 late_hosts : (ports : List Port) → map host_at (map reset_late (map with_older ports)) ≡ map host_at ports
 late_hosts [] = refl
 late_hosts (p ∷ ports) = ap₂ (λ (n : ℕ) ns. n ∷ ns) (one (is_late (with_older p)) refl) (late_hosts ports)
   where
     one : (b : Bool) → is_late (with_older p) ≡ b → (reset_late (with_older p)).desk.host ≡ p.desk.host
-    one true q = rw q refl
-    one false q = rw q refl
+    one b q = grind arith
 
 out_hosts : (input : NodeInput) (w : Work) → map host_at (times_out input w).ports ≡ map host_at w.ports
 out_hosts (AtEnd h i) w = refl

@@ -1,9 +1,9 @@
 -- A controller is seen as its node: what its node's calls ensure.
-use Rattle.std.proofs.Common.{◌≡◌, ℕ, Bool, true, List, map, refl, sym, ap, ◌∙◌, subst}
-use Rattle.node_core.proofs.Words.{Core, Entry, IsInStep, Node, Port, ResetRefused, RunsAs, Stored, between, port_at, reset_refusal_at}
-use Rattle.std.specs.Prelude.{Option, Some, None, option_map, IsTrue, Result, Ok, Err, is_ok, MatchResult}
+use Rattle.std.proofs.Common.{◌≡◌, ℕ, Bool, true, List, map, sym, ap, ◌∙◌, subst, arith}
+use Rattle.node_core.proofs.Words.{Core, Entry, IsInStep, Node, Port, ResetRefused, RunsAs, between, port_at, reset_refusal_at}
+use Rattle.std.specs.Prelude.{Option, Some, None, option_map, Result, is_ok, MatchResult}
 use Rattle.node_core.specs.Running.{MayStep}
-use Rattle.node_core.proofs.Between.{at_rest, kept_at, usable_with}
+use Rattle.node_core.proofs.Between.{at_rest, kept_at}
 
 pub seen_may : {N : Type 0} {n v : Node N} → n ≡ v → MayStep v → MayStep n
 seen_may {N} same may = let P : Node N → Type 0 = λ x. MayStep x in subst P (sym same) may
@@ -12,8 +12,7 @@ pub seen_runs : {N : Type 0} {n v : Node N} {core : Core} {ports : List Port} �
 seen_runs {N} {core = core} {ports = ports} same r = let P : Node N → Type 0 = λ x. RunsAs x core ports in subst P (sym same) r
 
 refusal_kept : (o : Option Port) → reset_refusal_at (option_map between o) ≡ reset_refusal_at o
-refusal_kept None = refl
-refusal_kept (Some p) = refl
+refusal_kept o = grind arith
 
 pub kept_refusal : (h : ℕ) (ports : List Port) → reset_refusal_at (port_at (map between ports) h) ≡ reset_refusal_at (port_at ports h)
 kept_refusal h ports = ap reset_refusal_at (kept_at h ports) ∙ refusal_kept (port_at ports h)
@@ -21,24 +20,11 @@ kept_refusal h ports = ap reset_refusal_at (kept_at h ports) ∙ refusal_kept (p
 -- a node that stands for the same step runs as before
 pub still_runs : {N : Type 0} {n n2 : Node N} {noted start : List Entry} {short : Bool} {core : Core} {ports : List Port} → RunsAs n core ports
     → IsInStep n2 noted short start (at_rest core ports) → n2.store ≡ n.store → RunsAs n2 core ports
-still_runs {N} r u store =
-    let L : Stored N → Type 0 = λ s. IsTrue s.journal.live in
-    record {
-      usable = usable_with store r.usable;
-      live = subst L (sym store) r.live;
-      node = u.node;
-      stands = u.core refl;
-      ends = u.ends;
-      order = r.order;
-      few = r.few;
-      in_time = r.in_time;
-      held = r.held;
-    }
+still_runs r u store = grind arith
 
 -- ## What a step ensures
 
 -- a step that is never refused was done
 pub never_refused : {X : Type 0} (r : Result X ResetRefused)
     → MatchResult r (λ done. ◌≡◌ {A = Option ResetRefused} None None) (λ (why : ResetRefused). ◌≡◌ {A = Option ResetRefused} None (Some why)) → is_ok r ≡ true
-never_refused (Ok done) m = refl
-never_refused (Err why) m = cc
+never_refused r m = grind arith

@@ -1,6 +1,6 @@
 -- A message that waits at an end of a node may be sent.
-use Rattle.std.proofs.Common.{◌≡◌, ℕ, ◌≤◌, Bool, true, false, cond, List, [], ◌∷◌, refl}
-use Rattle.std.specs.Prelude.{Option, Some, None, ◌==◌, IfSome}
+use Rattle.std.proofs.Common.{◌≡◌, ℕ, ◌≤◌, Bool, cond, List, [], ◌∷◌, refl, arith}
+use Rattle.std.specs.Prelude.{Option, Some, ◌==◌, IfSome}
 use Rattle.std.specs.List.{AllByRecursion}
 use Rattle.hcp_packet.specs.Packets.{AreSendable}
 use Rattle.node_core.proofs.Words.{AreOfHosts, PoolState, Port, Seat, SeatsStandFor, got_at, port_at}
@@ -12,8 +12,7 @@ found_all P [] h all = tt
 found_all P (p ∷ ports) h all = one (p.desk.host == h) (found_all P ports h all.1)
   where
     one : (b : Bool) → IfSome (port_at ports h) P → IfSome (cond b (Some p) (port_at ports h)) P
-    one true later = all.0
-    one false later = later
+    one b later = grind arith
 
 each_sendable : (pool : PoolState) (seats : List Seat) (ports : List Port) → SeatsStandFor pool seats ports
     → AllByRecursion (λ (p : Port). AreSendable p.side.got) ports
@@ -26,8 +25,7 @@ pub got_at_sendable : (pool : PoolState) (seats : List Seat) (ports : List Port)
 got_at_sendable pool seats ports h g = by (port_at ports h) refl (found_all _ ports h (each_sendable pool seats ports g))
   where
     by : (o : Option Port) → port_at ports h ≡ o → IfSome o (λ (p : Port). AreSendable p.side.got) → AreSendable (got_at ports h)
-    by None q all = rw q tt
-    by (Some p) q all = rw q all
+    by o q all = grind arith
 
 pub hosts_low : (ports : List Port) → AreOfHosts ports → AllByRecursion (λ (p : Port). p.desk.host ≤ 7) ports
 hosts_low [] all = tt

@@ -1,19 +1,15 @@
 -- A host that sends a message by itself, and why it doesn't.
-use Rattle.std.proofs.Common.{◌≡◌, ℕ, Bool, true, false, cond, not, ◌&&◌, List, [], ◌∷◌, length, refl, sym, ap, ◌∙◌, subst}
-use Rattle.std.specs.Prelude.{Option, Some, None, Result, Ok, Err, OnOk, OnErr, IfErr, nat_lt, is_some, option_map, ◌==◌}
-use Rattle.std.proofs.lemmas.Bool.{eqb-true}
-use Rattle.node_core.proofs.Words.{Entry, Give, HostRefused, Init, IsInStep, LinkState, Message, Node, Ordered, Orders, Port, Refused, Sends, TellsLengthOf}
-use Rattle.node_core.proofs.Words.{Work, all_done, done, give_refusal, has_link, if_waiting, is_command_message, is_up, port_at, refused_as, sending, turn_at}
+use Rattle.std.proofs.Common.{◌≡◌, ℕ, Bool, true, false, cond, ◌&&◌, List, [], ◌∷◌, length, refl, ap, ◌∙◌, subst, arith}
+use Rattle.std.specs.Prelude.{Option, Some, None, Result, Ok, Err, OnOk, OnErr, IfErr, nat_lt, is_some, ◌==◌}
+use Rattle.node_core.proofs.Words.{Entry, Give, HostRefused, Init, IsInStep, Message, Node, Orders, Port, Refused, Sends, TellsLengthOf, Work, all_done, done}
+use Rattle.node_core.proofs.Words.{give_refusal, has_link, if_waiting, is_command_message, is_up, port_at, refused_as, sending, turn_at}
 use Rattle.trace_model.specs.declared.entry.NoCause.TheVariants as no
-use Rattle.shdlc_core.specs.declared.answers.LinkState.TheVariants.{Down, Waiting as IsWaiting, Up}
 use Rattle.link_laws.specs.machine.Machine.{LinkEnd as Machine, need, spare}
 use Rattle.link_laws.specs.machine.Machine.Refused.{TooLong, Full}
 use Rattle.link_end.specs.declared.report.SendRefused.{SendRefused}
 use Rattle.link_end.specs.declared.report.SendRefused.TheVariants as at_end
-use Rattle.link_end.specs.Reports.{by_refusal_told, give_told}
 use Rattle.node_machine.specs.Parts.{Deed}
 use Rattle.node_machine.specs.Parts.Deed.{GoesOn}
-use Rattle.node_deeds.specs.Shown.{ordered_by}
 use Rattle.node_ends.specs.Ends.{given_at}
 use Rattle.node_core.specs.Giving.{host_refused, ordered_if, TellsLength}
 
@@ -21,72 +17,34 @@ use Rattle.node_core.specs.Giving.{host_refused, ordered_if, TellsLength}
 
 -- an end that isn't up
 pub down_refuses : (p : Port) (m : Message) (waits : Bool) → is_up p.side.shdlc.phase ≡ false → if_waiting waits (give_refusal p.side m) ≡ Some no.NotUp
-down_refuses p m waits down = by p.side.shdlc.phase refl
-  where
-    by : (x : LinkState) → p.side.shdlc.phase ≡ x → if_waiting waits (give_refusal p.side m) ≡ Some no.NotUp
-    by Down q = rw q refl
-    by IsWaiting q = rw q refl
-    by Up q = (let e : true ≡ false = ap is_up (sym q) ∙ down in cc)
+down_refuses p m waits down = grind arith
 
 -- why an end that is up refuses a message, by its length
 abbrev sized : Machine → Message → Option Refused
 sized e m =
     cond (nat_lt 4096 (length m.1)) (Some (TooLong (length m.1))) (cond (nat_lt (spare e) (need m.1)) (Some (Full (need m.1) (spare e))) None)
 
-up_refuses : (p : Port) (m : Message) → is_up p.side.shdlc.phase ≡ true → give_refusal p.side m ≡ sized p.side m
-up_refuses p m up = by p.side.shdlc.phase refl
-  where
-    by : (x : LinkState) → p.side.shdlc.phase ≡ x → give_refusal p.side m ≡ sized p.side m
-    by Down q = (let e : false ≡ true = ap is_up (sym q) ∙ up in cc)
-    by IsWaiting q = (let e : false ≡ true = ap is_up (sym q) ∙ up in cc)
-    by Up q = rw q refl
-
 -- one that has to wait
 pub waiting_refuses : (p : Port) (m : Message) → is_up p.side.shdlc.phase ≡ true → if_waiting true (give_refusal p.side m) ≡ Some no.Waiting
-waiting_refuses p m up = ap (if_waiting true) (up_refuses p m up) ∙ by (nat_lt 4096 (length m.1)) (nat_lt (spare p.side) (need m.1))
-  where
-    by : (a b : Bool)
-        → if_waiting true (cond a (Some (TooLong (length m.1))) (cond b (Some (Full (need m.1) (spare p.side))) None)) ≡ Some no.Waiting
-    by true b = refl
-    by false true = refl
-    by false false = refl
+waiting_refuses p m up = grind arith
 
 -- what is told where its end refuses a message
 abbrev pub host_told : Result (Unit {0}) SendRefused → Result (Unit {0}) HostRefused
 host_told (Ok done) = Ok done
 host_told (Err why) = Err (host_refused why)
 
-end_refuses : (p : Port) (m : Message) → refused_as (host_told (give_told p.side m)) ≡ if_waiting false (give_refusal p.side m)
-end_refuses p m = by p.side.shdlc.phase refl
-  where
-    by_size : (a b : Bool)
-        → refused_as (host_told (by_refusal_told (cond a (Some (TooLong (length m.1))) (cond b (Some (Full (need m.1) (spare p.side))) None))))
-        ≡ if_waiting false (cond a (Some (TooLong (length m.1))) (cond b (Some (Full (need m.1) (spare p.side))) None))
-    by_size true b = refl
-    by_size false true = refl
-    by_size false false = refl
-
-    by : (x : LinkState) → p.side.shdlc.phase ≡ x → refused_as (host_told (give_told p.side m)) ≡ if_waiting false (give_refusal p.side m)
-    by Down q = rw q refl
-    by IsWaiting q = rw q refl
-    by Up q = rw q (by_size (nat_lt 4096 (length m.1)) (nat_lt (spare p.side) (need m.1)))
-
 pub told_refusal : {r : Result (Unit {0}) SendRefused} (m : Message) (port : Option Port) (p : Port) → r ≡ given_at m port → port ≡ Some p
     → refused_as (host_told r) ≡ if_waiting false (give_refusal p.side m)
-told_refusal {r} m port p told at =
-    ap (λ (x : Result (Unit {0}) SendRefused). refused_as (host_told x)) (told ∙ ap (given_at m) at) ∙ end_refuses p m
+told_refusal m port p told at = grind arith
 
 -- the length that is told is that of the message
 pub told_length : (len : ℕ) (why : SendRefused) → TellsLengthOf len why → TellsLength len (Some (host_refused why))
-told_length len at_end.NotUp told = tt
-told_length len (at_end.TooLong n) told = told
-told_length len (at_end.Full need spare) told = tt
+told_length len why told = grind arith
 
 -- ## Answers
 
 pub was_ok : {E : Type 0} (r : Result (Unit {0}) E) → ((why : E) → r ≡ Err why → ⊥) → r ≡ Ok tt
-was_ok (Ok done) none = refl
-was_ok (Err why) none = absurd (none why refl)
+was_ok r none = grind arith
 
 pub where_ok : {A E : Type 0} {r : Result (Unit {0}) E} → r ≡ Ok tt → OnOk r A → A
 where_ok {A} {E} is a = let P : Result (Unit {0}) E → Type 0 = λ x. OnOk x A in subst P is a
@@ -99,15 +57,10 @@ of_err {E} Q is a = let P : Result (Unit {0}) E → Type 0 = λ x. IfErr x Q in 
 
 -- ## Commands that wait
 
-same_some : (command : Option (List ℕ)) → is_some (option_map ordered_by command) ≡ is_some command
-same_some None = refl
-same_some (Some order) = refl
-
 -- a command waits at a node exactly where one does in its core
 pub waits_same : {N : Type 0} {n : Node N} {noted start : List Entry} {short : Bool} {w : Work} → IsInStep n noted short start w
     → n.store.journal.live ≡ true → is_some n.tasks.command ≡ is_some w.core.command
-waits_same {w = w} u live =
-    let k = u.core (u.power ∙ ap not live) in ap (λ (o : Option Ordered). is_some o) (sym k.command) ∙ same_some w.core.command
+waits_same u live = grind arith
 
 pub linked : (ports : List Port) (h : ℕ) (p : Port) → port_at ports h ≡ Some p → has_link ports h ≡ is_up p.side.shdlc.phase
 linked ports h p at = rw at refl
@@ -115,42 +68,26 @@ linked ports h p at = rw at refl
 -- ## What is given
 
 pub alone : (h : ℕ) (d : Deed) (w : Work) → all_done h (d ∷ []) w ≡ done h d w
-alone h d w = by (done h d w).cut refl
-  where
-    by : (b : Bool) → (done h d w).cut ≡ b → all_done h (d ∷ []) w ≡ done h d w
-    by true q = rw q refl
-    by false q = rw q refl
+alone h d w = grind arith
 
 pub given_order : (h pipe : ℕ) (message : List ℕ) (w : Work) → (pipe == 1 && is_command_message message) ≡ true
     → done h (Orders message) w ≡ all_done h (sending h (pipe, message)) w
-given_order h pipe message w ordered =
-    sym (alone h (Orders message) w)
-    ∙ ap (λ b. all_done h (cond b (Orders message ∷ []) (Sends h (pipe, message) ∷ [])) w) (sym ordered)
+given_order h pipe message w ordered = grind arith
 
 pub given_other : (h pipe : ℕ) (message : List ℕ) (w : Work) → (pipe == 1 && is_command_message message) ≡ false
     → done h (Sends h (pipe, message)) w ≡ all_done h (sending h (pipe, message)) w
-given_other h pipe message w other =
-    sym (alone h (Sends h (pipe, message)) w)
-    ∙ ap (λ b. all_done h (cond b (Orders message ∷ []) (Sends h (pipe, message) ∷ [])) w) (sym other)
+given_other h pipe message w other = grind arith
 
 pub given_both : (h : ℕ) (d e : Deed) (w : Work) → (done h d w).cut ≡ false → done h e (done h d w) ≡ all_done h (d ∷ e ∷ []) w
-given_both h d e w live = sym (goes live ∙ alone h e (done h d w))
-  where
-    goes : (done h d w).cut ≡ false → all_done h (d ∷ e ∷ []) w ≡ all_done h (e ∷ []) (done h d w)
-    goes q = rw q refl
+given_both h d e w live = grind arith
 
 -- a message that was sent, and waits for its answer where it is a command
 both : (a b : Bool) → (a && b) ≡ true → a ≡ true
-both true b e = refl
-both false b e = cc
+both a b e = grind arith
 
 pub given_so : (h pipe : ℕ) (message : List ℕ) (w : Work) (order : Bool) → order ≡ (pipe == 1 && is_command_message message)
     → ordered_if order message (turn_at h (Give (pipe, message)) w) ≡ all_done h (sending h (pipe, message)) w
-given_so h pipe message w true is =
-    ap (λ (n : ℕ). ordered_if true message (turn_at h (Give (n, message)) w))
-    (eqb-true pipe 1 (both (pipe == 1) (is_command_message message) (sym is)))
-    ∙ given_order h pipe message w (sym is)
-given_so h pipe message w false is = given_other h pipe message w (sym is)
+given_so h pipe message w order is = grind arith
 
 -- an init begins behind its first command as before it
 pub begun_so : (h : ℕ) (i : Init) (w : Work) → w.cut ≡ false

@@ -1,11 +1,10 @@
 -- What is settled behind what came in a step, and what that leaves at the ends.
-use Rattle.std.proofs.Common.{◌≡◌, ℕ, Bool, true, false, not, ◌≤◌, List, [], ◌∷◌, ◌++◌, map, refl, sym, ap, ap₂, ◌∙◌, subst, append_assoc, append-nil}
+use Rattle.std.proofs.Common.{◌≡◌, ℕ, Bool, true, false, not, ◌≤◌, List, [], ◌∷◌, ◌++◌, map, refl, sym, ap, ap₂, ◌∙◌, subst, append_assoc, append-nil, arith}
 use Rattle.std.specs.Prelude.{Option, None}
 use Rattle.std.specs.List.{flat_map}
 use Rattle.std.proofs.lemmas.List.Concat.{flat_map-cons}
 use Rattle.node_core.proofs.Words.{AreFewDue, Brings, Entry, Foretells, IsInStep, Node, Plan, Port, Releases, Response, Sends, Work, after_sessions, all_done}
-use Rattle.node_core.proofs.Words.{all_owed, answer_of, answers_owed, asked_at, done, forgets, forgotten, is_forgotten, is_over, left_over, plan_left, settles}
-use Rattle.node_core.proofs.Words.{unless_cut, without_notice}
+use Rattle.node_core.proofs.Words.{all_owed, answer_of, answers_owed, done, forgets, forgotten, left_over, plan_left, settles, unless_cut, without_notice}
 use Rattle.node_machine.specs.Parts.{Deed}
 use Rattle.node_core.proofs.Joining.{brings_plain, brings_cut, brings_then, stays_cut, goes_on}
 use Rattle.node_core.proofs.Steps.{brings_after}
@@ -24,31 +23,7 @@ plain_none : IsPlain (all_done 0 [])
 plain_none = record { planned = λ w plan. refl; written = λ w. refl; power = λ w. refl }
 
 plain_more : (d : Deed) (deeds : List Deed) → IsPlain (done 0 d) → IsPlain (all_done 0 deeds) → IsPlain (all_done 0 (d ∷ deeds))
-plain_more d deeds one later = record {
-  planned = λ w plan. by_planned w plan (done 0 d w).cut refl;
-  written = λ w. by_written w (done 0 d w).cut refl;
-  power = λ w. by_power w (done 0 d w).cut refl;
-}
-  where
-    by_planned : (w : Work) (plan : Option Plan) (b : Bool) → (done 0 d w).cut ≡ b
-        → all_done 0 (d ∷ deeds) (record w { plan = plan }) ≡ record (all_done 0 (d ∷ deeds) w) { plan = plan }
-    by_planned w plan true q =
-        ap (unless_cut (all_done 0 deeds)) (one.planned w plan)
-        ∙ (stays_cut (all_done 0 deeds) (record (done 0 d w) { plan = plan }) q
-        ∙ ap (λ (v : Work). record v { plan = plan }) (sym (stays_cut (all_done 0 deeds) (done 0 d w) q)))
-    by_planned w plan false q =
-        ap (unless_cut (all_done 0 deeds)) (one.planned w plan)
-        ∙ (goes_on (all_done 0 deeds) (record (done 0 d w) { plan = plan }) q
-        ∙ (later.planned (done 0 d w) plan ∙ ap (λ (v : Work). record v { plan = plan }) (sym (goes_on (all_done 0 deeds) (done 0 d w) q))))
-
-    by_written : (w : Work) (b : Bool) → (done 0 d w).cut ≡ b → (all_done 0 (d ∷ deeds) w).writes ≡ w.writes
-    by_written w true q = ap (λ (v : Work). v.writes) (stays_cut (all_done 0 deeds) (done 0 d w) q) ∙ one.written w
-    by_written w false q =
-        ap (λ (v : Work). v.writes) (goes_on (all_done 0 deeds) (done 0 d w) q) ∙ (later.written (done 0 d w) ∙ one.written w)
-
-    by_power : (w : Work) (b : Bool) → (done 0 d w).cut ≡ b → (all_done 0 (d ∷ deeds) w).cut ≡ w.cut
-    by_power w true q = ap (λ (v : Work). v.cut) (stays_cut (all_done 0 deeds) (done 0 d w) q) ∙ one.power w
-    by_power w false q = ap (λ (v : Work). v.cut) (goes_on (all_done 0 deeds) (done 0 d w) q) ∙ (later.power (done 0 d w) ∙ one.power w)
+plain_more d deeds one later = grind arith
 
 plain_release : (asker : ℕ) → IsPlain (done 0 (Releases asker))
 plain_release asker = record { planned = λ w plan. refl; written = λ w. refl; power = λ w. refl }
@@ -92,18 +67,10 @@ left_under_way w u = u
 -- ## What is left at the ends
 
 quiet_forgets : (all : List Port) (p : Port) → quiet_at (forgets all p) ≡ quiet_at p
-quiet_forgets all p = by (is_forgotten all (asked_at p)) refl
-  where
-    by : (b : Bool) → is_forgotten all (asked_at p) ≡ b → quiet_at (forgets all p) ≡ quiet_at p
-    by true q = rw q refl
-    by false q = rw q refl
+quiet_forgets all p = grind arith
 
 quiet_without : (p : Port) → quiet_at (without_notice p) ≡ quiet_at p
-quiet_without p = by (is_over p) refl
-  where
-    by : (b : Bool) → is_over p ≡ b → quiet_at (without_notice p) ≡ quiet_at p
-    by true q = rw q refl
-    by false q = rw q refl
+quiet_without p = grind arith
 
 map_quiet : (f : Port → Port) → ((p : Port) → quiet_at (f p) ≡ quiet_at p) → (ports : List Port) → map quiet_at (map f ports) ≡ map quiet_at ports
 map_quiet f same [] = refl
@@ -157,8 +124,7 @@ nothing_kept writes {n} {noted} {start} {short} {w} deeds none u live =
 
 settles_by : (syncs freed owing : List Deed) (w : Work) → freed ≡ forgotten w.ports → owing ≡ all_owed (map (forgets w.ports) w.ports)
     → settles syncs w ≡ unless_cut (all_done 0 owing) (all_done 0 syncs (all_done 0 freed (left_over w)))
-settles_by syncs freed owing w free owe =
-    ap₂ (λ (fs os : List Deed). unless_cut (all_done 0 os) (all_done 0 syncs (all_done 0 fs (left_over w)))) (sym free) (sym owe)
+settles_by syncs freed owing w free owe = grind arith
 
 module _ {N : Type 0} (writes : N → ℕ → List ℕ → Bool → N → Type 0) where
   -- the write of an identifier failed: nothing that is owed is given

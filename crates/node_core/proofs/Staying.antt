@@ -1,16 +1,13 @@
 -- A step leaves a node in order.
-use Rattle.std.proofs.Common.{◌≡◌, ℕ, not, ◌&&◌, List, [], ◌∷◌, map, refl, sym, ◌∙◌, subst}
-use Rattle.std.specs.Prelude.{Option, Some, None}
-use Rattle.std.specs.List.{AllByRecursion, flat_map, list_any}
-use Rattle.std.proofs.lemmas.Bool.{cond_both}
+use Rattle.std.proofs.Common.{◌≡◌, ℕ, List, [], ◌∷◌, map, refl, sym, ◌∙◌, subst, arith}
+use Rattle.std.specs.Prelude.{Option}
+use Rattle.std.specs.List.{AllByRecursion, flat_map}
 use Rattle.journal_laws.specs.declared.state.State.{State}
-use Rattle.hci_tables.specs.declared.command.Command.TheVariants.{Sync}
-use Rattle.hci_tables.specs.Tables.{HciTables, is_kept_sync}
+use Rattle.hci_tables.specs.Tables.{HciTables}
 use Rattle.node_machine.specs.Parts.{Deed}
 use Rattle.node_core.proofs.Words.{AtEnd, Commits, Core, IsNodeInOrder, IsOnTask, NodeInput, Port, Releases, Sends, TimePasses, Work, after_sessions, all_come}
-use Rattle.node_core.proofs.Words.{all_done, all_owed, done, forgets, forgotten, has_come, input_at, is_over, left_over, passes, reset_late, settles, steps}
-use Rattle.node_core.proofs.Words.{sync_kept, synced, times_out, unless_cut, with_older}
-use Rattle.node_machine.specs.Carrying.{has_room_for}
+use Rattle.node_core.proofs.Words.{all_done, all_owed, done, forgets, forgotten, has_come, input_at, left_over, passes, reset_late, settles, steps, sync_kept}
+use Rattle.node_core.proofs.Words.{synced, times_out, unless_cut, with_older}
 use Rattle.node_machine.proofs.Walks.{forgotten_hold, all_owed_hold, all_synced_hold}
 use Rattle.node_core.proofs.Joining.{goes_on}
 use Rattle.node_core.proofs.Quiet.{done_quiet}
@@ -32,10 +29,7 @@ abbrev AreMild : List Deed → Type 0
 AreMild deeds = AllByRecursion IsMild deeds
 
 mild_task : (h : ℕ) (d : Deed) (w : Work) → IsMild d → IsFine w → IsOnTask (done h d w).core
-mild_task h (Commits c) w mild f = let none = f.sure.plan in rw none f.order.task
-mild_task h (Sends to m) w mild f = f.order.task
-mild_task h (Releases asker) w mild f = f.order.task
-mild_task h _ w mild f = absurd mild
+mild_task h d w mild f = grind arith
 
 one_fine : (h : ℕ) (d : Deed) (w : Work) → IsMild d → IsFine w → IsFine (done h d w)
 one_fine h d w mild f = record {
@@ -58,12 +52,10 @@ then_fine f w keeps fine = let P : Work → Type 0 = λ v. IsFine v in subst P (
 -- ## Behind what came
 
 over_task : (core : Core) (ports : List Port) → IsOnTask core → IsOnTask (after_sessions core ports)
-over_task core ports on =
-    cond_both (list_any is_over ports) (record core { command = None; init = None }) core (λ (c : Core). IsOnTask c) (λ _. (tt, λ zero. refl)) (λ _. on)
+over_task core ports on = grind arith
 
 pub over_node : (core : Core) (ports : List Port) → (after_sessions core ports).node ≡ core.node
-over_node core ports =
-    cond_both (list_any is_over ports) (record core { command = None; init = None }) core (λ (c : Core). c.node ≡ core.node) (λ _. refl) (λ _. refl)
+over_node core ports = grind arith
 
 left_fine : (w : Work) → IsFine w → IsFine (left_over w)
 left_fine w f = record {
@@ -82,10 +74,7 @@ synced_mild : (core : Core) (input : NodeInput) (ports : List Port) → AreMild 
 synced_mild core input ports = all_synced_hold (λ d. IsMild d) (λ host id. tt) core input ports
 
 kept_mild : (s : State) (t : HciTables) (came : Option (ℕ × ℕ)) → AreMild (sync_kept s t came)
-kept_mild s t None = tt
-kept_mild s t (Some pair) =
-    cond_both (not (is_kept_sync t.syncs pair.0 pair.1) && has_room_for s (Sync pair.0 pair.1)) (Commits (Sync pair.0 pair.1) ∷ []) [] (λ ds. AreMild ds)
-    (λ _. (tt, tt)) (λ _. tt)
+kept_mild s t came = grind arith
 
 settled_fine : (syncs : List Deed) → AreMild syncs → (w : Work) → IsFine w → IsFine (settles syncs w)
 settled_fine syncs mild w f =
@@ -113,8 +102,7 @@ late_order TimePasses w order =
     (all_kinds reset_late late_kind (map with_older w.ports) ∙ all_kinds with_older (λ p. refl) w.ports) order
 
 late_sure : (input : NodeInput) (w : Work) → IsSure w → IsSure (times_out input (all_come input w))
-late_sure (AtEnd h i) w s = record { power = s.power; plan = s.plan }
-late_sure TimePasses w s = record { power = s.power; plan = s.plan }
+late_sure input w s = grind arith
 
 -- a step keeps a node in order
 pub steps_fine : (input : NodeInput) (w : Work) → IsFine w → IsFine (steps input w)

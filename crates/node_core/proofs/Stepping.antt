@@ -1,6 +1,5 @@
 -- A whole step of a controller.
-use Rattle.std.proofs.Common.{◌≡◌, ◌≢◌, ℕ, ◌+◌, ◌≤◌, Bool, true, false, not, List, [], ◌∷◌, ◌++◌, map, refl, sym, ap, ◌∙◌, subst, arith}
-use Rattle.std.proofs.Common.{append-nil}
+use Rattle.std.proofs.Common.{◌≡◌, ◌≢◌, ℕ, ◌+◌, ◌≤◌, Bool, true, false, List, [], ◌∷◌, ◌++◌, map, refl, sym, ap, ◌∙◌, subst, arith, append-nil}
 use Rattle.std.specs.Prelude.{Option, Some, None, ◌==◌, option_map, IfSome}
 use Rattle.std.specs.List.{AllByRecursion, flat_map}
 use Rattle.std.proofs.lemmas.Bool.{eqb-true}
@@ -10,12 +9,9 @@ use Rattle.node_core.proofs.Words.{NodeInput, Plan, Port, Role, Stored, Work, ac
 use Rattle.node_core.proofs.Words.{report_told, steps, sync_kept, synced, times_out}
 use Rattle.link_laws.specs.machine.Machine.{LinkEnd as Machine}
 use Rattle.link_laws.specs.machine.Machine.LinkInput.{Reset, Start, Stop}
-use Rattle.link_laws.specs.machine.Machine.Role.{Bare, Clf, Uicc}
 use Rattle.swp_act.specs.declared.ActEvent.TheVariants.{Start as ActStart, Stop as ActStop}
 use Rattle.node_machine.specs.Parts.{Deed}
-use Rattle.node_core.specs.Syncing.{id_kept, sync_told, finishes}
-use Rattle.node_core.proofs.Steps.{brings_after}
-use Rattle.node_core.proofs.HavingTurns.{brings_same}
+use Rattle.node_core.specs.Syncing.{sync_told, finishes}
 use Rattle.node_core.proofs.Elsewhere.{host_at}
 use Rattle.node_core.proofs.Sendables.{found_all}
 use Rattle.node_core.proofs.Doing as doing
@@ -31,20 +27,14 @@ none_synced core h i (p ∷ ports) differ =
   where
     by : (b : Bool) → (p.desk.host == h) ≡ b → flat_map (synced core (AtEnd h i)) ports ≡ []
         → synced core (AtEnd h i) p ++ flat_map (synced core (AtEnd h i)) ports ≡ []
-    by true q later = absurd (differ.0 (eqb-true p.desk.host h q))
-    by false q later = rw q later
+    by b q later = grind arith
 
 told_at_end : (h : ℕ) (i : LinkInput) → Option Port → Option (ℕ × ℕ)
 told_at_end h i o = sync_told h (option_map (λ (p : Port). report_told (report p.side i)) o)
 
 one_synced : (core : Core) (h : ℕ) (i : LinkInput) (p : Port) → (p.desk.host == h) ≡ true
     → synced core (AtEnd h i) p ≡ sync_kept core.journal core.tables (sync_told h (Some (report_told (report p.side i))))
-one_synced core h i p q = by (report p.side i).sync refl
-  where
-    by : (o : Option ℕ) → (report p.side i).sync ≡ o
-        → synced core (AtEnd h i) p ≡ sync_kept core.journal core.tables (sync_told h (Some (report_told (report p.side i))))
-    by None s = rw (q, s) refl
-    by (Some id) s = rw (q, s) (ap (λ (n : ℕ). id_kept core.journal core.tables (n, id)) (eqb-true p.desk.host h q))
+one_synced core h i p q = grind arith
 
 pub synced_is : (core : Core) (h : ℕ) (i : LinkInput) (ports : List Port) → AreAllDifferent (map host_at ports)
     → flat_map (synced core (AtEnd h i)) ports
@@ -75,8 +65,7 @@ synced_is core h i (p ∷ ports) differ =
     by true q later =
         ap (λ l. synced core (AtEnd h i) p ++ l) (others q)
         ∙ (append-nil (synced core (AtEnd h i) p) ∙ (one_synced core h i p q ∙ ap K (sym (first q))))
-    by false q later =
-        ap (λ l. l ++ flat_map (synced core (AtEnd h i)) ports) (nothing q) ∙ (later ∙ ap K (sym (behind q)))
+    by false q later = grind arith
 
 -- where an input never brings one
 pub silent_synced : (core : Core) (input : NodeInput) → ((p : Port) → synced core input p ≡ []) → (ports : List Port)
@@ -87,21 +76,13 @@ silent_synced core input silent (p ∷ ports) =
     ∙ (ap (λ l. l ++ flat_map (synced core input) ports) (silent p) ∙ silent_synced core input silent ports)
 
 silent_at : (core : Core) (h : ℕ) (i : LinkInput) → ((e : Machine) → (report e i).sync ≡ None) → (p : Port) → synced core (AtEnd h i) p ≡ []
-silent_at core h i none p = by (p.desk.host == h) refl
-  where
-    by : (b : Bool) → (p.desk.host == h) ≡ b → synced core (AtEnd h i) p ≡ []
-    by true q = let s = none p.side in rw (q, s) refl
-    by false q = rw q refl
+silent_at core h i none p = grind arith
 
 start_silent : (r : Role) (value : ℕ) → (act_answer r (ActStart value)).sync ≡ None
-start_silent Bare value = refl
-start_silent (Clf s) value = refl
-start_silent (Uicc s) value = refl
+start_silent r value = grind arith
 
 stop_silent : (r : Role) → (act_answer r ActStop).sync ≡ None
-stop_silent Bare = refl
-stop_silent (Clf s) = refl
-stop_silent (Uicc s) = refl
+stop_silent r = grind arith
 
 pub reset_synced : (core : Core) (h : ℕ) (window : Option ℕ) (ports : List Port) → flat_map (synced core (AtEnd h (Reset window))) ports ≡ []
 reset_synced core h window ports =
@@ -126,13 +107,10 @@ sync_of_host h i ports told hosts is = at (port_at ports h) refl (found_all _ po
     P o = IfSome o (λ (pair : ℕ × ℕ). (1 ≤ pair.0) × (pair.0 ≤ 7))
 
     of : (o : Option ℕ) (r : LinkReport) → r.sync ≡ o → (1 ≤ h) × (h ≤ 7) → P (sync_told h (Some r))
-    of None r q host = rw q tt
-    of (Some id) r q host = rw q host
+    of o r q host = grind arith
 
     at : (o : Option Port) → port_at ports h ≡ o → IfSome o (λ (p : Port). (1 ≤ p.desk.host) × (p.desk.host ≤ 7)) → P (sync_told h told)
-    at None q host =
-        let none : told ≡ None = is ∙ ap (option_map (λ (p : Port). report_told (report p.side i))) q in
-        subst (λ (t : Option LinkReport). P (sync_told h t)) (sym none) tt
+    at None q host = grind arith
     at (Some p) q host =
         let some : told ≡ Some (report_told (report p.side i)) = is ∙ ap (option_map (λ (p : Port). report_told (report p.side i))) q in
         let H : ℕ → Type 0 = λ n. (1 ≤ n) × (n ≤ 7) in
@@ -150,8 +128,7 @@ pub come_few : (h : ℕ) (i : LinkInput) → ((e : Machine) → due_count (after
 come_few h i more w few = all w.ports few
   where
     one : (b : Bool) (p : Port) → (p.desk.host == h) ≡ b → due_count p.side ≤ 5 → due_count (has_come p (input_at (AtEnd h i) p)).side ≤ 6
-    one true p q few = let m = more p.side in rw q (omega (arith, few, m))
-    one false p q few = rw q (omega (arith, few))
+    one b p q few = grind arith
 
     all : (ports : List Port) → AreAtMostDue 5 ports → AreFewDue (map (λ (p : Port). has_come p (input_at (AtEnd h i) p)) ports)
     all [] few = tt
@@ -168,10 +145,4 @@ module _ {N : Type 0} (writes : N → ℕ → List ℕ → Bool → N → Type 0
       → flat_map (synced w.core input) w.ports ≡ sync_kept w.core.journal w.core.tables came
       → Brings writes m.journal.nv new S (finishes (sync_kept m.journal.state m.tables came)) (times_out input (all_come input w))
       → Brings writes n.store.journal.nv new S (steps input) w
-  whole_step {n} {m} {w = w} input came u live same planned written syncs b =
-      let k = u.core (u.power ∙ ap not live) in
-      let K : Stored N → List Deed = λ s. sync_kept s.journal.state s.tables came in
-      let is : K m ≡ flat_map (synced w.core input) w.ports =
-      ap K same ∙ (sym (ap (λ s. sync_kept s w.core.tables came) k.journal ∙ ap (λ t. sync_kept n.store.journal.state t came) k.tables) ∙ sym syncs) in
-      brings_same (brings_after (λ v. times_out input (all_come input v)) (ap (λ (s : Stored N). s.journal.nv) same) planned written b)
-      (λ plan. ap (λ ds. finishes ds (times_out input (all_come input (record w { plan = plan })))) (sym is))
+  whole_step input came u live same planned written syncs b = grind arith

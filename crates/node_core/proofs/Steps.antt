@@ -1,20 +1,17 @@
 -- The parts of deeds: what is noted, what is done to an end, and what is kept of it.
-use Rattle.std.proofs.Common.{◌≡◌, ℕ, Bool, true, false, not, List, [], ◌∷◌, ◌++◌, map, refl, sym, ap, ◌∙◌, subst, append-nil, ◌+◌, ◌<◌, ◌≤◌, length}
+use Rattle.std.proofs.Common.{◌≡◌, ℕ, Bool, true, false, not, List, [], ◌∷◌, ◌++◌, map, refl, sym, ap, ◌∙◌, subst, append-nil, ◌+◌, ◌<◌, ◌≤◌, length, arith}
 use Rattle.std.proofs.Common.{drop, add-one, drop-cons}
-use Rattle.std.specs.Prelude.{slice_index_or}
+use Rattle.std.specs.Prelude.{slice_index_or, Option, None}
 use Rattle.std.proofs.lemmas.List.{drop_all}
-use Rattle.std.specs.Prelude.{Option, Some, None}
 use Rattle.std.specs.Option.{option_map_or}
 use Rattle.node_core.proofs.Words.{AreDoableInTurn, Brings, Core, End, EndsStandFor, Entry, FetchMessage, Foretells, Handling, IsDoableNow, IsInStep, KeptEnds}
-use Rattle.node_core.proofs.Words.{Node, Plan, Port}
-use Rattle.node_core.proofs.Words.{Stored, Turn, WereMade, Work, after_turn, all_done, deed_shown, done, noted_of, noting, plan_left, port_at, turn_at}
+use Rattle.node_core.proofs.Words.{Node, Plan, Port, Stored, Turn, Work, after_turn, all_done, deed_shown, done, noted_of, noting, plan_left, port_at, turn_at}
 use Rattle.node_core.proofs.Words.{end_of_node, has_turn, unnumbered, with_desk, with_port}
 use Rattle.trace_model.specs.declared.entry.Entry.TheVariants as entry
-use Rattle.node_machine.specs.Parts.{Desk as DeskOf}
-use Rattle.node_machine.specs.Parts.{Deed as DeedOf}
+use Rattle.node_machine.specs.Parts.{Desk as DeskOf, Deed as DeedOf}
 use Rattle.node_deeds.specs.declared.deeds.Deed.{Deed}
 use Rattle.node_deeds.specs.declared.deeds.Deed.TheVariants as kept
-use Rattle.node_core.proofs.Joining.{brings_plain, brings_then, brings_cut}
+use Rattle.node_core.proofs.Joining.{brings_plain, brings_then}
 use Rattle.node_core.proofs.Doing.{more_noted}
 
 -- an entry without the number of a session is noted
@@ -31,11 +28,7 @@ plain_noted {noted = noted} {start = start} {w = w} e same u stays more = record
 
 pub silent_notes : (core : Core) (x : Turn) (ports : List Port) (h : ℕ) → ((p : Port) → noted_of core x p ≡ [])
     → option_map_or (noted_of core x) (port_at ports h) [] ≡ []
-silent_notes core x ports h silent = by (port_at ports h) refl
-  where
-    by : (o : Option Port) → port_at ports h ≡ o → option_map_or (noted_of core x) (port_at ports h) [] ≡ []
-    by None q = rw q refl
-    by (Some p) q = rw q (silent p)
+silent_notes core x ports h silent = grind arith
 
 -- something is done to an end of which nothing is noted
 pub silent_turn : {N : Type 0} {n : Node N} {ends : KeptEnds} {noted start : List Entry} {was : Bool} {w : Work} (h : ℕ) (x : Turn)
@@ -56,13 +49,7 @@ silent_turn {n = n} {noted = noted} {start = start} {w = w} h x silent u stands 
 pub desk_changed : {N : Type 0} {n : Node N} {ends : KeptEnds} {noted start : List Entry} {was : Bool} {w : Work} (h : ℕ) (f : DeskOf → DeskOf)
     → IsInStep n noted was start w → EndsStandFor ends (with_port h (λ p. record p { desk = f p.desk }) w.ports)
     → IsInStep (record n { ends = ends }) noted was start (with_desk h f w)
-desk_changed h f u stands = record {
-  node = u.node;
-  core = λ live. (let k = u.core live in record { journal = k.journal; tables = k.tables; command = k.command; init = k.init });
-  ends = stands;
-  noted_are = u.noted_are;
-  power = u.power;
-}
+desk_changed h f u stands = grind arith
 
 -- a message has its turn: that is noted, its blocks are given back, and it isn't held
 pub turn_begun : {N : Type 0} {n : Node N} {given ends : KeptEnds} {noted now start : List Entry} {was short : Bool} {w : Work} {e : End} (h pipe : ℕ)
@@ -92,25 +79,11 @@ plainly {N} writes {n} {n2} {noted} {now} {start} {was} {short} {w} f u live sam
 -- the deed of an arm
 pub of_deed : {N : Type 0} {writes : N → ℕ → List ℕ → Bool → N → Type 0} {old new : N} {S : Work → Type 0} {w : Work} (h : ℕ) (a : Handling) (deed d : Deed)
     → deed ≡ d → Brings writes old new S (done h (deed_shown a d)) w → Brings writes old new S (done h (deed_shown a deed)) w
-of_deed {N} {writes} {old} {new} {S} {w} h a deed d is b =
-    let P : Deed → Type 0 = λ x. Brings writes old new S (done h (deed_shown a x)) w in subst P (sym is) b
+of_deed h a deed d is b = grind arith
 
 -- whether deeds may be done has nothing to do with the plan
 deed_anyway : (a : Handling) (d : Deed) (w : Work) (plan : Option Plan) → IsDoableNow a d (record w { plan = plan }) → IsDoableNow a d w
-deed_anyway a (kept.Commits c) w plan h = h
-deed_anyway a (kept.PassesOn host) w plan h = h
-deed_anyway a (kept.Sends host pipe message) w plan h = h
-deed_anyway a kept.SaysOk w plan h = h
-deed_anyway a (kept.Asks row) w plan h = h
-deed_anyway a (kept.Releases asker) w plan h = h
-deed_anyway a (kept.Tells host notice) w plan h = h
-deed_anyway a kept.IsAnswered w plan h = h
-deed_anyway a (kept.Drops pipe) w plan h = h
-deed_anyway a (kept.SetsErrors errors) w plan h = h
-deed_anyway a (kept.Orders order) w plan h = h
-deed_anyway a kept.Hears w plan h = h
-deed_anyway a (kept.GoesOn answered) w plan h = h
-deed_anyway a (kept.Ends e) w plan h = h
+deed_anyway a d w plan h = grind arith
 
 deeds_anyway : (h : ℕ) (a : Handling) (deeds : List Deed) (w : Work) (plan : Option Plan) → AreDoableInTurn h a deeds (record w { plan = plan })
     → AreDoableInTurn h a deeds w
@@ -157,8 +130,7 @@ pub goes_no_further : {N : Type 0} {writes : N → ℕ → List ℕ → Bool →
     {w : Work} {d : DeedOf} {left all : List DeedOf} {h : ℕ} (k : GoesOn writes first n noted short start (d ∷ left) all h w)
     (b : Brings writes n.store.journal.nv n2.store.journal.nv (IsInStep n2 noted2 short2 start) (done h d) k.now) → b.after.cut ≡ true
     → Brings writes first.store.journal.nv n2.store.journal.nv (IsInStep n2 noted2 short2 start) (all_done h all) w
-goes_no_further {writes = writes} {n2 = n2} {noted2 = noted2} {short2 = short2} {left = left} {h = h} k b dead =
-    k.onto n2 noted2 short2 (brings_cut writes (all_done h left) b dead refl b.stands)
+goes_no_further k b dead = grind arith
 
 -- no deed is left
 pub all_gone : {N : Type 0} {writes : N → ℕ → List ℕ → Bool → N → Type 0} {first n : Node N} {noted start : List Entry} {short : Bool} {w : Work}
@@ -182,14 +154,4 @@ none_left deeds i past = drop_all i deeds past
 pub brings_after : {N : Type 0} {writes : N → ℕ → List ℕ → Bool → N → Type 0} {old old2 new : N} {S : Work → Type 0} {g : Work → Work} {w : Work}
     (f : Work → Work) → old2 ≡ old → ((plan : Option Plan) → f (record w { plan = plan }) ≡ record (f w) { plan = plan }) → (f w).writes ≡ w.writes
     → Brings writes old2 new S g (f w) → Brings writes old new S (λ v. g (f v)) w
-brings_after {N} {writes = writes} {new = new} {S = S} {g = g} {w = w} f same is written b =
-    let P : N → Type 0 = λ m. WereMade writes b.sure b.torn m b.after.cut new in
-    record {
-      after = b.after;
-      stands = b.stands;
-      sure = b.sure;
-      torn = b.torn;
-      written = b.written ∙ ap (λ ws. ws ++ (b.sure ++ b.torn)) written;
-      made = subst P same b.made;
-      is = λ plan foretold. ap g (is plan) ∙ b.is plan foretold;
-    }
+brings_after f same is written b = grind arith

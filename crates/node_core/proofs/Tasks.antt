@@ -1,8 +1,8 @@
 -- What a host has under way, as its deeds change it.
-use Rattle.std.proofs.Common.{◌≡◌, ℕ, Bool, true, false, not, List, refl, sym, ap, ap₂, ◌∙◌, subst}
-use Rattle.std.specs.Prelude.{Option, Some, None, option_map}
-use Rattle.node_core.proofs.Words.{Core, Ends, Entry, Handling, Host, Init, IsDoableNow, IsInStep, IsSendable, Message, Node, Plan, Port, Sends, Tasks, Work}
-use Rattle.node_core.proofs.Words.{after_sessions, deed_of, deed_shown, done, end_of, end_shown, goes_on_with, handling, init_running, is_over}
+use Rattle.std.proofs.Common.{◌≡◌, ℕ, Bool, true, false, not, List, refl, ap, ◌∙◌, arith}
+use Rattle.std.specs.Prelude.{Option, None, option_map}
+use Rattle.node_core.proofs.Words.{Core, Entry, Handling, Init, IsDoableNow, IsInStep, Message, Node, Plan, Port, Tasks, Work, after_sessions, deed_of}
+use Rattle.node_core.proofs.Words.{deed_shown, done, goes_on_with, handling, init_running, is_over}
 use Rattle.std.specs.List.{list_any}
 use Rattle.node_deeds.specs.declared.deeds.Deed.{Deed}
 use Rattle.node_deeds.specs.declared.deeds.Deed.TheVariants as kept
@@ -11,17 +11,14 @@ use Rattle.node_deeds.specs.Shown.{ordered_by}
 -- ## An init that goes on
 
 pub going_cut : (h : ℕ) (o : Option Init) (answered : ℕ) (w : Work) → (done h (goes_on_with o answered) w).cut ≡ w.cut
-going_cut h None answered w = refl
-going_cut h (Some i) answered w = refl
+going_cut h o answered w = grind arith
 
 pub going_writes : (h : ℕ) (o : Option Init) (answered : ℕ) (w : Work) → (done h (goes_on_with o answered) w).writes ≡ w.writes
-going_writes h None answered w = refl
-going_writes h (Some i) answered w = refl
+going_writes h o answered w = grind arith
 
 pub going_anyway : (h : ℕ) (o : Option Init) (answered : ℕ) (w : Work) (plan : Option Plan)
     → done h (goes_on_with o answered) (record w { plan = plan }) ≡ record (done h (goes_on_with o answered) w) { plan = plan }
-going_anyway h None answered w plan = refl
-going_anyway h (Some i) answered w plan = refl
+going_anyway h o answered w plan = grind arith
 
 -- ## What a node keeps of it
 
@@ -29,95 +26,32 @@ going_anyway h (Some i) answered w plan = refl
 pub command_changed : {N : Type 0} {n : Node N} {noted start : List Entry} {short : Bool} {w : Work} (t : Tasks) (command : Option (List ℕ))
     → IsInStep n noted short start w → option_map ordered_by command ≡ t.command → t.init ≡ n.tasks.init
     → IsInStep (record n { tasks = t }) noted short start (record w { core = record w.core { command = command } })
-command_changed t command u ordered same = record {
-  node = u.node;
-  core = λ live. (let k = u.core live in record {
-    journal = k.journal;
-    tables = k.tables;
-    command = ordered;
-    init = k.init ∙ ap init_running (sym same);
-  });
-  ends = u.ends;
-  noted_are = u.noted_are;
-  power = u.power;
-}
+command_changed t command u ordered same = grind arith
 
 -- another init runs
 pub init_changed : {N : Type 0} {n : Node N} {noted start : List Entry} {short : Bool} {w : Work} (t : Tasks) (init : Option Init)
     → IsInStep n noted short start w → init ≡ init_running t.init → t.command ≡ n.tasks.command
     → IsInStep (record n { tasks = t }) noted short start (record w { core = record w.core { init = init } })
-init_changed t init u running same = record {
-  node = u.node;
-  core = λ live. (let k = u.core live in record {
-    journal = k.journal;
-    tables = k.tables;
-    command = k.command ∙ sym same;
-    init = running;
-  });
-  ends = u.ends;
-  noted_are = u.noted_are;
-  power = u.power;
-}
+init_changed t init u running same = grind arith
 
 -- nothing is under way
 pub tasks_dropped : {N : Type 0} {n : Node N} {noted start : List Entry} {short : Bool} {w : Work} (t : Tasks)
     → IsInStep n noted short start w → t.command ≡ None → t.init ≡ None
     → IsInStep (record n { tasks = t }) noted short start (record w { core = record w.core { command = None; init = None } })
-tasks_dropped t u command init = record {
-  node = u.node;
-  core = λ live. (let k = u.core live in record {
-    journal = k.journal;
-    tables = k.tables;
-    command = sym command;
-    init = ap init_running (sym init);
-  });
-  ends = u.ends;
-  noted_are = u.noted_are;
-  power = u.power;
-}
+tasks_dropped t u command init = grind arith
 
 -- a message is handled the same where nothing that this goes by has changed
 pub handled_same : {N : Type 0} (n n2 : Node N) (m : Message) → n2.number ≡ n.number → n2.tasks ≡ n.tasks → handling n2 m ≡ handling n m
-handled_same n n2 m number tasks =
-    ap₂ (λ (k : ℕ) (t : Tasks). handled_at k t) number tasks
-  where
-    handled_at : ℕ → Tasks → Handling
-    handled_at k t = record { node = k; init = init_running t.init; message = m }
+handled_same n n2 m number tasks = grind arith
 
 -- ## One deed after another
 
 shown_same : (a b : Handling) (d : Deed) (w : Work) → b.node ≡ a.node → b.message ≡ a.message → w.core.init ≡ b.init → IsDoableNow a d w
     → deed_shown b d ≡ deed_shown a d
-shown_same a b (kept.Commits c) w node message runs may = refl
-shown_same a b (kept.PassesOn host) w node message runs may = ap (λ (m : Message). Sends host m) message
-shown_same a b (kept.Sends host pipe answer) w node message runs may = refl
-shown_same a b kept.SaysOk w node message runs may = refl
-shown_same a b (kept.Asks row) w node message runs may = refl
-shown_same a b (kept.Releases asker) w node message runs may = refl
-shown_same a b (kept.Tells host notice) w node message runs may = refl
-shown_same a b kept.IsAnswered w node message runs may = refl
-shown_same a b (kept.Drops pipe) w node message runs may = refl
-shown_same a b (kept.SetsErrors errors) w node message runs may = refl
-shown_same a b (kept.Orders order) w node message runs may = refl
-shown_same a b kept.Hears w node message runs may = refl
-shown_same a b (kept.GoesOn answered) w node message runs may = ap (λ (o : Option Init). goes_on_with o answered) (sym runs ∙ may)
-shown_same a b (kept.Ends e) w node message runs may = ap (λ (n : ℕ). Ends (end_shown (end_of n Host) e)) node
+shown_same a b d w node message runs may = grind arith
 
 doable_same : (a b : Handling) (d : Deed) (w : Work) → b.message ≡ a.message → w.core.init ≡ b.init → IsDoableNow a d w → IsDoableNow b d w
-doable_same a b (kept.Commits c) w message runs may = may
-doable_same a b (kept.PassesOn host) w message runs may = subst (λ (m : Message). IsSendable m) (sym message) may
-doable_same a b (kept.Sends host pipe answer) w message runs may = may
-doable_same a b kept.SaysOk w message runs may = may
-doable_same a b (kept.Asks row) w message runs may = may
-doable_same a b (kept.Releases asker) w message runs may = may
-doable_same a b (kept.Tells host notice) w message runs may = may
-doable_same a b kept.IsAnswered w message runs may = may
-doable_same a b (kept.Drops pipe) w message runs may = may
-doable_same a b (kept.SetsErrors errors) w message runs may = may
-doable_same a b (kept.Orders order) w message runs may = may
-doable_same a b kept.Hears w message runs may = may
-doable_same a b (kept.GoesOn answered) w message runs may = runs
-doable_same a b (kept.Ends e) w message runs may = may
+doable_same a b d w message runs may = grind arith
 
 -- the next deed of a node, as it stands now and as it stood before its deeds
 runs_now : {N : Type 0} {n : Node N} {noted start : List Entry} {short : Bool} {w : Work} → IsInStep n noted short start w → n.store.journal.live ≡ true

@@ -1,10 +1,9 @@
 -- Something comes to all ends of a node, one after another.
-use Rattle.std.proofs.Common.{◌≡◌, ◌≢◌, ℕ, zero, suc, ◌≤◌, Bool, true, false, List, [], ◌∷◌, ◌++◌, map, take, length, refl, sym, ap, ap₂, ◌∙◌, subst, arith}
+use Rattle.std.proofs.Common.{◌≡◌, ◌≢◌, ℕ, zero, suc, ◌≤◌, true, false, List, [], ◌∷◌, ◌++◌, map, take, length, refl, sym, ap, ap₂, ◌∙◌, subst, arith}
 use Rattle.std.proofs.Common.{append_assoc, append-nil}
 use Rattle.std.specs.Prelude.{Option, Some, None, option_map, ◌==◌, slice_get}
 use Rattle.std.specs.List.{AllByRecursion, flat_map}
-use Rattle.std.specs.Option.{option_map_or}
-use Rattle.std.proofs.lemmas.Bool.{eqb-true, eq-eqb}
+use Rattle.std.proofs.lemmas.Bool.{eq-eqb}
 use Rattle.std.proofs.lemmas.List.Concat.{flat_map-cons}
 use Rattle.node_core.proofs.Words.{AreAllDifferent, AreFewDue, AtEnd, EndsStandFor, Entry, FewAreDue, KeptEnds, Port, TimePasses, Work, all_changed, all_come}
 use Rattle.node_core.proofs.Words.{at_place, first_changed, has_come, next_changed, none_changed, noting, port_at, told_at, with_port}
@@ -16,11 +15,7 @@ use Rattle.node_core.proofs.Arriving.{come_is}
 -- ## The end at a place
 
 differs : (a b : ℕ) → (a ≡ b → ⊥) → (a == b) ≡ false
-differs a b n = by (a == b) refl
-  where
-    by : (t : Bool) → (a == b) ≡ t → (a == b) ≡ false
-    by true e = absurd (n (eqb-true a b e))
-    by false e = e
+differs a b n = grind arith
 
 pub none_with : (h : ℕ) (f : Port → Port) (ports : List Port) → AllByRecursion (λ (g : ℕ). g ≢ h) (map host_at ports) → with_port h f ports ≡ ports
 none_with h f [] differ = refl
@@ -48,11 +43,7 @@ at_is_with (suc i) f (q ∷ ports) p differ is =
 pub found_there : (i : ℕ) (ports : List Port) (p : Port) → AreAllDifferent (map host_at ports) → slice_get ports i ≡ Some p
     → port_at ports p.desk.host ≡ Some p
 found_there i [] p differ is = cc
-found_there zero (q ∷ ports) p differ is =
-    let e : q ≡ p = cc in
-    let P : Port → Type 0 = λ x. port_at (q ∷ ports) x.desk.host ≡ Some x in
-    let here : (q.desk.host == q.desk.host) ≡ true = eq-eqb q.desk.host q.desk.host refl in
-    subst P e (rw here refl)
+found_there zero (q ∷ ports) p differ is = grind arith
 found_there (suc i) (q ∷ ports) p differ is =
     let other = differs q.desk.host p.desk.host (λ e. all_there (λ g. g ≢ q.desk.host) i ports p is differ.0 (sym e)) in
     rw other (found_there i ports p differ.1 is)
@@ -116,8 +107,7 @@ next_tick i w p differ is =
     let told : (w.entries ++ es) ++ t p ≡ w.entries ++ flat_map t (take (suc i) w.ports) =
     append_assoc w.entries es (t p) ∙ ap (λ l. w.entries ++ l) (sym (next_told t i w.ports p is)) in
     sym (come_is p.desk.host Tick (ticks_so_far i w) differ_here)
-    ∙ (ap (λ (o : Option Port). noting (option_map_or t o []) (record (ticks_so_far i w) { ports = with_port p.desk.host f ports })) found
-    ∙ ap₂ (λ (l : List Entry) (qs : List Port). record w { ports = qs; entries = l }) told changed)
+    ∙ (grind arith)
 
 pub all_ticked : (i : ℕ) (w : Work) → length w.ports ≤ i → ticks_so_far i w ≡ all_come TimePasses w
 all_ticked i w past =
@@ -147,8 +137,7 @@ pub tick_there : (i : ℕ) (w : Work) → slice_get (ticks_so_far i w).ports i �
 tick_there i w = next_there i (λ p. has_come p (Some Tick)) w.ports
 
 pub either_there : {P : Type 0} (o : Option Port) {x : Option Port} → x ≡ o → ((p : Port) → x ≡ Some p → P) → (x ≡ None → P) → P
-either_there None is some none = none is
-either_there (Some p) is some none = some p is
+either_there o is some none = grind arith
 
 -- there are at most seven ends
 pub many_ports : (ends : KeptEnds) (ports : List Port) → EndsStandFor ends ports → length ports ≤ 7

@@ -1,5 +1,5 @@
 -- Where no session of an end has ended in a step, nothing is left to settle but the identifier that came.
-use Rattle.std.proofs.Common.{◌≡◌, ℕ, Bool, true, false, ◌==◌, ◌&&◌, ◌||◌, List, [], ◌∷◌, ◌++◌, map, refl, ap, ap₂, ◌∙◌}
+use Rattle.std.proofs.Common.{◌≡◌, ℕ, Bool, false, ◌==◌, ◌&&◌, ◌||◌, List, [], ◌∷◌, ◌++◌, map, refl, ap, ap₂, ◌∙◌, arith}
 use Rattle.std.specs.Prelude.{Option, None, Some}
 use Rattle.std.specs.List.{AllByRecursion, list_any, filter, filter_map, flat_map}
 use Rattle.gate_answers.specs.declared.response.Response.TheVariants as response
@@ -7,7 +7,6 @@ use Rattle.node_machine.specs.Parts.{Deed}
 use Rattle.node_core.proofs.Words.{Creation, Port, Releases, Work, all_done, all_owed, asked_at, forgets, forgotten, is_forgotten, is_over, is_over_at}
 use Rattle.node_core.proofs.Words.{left_over, settles, unless_cut, without_notice}
 use Rattle.node_machine.specs.Node.{owed}
-use Rattle.node_core.proofs.Joining.{stays_cut, goes_on}
 use Rattle.node_core.proofs.Tasks.{not_over}
 
 -- ## Ends whose sessions go on
@@ -16,16 +15,14 @@ abbrev GoesOn : Port → Type 0
 GoesOn p = is_over p ≡ false
 
 neither : (a b : Bool) → (a || b) ≡ false → (a ≡ false) × (b ≡ false)
-neither true b q = cc
-neither false b q = (refl, q)
+neither a b q = grind arith
 
 all_go_on : (ports : List Port) → list_any is_over ports ≡ false → AllByRecursion GoesOn ports
 all_go_on [] q = tt
 all_go_on (p ∷ ports) q = let x = neither (is_over p) (list_any is_over ports) q in (x.0, all_go_on ports x.1)
 
 not_both : (a b : Bool) → b ≡ false → (a && b) ≡ false
-not_both true b q = q
-not_both false b q = refl
+not_both a b q = grind arith
 
 goes_on_at : (h : ℕ) (ports : List Port) → AllByRecursion GoesOn ports → is_over_at ports h ≡ false
 goes_on_at h [] a = refl
@@ -76,11 +73,7 @@ none_owed ports a =
 -- ## All of it
 
 undone : (w : Work) → unless_cut (all_done 0 []) w ≡ w
-undone w = by w.cut refl
-  where
-    by : (b : Bool) → w.cut ≡ b → unless_cut (all_done 0 []) w ≡ w
-    by true q = stays_cut (all_done 0 []) w q
-    by false q = goes_on (all_done 0 []) w q
+undone w = grind arith
 
 -- no session ended
 pub nothing_ended : (syncs : List Deed) (w : Work) → list_any is_over w.ports ≡ false → settles syncs w ≡ all_done 0 syncs w

@@ -1,27 +1,22 @@
 -- A step behind which the link of a host isn't up commits nothing: all that waits there is dropped.
-use Rattle.std.proofs.Common.{◌≡◌, ◌≢◌, ◌⊎◌, ℕ, suc, ◌+◌, ◌-◌, Bool, true, false, List, [], ◌∷◌, ◌++◌, map, length, refl, sym, ap, ap₂, ◌∙◌, subst}
-use Rattle.std.proofs.Common.{inl, inr, arith}
-use Rattle.std.specs.Prelude.{Option, Some, None, ◌==◌, IfSome, IsTrue, is_some, option_map, nat_le}
+use Rattle.std.proofs.Common.{◌≡◌, ◌≢◌, ◌⊎◌, ℕ, suc, ◌+◌, Bool, true, false, List, [], ◌∷◌, ◌++◌, map, length, refl, sym, ap, ap₂, ◌∙◌, subst, inl, inr, arith}
+use Rattle.std.specs.Prelude.{Option, Some, None, ◌==◌, IfSome, IsTrue, nat_le}
 use Rattle.std.specs.List.{AllByRecursion, flat_map}
-use Rattle.std.proofs.lemmas.Bool.{true≢false, not-false, eq-eqb, ne_eqb, le-leb, lt-leb, and_right, cond_both}
+use Rattle.std.proofs.lemmas.Bool.{true≢false, not-false, le-leb, lt-leb, and_right, cond_both}
 use Rattle.swp_base.specs.InMemory.{plan_after}
-use Rattle.node_core.proofs.Words.{Act, ActEvent, AreMade, Asked, AtEnd, BeginsStep, Brings, Core, Drops, EndState, Entry, FetchMessage, Foretells, Give}
-use Rattle.node_core.proofs.Words.{HasOwnLink, HasStepped, LinkInput, Message, Node, Plan, Port, Refused, Release, Releases, Sends, WereMade, Work, Write}
-use Rattle.node_core.proofs.Words.{act_answer, activated, after_input, after_turn, all_come, all_done, all_owed, asked_at, changed_if, deeds_of, done, end_view}
-use Rattle.node_core.proofs.Words.{fails_within, forgets, forgotten, give_refusal, given, goes_through_ends, got_at, handles, has_come, has_turn, have_turns}
-use Rattle.node_core.proofs.Words.{host_deeds, if_up, input_at, input_of_end, is_forgotten, is_open, is_over, is_up, lack, left_over, needs, own_view, passes}
-use Rattle.node_core.proofs.Words.{plan_behind, plan_left, port_at, put_down, reset_refusal, reset_refusal_at, role_after, settles, steps, synced, unless}
-use Rattle.node_core.proofs.Words.{unless_cut, with_port, without_notice}
+use Rattle.node_core.proofs.Words.{ActEvent, AreMade, AtEnd, BeginsStep, Brings, Core, Drops, Entry, FetchMessage, Foretells, Give, HasOwnLink, HasStepped}
+use Rattle.node_core.proofs.Words.{LinkInput, Message, Node, Plan, Port, Release, Releases, Sends, WereMade, Work, Write, activated, after_input, after_turn}
+use Rattle.node_core.proofs.Words.{all_come, all_done, all_owed, changed_if, deeds_of, done, end_view, fails_within, forgets, forgotten, got_at, handles}
+use Rattle.node_core.proofs.Words.{has_come, has_turn, have_turns, host_deeds, input_at, input_of_end, is_over, is_up, lack, left_over, needs, own_view, passes}
+use Rattle.node_core.proofs.Words.{plan_behind, plan_left, port_at, reset_refusal, reset_refusal_at, settles, steps, synced, unless_cut, with_port}
+use Rattle.node_core.proofs.Words.{without_notice}
 use Rattle.swp_act.specs.declared.ActEvent.TheVariants.{Start as ActStart, Stop as ActStop}
-use Rattle.shdlc_core.specs.Machine.{is_waiting, waiting_from, stopped}
+use Rattle.shdlc_core.specs.Machine.{stopped}
 use Rattle.shdlc_core.specs.declared.answers.LinkState.TheVariants.{Down}
 use Rattle.link_laws.specs.machine.Machine.{LinkEnd as Machine, moved}
-use Rattle.link_laws.specs.machine.Machine.{window_of, with_act}
 use Rattle.link_laws.specs.machine.Machine.LinkInput.{Reset, Start, Stop}
-use Rattle.link_laws.specs.machine.Machine.Refused.{Inactive, IsWaiting}
 use Rattle.node_machine.specs.Parts.{Deed}
 use Rattle.node_machine.proofs.Walks.{forgotten_hold, all_owed_hold}
-use Rattle.link_end.specs.Reports.{reset_refused}
 use Rattle.node_ends.specs.declared.inputs.LinkInput.{LinkInput as ToEnd}
 use Rattle.node_ends.specs.declared.inputs.LinkInput.TheVariants as asks
 use Rattle.node_ends.specs.Inputs.{refusal_at}
@@ -33,7 +28,6 @@ use Rattle.node_core.proofs.Sendables.{found_all}
 use Rattle.node_core.proofs.HavingTurns.{let_cut, let_writes, at_host, no_host}
 use Rattle.node_core.proofs.Settling.{settled_quiet}
 use Rattle.node_core.proofs.Staying.{over_node}
-use Rattle.node_core.proofs.Sendings.{alone}
 
 -- ## Links that aren't up
 
@@ -41,11 +35,7 @@ abbrev pub AreDown : List Port → Type 0
 AreDown ports = AllByRecursion (λ (p : Port). is_up p.side.shdlc.phase ≡ false) ports
 
 give_phase : (m : Message) (p : Port) → (after_turn (Give m) p).side.shdlc.phase ≡ p.side.shdlc.phase
-give_phase m p = by (give_refusal p.side m)
-  where
-    by : (o : Option Refused) → (unless o p.side (given p.side m)).shdlc.phase ≡ p.side.shdlc.phase
-    by None = refl
-    by (Some why) = refl
+give_phase m p = grind arith
 
 down_port : (h : ℕ) (f : Port → Port) → ((p : Port) → (f p).side.shdlc.phase ≡ p.side.shdlc.phase) → (ports : List Port) → AreDown ports
     → AreDown (with_port h f ports)
@@ -53,8 +43,7 @@ down_port h f same [] down = tt
 down_port h f same (p ∷ ports) down = (one (p.desk.host == h), down_port h f same ports down.1)
   where
     one : (b : Bool) → is_up (changed_if b f p).side.shdlc.phase ≡ false
-    one true = ap is_up (same p) ∙ down.0
-    one false = down.0
+    one b = grind arith
 
 down_at : (ports : List Port) (h : ℕ) (p : Port) → AreDown ports → port_at ports h ≡ Some p → is_up p.side.shdlc.phase ≡ false
 down_at ports h p down at =
@@ -101,12 +90,10 @@ handled h m deeds w (inr drops) live down =
     let t = turned h m w live down in
     let P : List Deed → Type 0 = λ ds. IsUnwritten (handles h m ds w) w in
     let Q : Work → Type 0 = λ v. IsUnwritten v w in
-    subst P (sym drops) (subst Q (sym (alone h (Drops m.0) (has_turn h m w)))
-    (record { written = t.written; power = t.power; core = t.core; down = t.down }))
+    subst P (sym drops) (grind arith)
 
 no_lack : (h : ℕ) (m : Message) (deeds : List Deed) (ports : List Port) → (deeds ≡ []) ⊎ (deeds ≡ Drops m.0 ∷ []) → lack ports (needs h deeds) ≡ None
-no_lack h m deeds ports (inl none) = ap (λ (ds : List Deed). lack ports (needs h ds)) none
-no_lack h m deeds ports (inr drops) = ap (λ (ds : List Deed). lack ports (needs h ds)) drops
+no_lack h m deeds ports a = grind arith
 
 then_done : (v u w : Work) → u.writes ≡ w.writes → v.writes ≡ u.writes → v.cut ≡ false → (v.writes ≡ w.writes) × (v.cut ≡ false)
 then_done v u w first second live = (second ∙ first, live)
@@ -126,19 +113,11 @@ turns_unwritten h (m ∷ ms) w some down live =
         → have_turns h (m ∷ ms) w ≡ have_turns h ms (handles h m (deeds_of w.core w.ports h m) w)
     step room power = rw (room, power) refl
 
-last_one : (v : Work) → unless_cut (goes_through_ends []) v ≡ v
-last_one v = by v.cut refl
-  where
-    by : (b : Bool) → v.cut ≡ b → unless_cut (goes_through_ends []) v ≡ v
-    by true q = rw q refl
-    by false q = rw q refl
-
 passes_unwritten : (w : Work) → w.core.node ≢ 0 → map host_at w.ports ≡ w.core.node ∷ [] → AreDown w.ports → w.cut ≡ false
     → ((passes w).writes ≡ w.writes) × ((passes w).cut ≡ false)
 passes_unwritten w some own down live =
     let n = w.core.node in
-    let same : passes w ≡ have_turns n (got_at w.ports n) w =
-    ap (λ (hosts : List ℕ). goes_through_ends hosts w) own ∙ last_one (have_turns n (got_at w.ports n) w) in
+    let same : passes w ≡ have_turns n (got_at w.ports n) w = grind arith in
     let t = turns_unwritten n (got_at w.ports n) w some down live in
     (ap (λ (v : Work). v.writes) same ∙ t.0, ap (λ (v : Work). v.cut) same ∙ t.1)
 
@@ -172,8 +151,7 @@ mapped_down f same [] down = tt
 mapped_down f same (p ∷ ports) down = (ap is_up (same p) ∙ down.0, mapped_down f same ports down.1)
 
 forgets_phase : (all : List Port) (p : Port) → (forgets all p).side.shdlc.phase ≡ p.side.shdlc.phase
-forgets_phase all p =
-    cond_both (is_forgotten all (asked_at p)) _ p (λ (q : Port). q.side.shdlc.phase ≡ p.side.shdlc.phase) (λ _. refl) (λ _. refl)
+forgets_phase all p = grind arith
 
 without_phase : (p : Port) → (without_notice p).side.shdlc.phase ≡ p.side.shdlc.phase
 without_phase p = cond_both (is_over p) _ p (λ (q : Port). q.side.shdlc.phase ≡ p.side.shdlc.phase) (λ _. refl) (λ _. refl)
@@ -199,25 +177,21 @@ come_down w i own goes = all w.ports own goes
   where
     one : (p : Port) (b : Bool) → (p.desk.host == w.core.node) ≡ b → b ≡ true → is_up (after_input p.side i).shdlc.phase ≡ false
         → is_up (has_come p (input_at (AtEnd w.core.node i) p)).side.shdlc.phase ≡ false
-    one p true q same goes = rw q goes
-    one p false q same goes = absurd (true≢false (sym same))
+    one p b q same goes = grind arith
 
     all : (ports : List Port) → map host_at ports ≡ w.core.node ∷ []
         → AllByRecursion (λ (p : Port). is_up (after_input p.side i).shdlc.phase ≡ false) ports
         → AreDown (map (λ (p : Port). has_come p (input_at (AtEnd w.core.node i) p)) ports)
     all [] own goes = cc
     all (p ∷ q ∷ ports) own goes = cc
-    all (p ∷ []) own goes =
-        let host : p.desk.host ≡ w.core.node = cc in
-        (one p (p.desk.host == w.core.node) refl (eq-eqb p.desk.host w.core.node host) goes.0, tt)
+    all (p ∷ []) own goes = grind arith
 
 come_hosts : (h : ℕ) (i : LinkInput) (ports : List Port) → map host_at (map (λ (p : Port). has_come p (input_at (AtEnd h i) p)) ports) ≡ map host_at ports
 come_hosts h i [] = refl
 come_hosts h i (p ∷ ports) = ap₂ (λ (n : ℕ) ns. n ∷ ns) (one (input_at (AtEnd h i) p)) (come_hosts h i ports)
   where
     one : (o : Option LinkInput) → (has_come p o).desk.host ≡ p.desk.host
-    one None = refl
-    one (Some j) = refl
+    one o = grind arith
 
 -- A step of a host commits nothing, where something comes to its end behind which that isn't up, and no identifier came.
 pub step_unwritten : (w : Work) (i : LinkInput) → w.core.node ≢ 0 → HasOwnLink w.core.node w.ports → w.cut ≡ false
@@ -238,31 +212,11 @@ step_unwritten w i some own live none goes =
 
 -- ## Inputs behind which an end isn't up
 
-moved_phase : (e : Machine) (b : Bool) (s : EndState) → (moved e b s).shdlc.phase ≡ s.phase
-moved_phase e true s = refl
-moved_phase e false s = refl
-
 pub reset_down : (e : Machine) (window : Option ℕ) → reset_refusal e ≡ None → is_up (after_input e (Reset window)).shdlc.phase ≡ false
-reset_down e window none = by (is_open e.role) (is_waiting e.shdlc) refl refl
-  where
-    by : (a b : Bool) → is_open e.role ≡ a → is_waiting e.shdlc ≡ b → is_up (after_input e (Reset window)).shdlc.phase ≡ false
-    by false b p q = (let refused : reset_refusal e ≡ Some Inactive = rw p refl in let z : None ≡ Some Inactive = sym none ∙ refused in cc)
-    by true true p q = (let refused : reset_refusal e ≡ Some IsWaiting = rw (p, q) refl in let z : None ≡ Some IsWaiting = sym none ∙ refused in cc)
-    by true false p q =
-        rw (p, q) (ap is_up (moved_phase e (is_some (if_up e.shdlc Asked)) (waiting_from (record e.shdlc { own_window = window_of e window }))))
-
-pub put_down_phase : (b : Bool) (e : Machine) → e.shdlc.phase ≡ Down → (put_down b e).shdlc.phase ≡ Down
-put_down_phase false e down = down
-put_down_phase true e down = rw down refl
-
-pub acted_phase : (o : Option Act) (e : Machine) → (with_act o e).shdlc.phase ≡ e.shdlc.phase
-acted_phase None e = refl
-acted_phase (Some a) e = refl
+reset_down e window none = grind arith
 
 activated_down : (e : Machine) (event : ActEvent) → e.shdlc.phase ≡ Down → is_up (activated e event).shdlc.phase ≡ false
-activated_down e event down =
-    ap is_up (acted_phase (act_answer e.role event).send (record (put_down (act_answer e.role event).ended_link e) { role = role_after e.role event })
-    ∙ put_down_phase (act_answer e.role event).ended_link e down)
+activated_down e event down = grind arith
 
 pub start_down : (e : Machine) (value : ℕ) → is_up (after_input e (Start value)).shdlc.phase ≡ false
 start_down e value = activated_down (moved e true (stopped e.shdlc)) (ActStart value) refl
@@ -275,17 +229,7 @@ resets_down : (node : ℕ) (window : Option ℕ) (ports : List Port) → map hos
     → AllByRecursion (λ (p : Port). is_up (after_input p.side (Reset window)).shdlc.phase ≡ false) ports
 resets_down node window [] own none = tt
 resets_down node window (p ∷ q ∷ ports) own none = cc
-resets_down node window (p ∷ []) own none =
-    let host : p.desk.host ≡ node = cc in
-    let here = found (eq-eqb p.desk.host node host) in
-    (reset_down p.side window (not_refused (reset_refusal p.side) (sym (ap (λ (o : Option Port). reset_refusal_at o) here) ∙ none)), tt)
-  where
-    found : (p.desk.host == node) ≡ true → port_at (p ∷ []) node ≡ Some p
-    found q = rw q refl
-
-    not_refused : (o : Option Refused) → option_map (λ (r : Refused). reset_refused r) o ≡ None → o ≡ None
-    not_refused None q = refl
-    not_refused (Some why) q = cc
+resets_down node window (p ∷ []) own none = grind arith
 
 starts_down : (value : ℕ) (ports : List Port) → AllByRecursion (λ (p : Port). is_up (after_input p.side (Start value)).shdlc.phase ≡ false) ports
 starts_down value [] = tt
@@ -312,10 +256,7 @@ behind_all (x ∷ sure) =
     in ap (plan_behind sure) one ∙ behind_all sure
   where
     after : (n : ℕ) → plan_after (Some (record { nth = suc n + 1; fill = [] })) ≡ Some (record { nth = n + 1; fill = [] })
-    after n =
-        let other : (suc n + 1 == 1) ≡ false = ne_eqb (suc n + 1) 1 (λ e. omega (arith, e)) in
-        let less : suc n + 1 - 1 ≡ n + 1 = omega arith in
-        rw other (ap (λ (k : ℕ). Some (record { nth = k; fill = [] })) less)
+    after n = grind arith
 
 none_before : (n : ℕ) → fails_within n (Some (record { nth = n + 1; fill = [] })) ≡ false
 none_before n = and_right (nat_le 1 (n + 1)) (nat_le (n + 1) n) (lt-leb (n + 1) n (omega arith))
@@ -331,12 +272,7 @@ module _ {N : Type 0} (writes : N → ℕ → List ℕ → Bool → N → Type 0
   brings_nothing {old} {new} {S} {f} {w} b nothing any = by b.after.cut refl
     where
       torn_so : (torn : List Write) → b.torn ≡ torn → b.after.cut ≡ true → ⊥
-      torn_so [] is cut =
-          let M : Bool → Type 0 = λ t. WereMade writes b.sure b.torn old t new in
-          let made = subst M cut b.made in
-          let T : List Write → Type 0 = λ t. AreMade writes t made.0 false new in
-          let none = subst T is made.2 in
-          true≢false (sym none.0)
+      torn_so [] is cut = grind arith
       torn_so (t ∷ torn) is cut =
           let plan : Option Plan = Some (record { nth = length b.sure + 1; fill = [] }) in
           let F : Bool → Type 0 = λ c. Foretells plan b.sure b.torn c in
@@ -351,8 +287,7 @@ module _ {N : Type 0} (writes : N → ℕ → List ℕ → Bool → N → Type 0
       by false live =
           let F : Option Plan → Bool → Type 0 = λ plan c. Foretells plan b.sure b.torn c in
           let still = b.is None (subst (F None) (sym live) refl) in
-          let written : w.writes ≡ w.writes ++ (b.sure ++ b.torn) =
-          sym (nothing None).0 ∙ (ap (λ (v : Work). v.writes) still ∙ b.written) in
+          let written : w.writes ≡ w.writes ++ (b.sure ++ b.torn) = grind arith in
           let sure : b.sure ≡ [] = front_empty b.sure b.torn (nothing_more w.writes (b.sure ++ b.torn) written) in
           let M : Bool → Type 0 = λ t. WereMade writes b.sure b.torn old t new in
           let made = subst M live b.made in

@@ -1,20 +1,14 @@
 -- What comes to an end has nothing to do with the messages that came there before and wait.
-use Rattle.std.proofs.Common.{◌≡◌, ℕ, Bool, true, false, List, [], ◌++◌, refl, sym, ap, ◌∙◌, append-nil}
-use Rattle.std.specs.Prelude.{Option, Some, None, is_some, ◌+◌, if◌then◌else◌}
+use Rattle.std.proofs.Common.{◌≡◌, ℕ, Bool, true, false, List, [], ◌++◌, refl, sym, ap, ◌∙◌, append-nil, arith}
+use Rattle.std.specs.Prelude.{Option, is_some, ◌+◌, if◌then◌else◌}
 use Rattle.std.proofs.lemmas.Bool.{true≢false}
 use Rattle.swp_base.specs.declared.control_frames.Control.{Control}
 use Rattle.swp_base.specs.declared.control_frames.Control.TheVariants.{I, S, Rset, Ua, Act as ActFrame, Clt}
-use Rattle.swp_base.specs.declared.control_frames.Act.{Act}
-use Rattle.swp_base.specs.declared.link_terms.Cause.TheVariants.{Asked}
 use Rattle.swp_act.specs.declared.ActEvent.{ActEvent}
-use Rattle.swp_act.specs.declared.ActEvent.TheVariants.{Start as ActStart, Take as ActTake, Tick as ActTick, Stop as ActStop}
-use Rattle.shdlc_core.specs.declared.answers.LinkState.{LinkState}
-use Rattle.shdlc_core.specs.declared.answers.LinkState.TheVariants.{Down, Waiting, Up}
-use Rattle.shdlc_core.specs.Machine.{EndState, taken, take_answer, ticked, tick_answer, stopped, reset_with}
-use Rattle.link_laws.specs.machine.Machine.{LinkEnd as Machine, Message, Refused, LinkInput, after_input, got_by, took, brought, heard, news, moved}
-use Rattle.link_laws.specs.machine.Machine.{put_down, activated}
-use Rattle.link_laws.specs.machine.Machine.{with_act, act_answer, role_after, is_open, is_faulty, reset_refusal, if_up, window_of, started, deactivated}
-use Rattle.link_laws.specs.machine.Machine.{had_tick}
+use Rattle.swp_act.specs.declared.ActEvent.TheVariants.{Start as ActStart, Take as ActTake, Stop as ActStop}
+use Rattle.shdlc_core.specs.Machine.{taken, take_answer, stopped}
+use Rattle.link_laws.specs.machine.Machine.{LinkEnd as Machine, Message, LinkInput, after_input, got_by, took, brought, heard, news, moved, put_down, activated}
+use Rattle.link_laws.specs.machine.Machine.{is_open, is_faulty, started, deactivated, had_tick}
 use Rattle.link_laws.specs.machine.Machine.LinkInput.{Take, TakeUnknown, TakeBroken, Tick, Reset, Start, Stop, FromNode, Fetch}
 
 -- an end where these messages wait
@@ -22,27 +16,10 @@ abbrev pub with_got : List Message → Machine → Machine
 with_got g e = record e { got = g }
 
 down_apart : (b : Bool) (e : Machine) (g : List Message) → put_down b (with_got g e) ≡ with_got g (put_down b e)
-down_apart false e g = refl
-down_apart true e g = by e.shdlc.phase refl
-  where
-    by : (p : LinkState) → e.shdlc.phase ≡ p → put_down true (with_got g e) ≡ with_got g (put_down true e)
-    by Up q = rw q refl
-    by Waiting q = rw q refl
-    by Down q = rw q refl
-
-act_apart : (o : Option Act) (e : Machine) (g : List Message) → with_act o (with_got g e) ≡ with_got g (with_act o e)
-act_apart None e g = refl
-act_apart (Some act) e g = refl
-
-moved_apart : (b : Bool) (s : EndState) (e : Machine) (g : List Message) → moved (with_got g e) b s ≡ with_got g (moved e b s)
-moved_apart true s e g = refl
-moved_apart false s e g = refl
+down_apart b e g = grind arith
 
 pub activated_apart : (e : Machine) (g : List Message) (event : ActEvent) → activated (with_got g e) event ≡ with_got g (activated e event)
-activated_apart e g event =
-    ap (λ (x : Machine). with_act (act_answer e.role event).send (record x { role = role_after e.role event }))
-    (down_apart (act_answer e.role event).ended_link e g)
-    ∙ act_apart (act_answer e.role event).send (record (put_down (act_answer e.role event).ended_link e) { role = role_after e.role event }) g
+activated_apart e g event = grind arith
 
 -- nothing came with it
 none_came : (e : Machine) (g : List Message) → with_got g e ≡ with_got (g ++ []) e
@@ -55,8 +32,7 @@ heard_apart e g c = by (is_faulty (taken e.shdlc c).session) refl
     by_end : (b : Bool) → record (moved (with_got g e) b (taken e.shdlc c)) { got = g ++ news e.shdlc.session (taken e.shdlc c) }
         ≡ with_got (g ++ news e.shdlc.session (taken e.shdlc c))
         (record (moved e b (taken e.shdlc c)) { got = e.got ++ news e.shdlc.session (taken e.shdlc c) })
-    by_end true = refl
-    by_end false = refl
+    by_end b = grind arith
 
     by : (b : Bool) → is_faulty (taken e.shdlc c).session ≡ b
         → heard (with_got g e) c ≡ with_got (g ++ (if is_faulty (taken e.shdlc c).session then [] else news e.shdlc.session (taken e.shdlc c))) (heard e c)
@@ -81,18 +57,10 @@ took_apart e g (Rset window caps) = open_apart e g (Rset window caps) (λ x. ref
 took_apart e g Ua = open_apart e g Ua (λ x. refl) refl
 
 tick_apart : (e : Machine) (g : List Message) → had_tick (with_got g e) ≡ with_got g (had_tick e)
-tick_apart e g = by (is_open e.role) refl
-  where
-    by : (o : Bool) → is_open e.role ≡ o → had_tick (with_got g e) ≡ with_got g (had_tick e)
-    by true q = rw q (moved_apart (is_some (tick_answer e.shdlc).ended) (ticked e.shdlc) e g)
-    by false q = rw q (activated_apart e g ActTick)
+tick_apart e g = grind arith
 
 reset_apart : (e : Machine) (g : List Message) (window : Option ℕ) → after_input (with_got g e) (Reset window) ≡ with_got g (after_input e (Reset window))
-reset_apart e g window = by (reset_refusal e) refl
-  where
-    by : (o : Option Refused) → reset_refusal e ≡ o → after_input (with_got g e) (Reset window) ≡ with_got g (after_input e (Reset window))
-    by None q = rw q (moved_apart (is_some (if_up e.shdlc Asked)) (reset_with e.shdlc (window_of e window)) e g)
-    by (Some why) q = rw q refl
+reset_apart e g window = grind arith
 
 -- what comes to an end from outside
 abbrev pub is_outside : LinkInput → Bool

@@ -1,5 +1,5 @@
 -- What is kept of an end beside it is changed: it stands for the changed port, and the ends beside it stay.
-use Rattle.std.proofs.Common.{◌≡◌, ℕ, ◌+◌, Bool, false, [], refl, sym, ap, ◌∙◌, subst}
+use Rattle.std.proofs.Common.{◌≡◌, ℕ, ◌+◌, Bool, false, [], refl, sym, ap, ◌∙◌, subst, arith}
 use Rattle.std.specs.Prelude.{Option, option_map, min, ◌||◌}
 use Rattle.block_pool.specs.Pool.{PoolState}
 use Rattle.link_laws.specs.machine.Machine.{LinkEnd as Machine, whole_acked}
@@ -16,7 +16,6 @@ use Rattle.node_ends.specs.Desks.{grown_older, kept_notice, as_forgotten, forgot
 use Rattle.node_ends.specs.Holding.{HoldsEnd, IsReached, kept_number}
 use Rattle.node_ends.specs.Ends.{SeatStandsFor, SeatBecomes}
 use Rattle.node_ends.proofs.Moving.{stays_beside}
-use Rattle.node_ends.proofs.Noticing.{older_sound, older_desk, kept_sound, kept_desk, without_same, forgotten_sound, forgotten_desk}
 
 pub record Sets (pool : PoolState) (s t : Seat) (f : Port → Port) : Type 0 where
   pub side : t.side ≡ s.side
@@ -53,24 +52,12 @@ sets {pool} {s} {t} {f} c =
 -- its desk alone
 sets_desk : {pool : PoolState} {s : Seat} (d : Desk) (f : DeskOf → DeskOf) → d.host ≡ s.desk.host → desk_shown d ≡ f (desk_shown s.desk)
     → (IsSoundDesk s.desk → IsSoundDesk d) → SeatBecomes pool pool s (record s { desk = d }) (λ p. record p { desk = f p.desk })
-sets_desk {s = s} d f host shown sound = sets (record {
-  side = refl;
-  waiting = refl;
-  acked = refl;
-  aside = refl;
-  host = host;
-  same_side = λ q. refl;
-  desk = λ q g. shown ∙ ap f g.desk;
-  sound = sound;
-  late = λ q g. g.late;
-  ended = λ q g. g.ended;
-})
+sets_desk d f host shown sound = grind arith
 
 pub notice_set : (pool : PoolState) (s : Seat) (notice : Option Unanswered) → IsSoundRow (row_noticed notice)
     → SeatBecomes pool pool s (record s { desk = record s.desk { notice = notice } })
     (λ p. record p { desk = record p.desk { notice = option_map notice_shown notice } })
-notice_set pool s notice sound =
-    sets_desk (record s.desk { notice = notice }) (λ d. record d { notice = option_map notice_shown notice }) refl refl (λ was. sound)
+notice_set pool s notice sound = grind arith
 
 pub holds_set : (pool : PoolState) (s : Seat) (holds : Bool)
     → SeatBecomes pool pool s (record s { desk = record s.desk { holds = holds } }) (λ p. record p { desk = record p.desk { holds = holds } })
@@ -83,72 +70,22 @@ errors_set pool s errors = sets_desk (record s.desk { errors = errors }) (λ d. 
 pub error_counted : (pool : PoolState) (s : Seat) (errors : ℕ) → errors ≡ min 65535 (s.desk.errors + 1)
     → SeatBecomes pool pool s (record s { desk = record s.desk { errors = errors } })
     (λ p. record p { desk = record p.desk { errors = min 65535 (p.desk.errors + 1) } })
-error_counted pool s errors is =
-    sets_desk (record s.desk { errors = errors }) (λ d. record d { errors = min 65535 (d.errors + 1) }) refl
-    (ap (λ (n : ℕ). record (desk_shown s.desk) { errors = n }) is) (λ was. was)
+error_counted pool s errors is = grind arith
 
 pub older : (pool : PoolState) (s t : Seat) → t ≡ record s { desk = record s.desk { notice = grown_older s.desk.notice } }
     → SeatBecomes pool pool s t with_older
-older pool s t is =
-    let P : Seat → Type 0 = λ x. SeatBecomes pool pool s x with_older in
-    subst P (sym is) (sets (record {
-      side = refl;
-      waiting = refl;
-      acked = refl;
-      aside = refl;
-      host = refl;
-      same_side = λ q. refl;
-      desk = λ q g. older_desk s.desk q g.desk;
-      sound = older_sound s.desk.notice;
-      late = λ q g. g.late;
-      ended = λ q g. g.ended;
-    }))
+older pool s t is = grind arith
 
 pub begun : (pool : PoolState) (s : Seat)
     → SeatBecomes pool pool s (record s { late = false; ended = false }) (λ p. record p { late = false; ended = false; turns = [] })
-begun pool s = sets (record {
-  side = refl;
-  waiting = refl;
-  acked = refl;
-  aside = refl;
-  host = refl;
-  same_side = λ q. refl;
-  desk = λ q g. g.desk;
-  sound = λ was. was;
-  late = λ q g. refl;
-  ended = λ q g. refl;
-})
+begun pool s = grind arith
 
 pub notice_dropped : (pool : PoolState) (s t : Seat)
     → t ≡ record s { desk = record s.desk { notice = kept_notice (s.ended || s.late) s.desk.notice } } → SeatBecomes pool pool s t without_notice
 notice_dropped pool s t is =
     let P : Seat → Type 0 = λ x. SeatBecomes pool pool s x without_notice in
-    subst P (sym is) (sets (record {
-      side = refl;
-      waiting = refl;
-      acked = refl;
-      aside = refl;
-      host = refl;
-      same_side = λ q. (without_same q).0;
-      desk = λ q g. kept_desk s.desk q s.ended s.late g.desk g.ended g.late;
-      sound = kept_sound (s.ended || s.late) s.desk.notice;
-      late = λ q g. g.late ∙ sym (without_same q).1;
-      ended = λ q g. g.ended ∙ sym (without_same q).2;
-    }))
+    subst P (sym is) (sets ((grind arith)))
 
 pub creation_forgotten : (pool : PoolState) (s t : Seat) → t ≡ record s { desk = record s.desk { notice = as_forgotten s.desk.notice } }
     → SeatBecomes pool pool s t forgotten_at
-creation_forgotten pool s t is =
-    let P : Seat → Type 0 = λ x. SeatBecomes pool pool s x forgotten_at in
-    subst P (sym is) (sets (record {
-      side = refl;
-      waiting = refl;
-      acked = refl;
-      aside = refl;
-      host = refl;
-      same_side = λ q. refl;
-      desk = λ q g. forgotten_desk s.desk q g.desk;
-      sound = forgotten_sound s.desk.notice;
-      late = λ q g. g.late;
-      ended = λ q g. g.ended;
-    }))
+creation_forgotten pool s t is = grind arith

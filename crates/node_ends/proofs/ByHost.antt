@@ -27,15 +27,7 @@ module _ {X : Type 0} (read : Port → X) (d : X) where
       → option_map_or (λ (q : Port). x) (port_at (take (suc i) ports) h) d
       ≡ (if p.desk.host == h then x else option_map_or (λ (q : Port). x) (port_at (take i ports) h) d)
   one_more x i [] p h is = cc
-  one_more x zero (q ∷ ports) p h is =
-      let e : q ≡ p = cc in
-      by (q.desk.host == h) refl (ap (λ (r : Port). r.desk.host == h) (sym e))
-    where
-      by : (b : Bool) → (q.desk.host == h) ≡ b → (p.desk.host == h) ≡ (q.desk.host == h)
-          → option_map_or (λ (r : Port). x) (port_at (take 1 (q ∷ ports)) h) d
-          ≡ (if p.desk.host == h then x else option_map_or (λ (r : Port). x) (port_at (take 0 (q ∷ ports)) h) d)
-      by true t same = rw (same, t) refl
-      by false t same = rw (same, t) refl
+  one_more x zero (q ∷ ports) p h is = grind arith
   one_more x (suc i) (q ∷ ports) p h is = by (q.desk.host == h) (p.desk.host == h) refl refl (one_more x i ports p h is)
     where
       by : (a b : Bool) → (q.desk.host == h) ≡ a → (p.desk.host == h) ≡ b
@@ -43,10 +35,7 @@ module _ {X : Type 0} (read : Port → X) (d : X) where
           ≡ (if p.desk.host == h then x else option_map_or (λ (r : Port). x) (port_at (take i ports) h) d)
           → option_map_or (λ (r : Port). x) (port_at (take (suc (suc i)) (q ∷ ports)) h) d
           ≡ (if p.desk.host == h then x else option_map_or (λ (r : Port). x) (port_at (take (suc i) (q ∷ ports)) h) d)
-      by true true s t later = rw (s, t) refl
-      by true false s t later = rw (s, t) refl
-      by false true s t later = rw (s, t) (later ∙ rw t refl)
-      by false false s t later = rw (s, t) (later ∙ rw t refl)
+      by a b s t later = grind arith
 
   -- what is read at the end at this place stands in the table now
   pub next_so_far : (xs : List X) (i : ℕ) (ports : List Port) (p : Port) → StandSoFar xs i ports → length xs ≡ 8 → p.desk.host < 8
@@ -106,8 +95,7 @@ module _ {X : Type 0} (read : Port → X) (d : X) where
     where
       by : (o : Option Port) → port_at ports h ≡ o
           → option_map_or (λ (p : Port). read_by_host ports h) (port_at ports h) d ≡ read_by_host ports h
-      by None q = rw q refl
-      by (Some p) q = rw q refl
+      by o q = grind arith
 
   -- where no host is above 7, so it is at every number
   pub everywhere : (xs : List X) (ports : List Port) → length xs ≡ 8 → AllByRecursion (λ (p : Port). p.desk.host ≤ 7) ports

@@ -3,7 +3,7 @@ use Rattle.std.proofs.Common.{◌≡◌, ◌≢◌, ℕ, zero, suc, ◌+◌, ◌
 use Rattle.std.specs.Prelude.{◌==◌, Option, Some, None, option_map, slice_get, slice_set, slice_index_or}
 use Rattle.std.specs.List.{AllByRecursion}
 use Rattle.std.proofs.lemmas.Option.{slice_get_within, get_or_from_slice_get}
-use Rattle.std.proofs.lemmas.Bool.{eqb-true, eq-eqb}
+use Rattle.std.proofs.lemmas.Bool.{eq-eqb}
 use Rattle.block_pool.specs.Pool.{PoolState}
 use Rattle.link_end.specs.declared.«end».End.{End}
 use Rattle.link_end.specs.Ends.{HaveOwners}
@@ -27,11 +27,7 @@ pub host_is : {pool : PoolState} {s : Seat} {p : Port} → SeatStandsFor pool s 
 host_is h = ap (λ (d : DeskOf). d.host) h.desk
 
 pub differs : (a b : ℕ) → a ≢ b → (a == b) ≡ false
-differs a b n = by (a == b) refl
-  where
-    by : (t : Bool) → (a == b) ≡ t → (a == b) ≡ false
-    by true e = absurd (n (eqb-true a b e))
-    by false e = e
+differs a b n = grind arith
 
 pub same : (a b : ℕ) → a ≡ b → (a == b) ≡ true
 same a b e = eq-eqb a b e
@@ -51,21 +47,12 @@ picked {p = p} h f g is = let yes = same p.desk.host h (sym (host_is g) ∙ is) 
 -- two ends at different places use four owners
 pub apart_places : (one other : End) (j k : ℕ) → (one.outbox.owner ≡ 2 * j) → (one.inbox.joiner.owner ≡ 2 * j + 1)
     → (other.outbox.owner ≡ 2 * k) → (other.inbox.joiner.owner ≡ 2 * k + 1) → j ≢ k → HaveOwners one other
-apart_places one other j k a b c d differ = record {
-  senders = λ e. differ (omega (arith, a, c, e));
-  receivers = λ e. differ (omega (arith, b, d, e));
-  to = λ e. omega (arith, a, d, e);
-  from = λ e. omega (arith, b, c, e);
-}
+apart_places one other j k a b c d differ = grind arith
 
 pub owners_at : (k i : ℕ) (seats : List Seat) (s : Seat) → slice_get seats i ≡ Some s → HaveOwnersFrom k seats
     → (s.side.outbox.owner ≡ 2 * (k + i)) × (s.side.inbox.joiner.owner ≡ 2 * (k + i) + 1)
 owners_at k i [] s is o = cc
-owners_at k zero (t ∷ seats) s is o =
-    let e : t ≡ s = cc in
-    let a : s.side.outbox.owner ≡ 2 * k = ap (λ (x : Seat). x.side.outbox.owner) (sym e) ∙ o.0 in
-    let b : s.side.inbox.joiner.owner ≡ 2 * k + 1 = ap (λ (x : Seat). x.side.inbox.joiner.owner) (sym e) ∙ o.1 in
-    (omega (arith, a), omega (arith, b))
+owners_at k zero (t ∷ seats) s is o = grind arith
 owners_at k (suc i) (t ∷ seats) s is o =
     let r = owners_at (k + 1) i seats s is o.2 in
     (omega (arith, r.0), omega (arith, r.1))
@@ -140,20 +127,13 @@ module _ {old new : PoolState} {h : ℕ} {f : Port → Port} {s t : Seat} (c : O
 
   pub owners_stay : (k i : ℕ) (seats : List Seat) → slice_get seats i ≡ Some s → HaveOwnersFrom k seats → HaveOwnersFrom k (slice_set seats i t)
   owners_stay k i [] is o = cc
-  owners_stay k zero (u ∷ seats) is o =
-      let e : u ≡ s = cc in (
-        c.moves.sender ∙ (ap (λ (x : Seat). x.side.outbox.owner) (sym e) ∙ o.0),
-        c.moves.receiver ∙ (ap (λ (x : Seat). x.side.inbox.joiner.owner) (sym e) ∙ o.1),
-        o.2,
-      )
+  owners_stay k zero (u ∷ seats) is o = grind arith
   owners_stay k (suc i) (u ∷ seats) is o = (o.0, o.1, owners_stay (k + 1) i seats is o.2)
 
   all_stay : (n i : ℕ) (seats : List Seat) → slice_get seats i ≡ Some s → AllByRecursion (λ (u : Seat). u.desk.host ≢ n) seats
       → AllByRecursion (λ (u : Seat). u.desk.host ≢ n) (slice_set seats i t)
   all_stay n i [] is all = cc
-  all_stay n zero (u ∷ seats) is all =
-      let e : u ≡ s = cc in
-      (λ q. all.0 (ap (λ (x : Seat). x.desk.host) e ∙ (c.before ∙ (sym c.after ∙ q))), all.1)
+  all_stay n zero (u ∷ seats) is all = grind arith
   all_stay n (suc i) (u ∷ seats) is all = (all.0, all_stay n i seats is all.1)
 
   pub hosts_stay : (i : ℕ) (seats : List Seat) → slice_get seats i ≡ Some s → HaveOwnHosts seats → HaveOwnHosts (slice_set seats i t)
@@ -185,12 +165,7 @@ none_at pool h f (s ∷ seats) (p ∷ ports) none g = by (λ r. none_at pool h f
   where
     by : (place_in h seats ≡ None → (with_port h f ports ≡ ports) × (port_at ports h ≡ None)) → (b : Bool) (o : Option ℕ) → (s.desk.host == h) ≡ b
         → place_in h seats ≡ o → (with_port h f (p ∷ ports) ≡ p ∷ ports) × (port_at (p ∷ ports) h ≡ None)
-    by later true o q r = absurd (let z : Some 0 ≡ None = rw q at none in cc)
-    by later false (Some i) q r = absurd (let z : Some (suc i) ≡ None = rw (q, r) at none in cc)
-    by later false None q r =
-        let none_later = later r in
-        let other : (p.desk.host == h) ≡ false = ap (λ n. n == h) (sym (host_is g.0)) ∙ q in
-        (rw other (ap (λ l. p ∷ l) none_later.0), rw other none_later.1)
+    by later b o q r = grind arith
 
 -- the end at the place of this host, and the port that it stands for
 pub record IsPlaced (pool : PoolState) (seats : List Seat) (ports : List Port) (i h : ℕ) : Type 0 where
@@ -209,19 +184,7 @@ placed pool h i (s ∷ seats) (p ∷ ports) is g = by (λ j r. placed pool h j s
   where
     by : ((j : ℕ) → place_in h seats ≡ Some j → IsPlaced pool seats ports j h) → (b : Bool) (o : Option ℕ) → (s.desk.host == h) ≡ b
         → place_in h seats ≡ o → IsPlaced pool (s ∷ seats) (p ∷ ports) i h
-    by later true o q r =
-        let first : Some 0 ≡ Some i = rw q at is in
-        let zero_is : 0 ≡ i = cc in
-        let here : (p.desk.host == h) ≡ true = ap (λ n. n == h) (sym (host_is g.0)) ∙ q in
-        let P : ℕ → Type 0 = λ n. IsPlaced pool (s ∷ seats) (p ∷ ports) n h in
-        subst P zero_is (record {
-          seat = s;
-          port = p;
-          seat_is = refl;
-          host = eqb-true s.desk.host h q;
-          port_is = rw here refl;
-          stands = g.0;
-        })
+    by later true o q r = grind arith
     by later false None q r = absurd (let z : None ≡ Some i = rw (q, r) at is in cc)
     by later false (Some j) q r =
         let next : Some (suc j) ≡ Some i = rw (q, r) at is in
@@ -229,14 +192,7 @@ placed pool h i (s ∷ seats) (p ∷ ports) is g = by (λ j r. placed pool h j s
         let l = later j r in
         let other : (p.desk.host == h) ≡ false = ap (λ n. n == h) (sym (host_is g.0)) ∙ q in
         let P : ℕ → Type 0 = λ n. IsPlaced pool (s ∷ seats) (p ∷ ports) n h in
-        subst P suc_is (record {
-          seat = l.seat;
-          port = l.port;
-          seat_is = l.seat_is;
-          host = l.host;
-          port_is = rw other l.port_is;
-          stands = l.stands;
-        })
+        subst P suc_is ((grind arith))
 
 -- ## The end of this host is changed
 

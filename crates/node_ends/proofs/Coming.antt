@@ -1,8 +1,8 @@
 -- What comes to an end and brings no message leaves the one that waits there.
-use Rattle.std.proofs.Common.{◌≡◌, ℕ, true, refl, [], ◌++◌, sym, ap, ◌∙◌, subst, append-nil}
-use Rattle.std.specs.Prelude.{Option, None, Some, ◌-◌, is_some, Result}
+use Rattle.std.proofs.Common.{◌≡◌, ℕ, true, refl, [], ◌++◌, ap, ◌∙◌, subst, append-nil, arith}
+use Rattle.std.specs.Prelude.{Option, ◌-◌, is_some, Result}
 use Rattle.block_pool.specs.Pool.{PoolState}
-use Rattle.link_laws.specs.machine.Machine.{LinkEnd as Machine, LinkInput, Refused, after_input, got_by, report, whole_acked, reset_refusal, ended_by}
+use Rattle.link_laws.specs.machine.Machine.{LinkEnd as Machine, LinkInput, after_input, got_by, report, whole_acked, ended_by}
 use Rattle.link_laws.specs.machine.Machine.LinkInput.{Tick, Reset, Start, Stop}
 use Rattle.link_end.specs.Reports.{report_told, reset_told}
 use Rattle.link_end.specs.declared.«end».End.{End}
@@ -28,10 +28,7 @@ still_holds old new k after waiting m i h none out leaves stands =
 
 -- a tick that changes nothing but for what waits changes nothing
 pub same_apart : (m : Machine) → after_input (without_got m) Tick ≡ without_got m → after_input m Tick ≡ m
-same_apart m same =
-    let all : after_input m Tick ≡ with_got m.got (after_input m Tick) =
-    input_apart m m.got Tick refl ∙ ap (λ l. with_got l (after_input m Tick)) (append-nil m.got) in
-    all ∙ ap (with_got m.got) (sym (input_apart m [] Tick refl) ∙ same)
+same_apart m same = grind arith
 
 -- ## What is told
 
@@ -39,18 +36,13 @@ pub tick_told_apart : (m : Machine) → report_told (report (without_got m) Tick
 tick_told_apart m = ap (λ (x : Machine). record (report_told (report m Tick)) { acked = whole_acked x - whole_acked m }) (input_apart m [] Tick refl)
 
 pub start_told_apart : (m : Machine) (value : ℕ) → report_told (report (without_got m) (Start value)) ≡ report_told (report m (Start value))
-start_told_apart m value =
-    ap (λ (x : Machine). record (report_told (report m (Start value))) { acked = whole_acked x - whole_acked m }) (input_apart m [] (Start value) refl)
+start_told_apart m value = grind arith
 
 pub stop_told_apart : (m : Machine) → report_told (report (without_got m) Stop) ≡ report_told (report m Stop)
 stop_told_apart m = ap (λ (x : Machine). record (report_told (report m Stop)) { acked = whole_acked x - whole_acked m }) (input_apart m [] Stop refl)
 
 pub reset_told_apart : (m : Machine) (window : Option ℕ) → reset_told (without_got m) window ≡ reset_told m window
-reset_told_apart m window = by (reset_refusal m) refl
-  where
-    by : (o : Option Refused) → reset_refusal m ≡ o → reset_told (without_got m) window ≡ reset_told m window
-    by None q = rw q refl
-    by (Some why) q = rw q refl
+reset_told_apart m window = grind arith
 
 pub reset_so : {pool : PoolState} {k : End} {waiting : Option Waiting} {r : Result LinkReport ResetRefused} (window : Option ℕ)
     → ((m : Machine) → EndStandsFor k pool m → r ≡ reset_told m window) → (m : Machine) → HoldsEnd pool k waiting m → r ≡ reset_told m window
@@ -58,8 +50,4 @@ reset_so window told m h = told (without_got m) h.stands ∙ reset_told_apart m 
 
 -- a reset that is told ends the session where the definition says so
 pub reset_ends : (m : Machine) (window : Option ℕ) → ends_by (reset_told m window) ≡ is_some (ended_by m (Reset window))
-reset_ends m window = by (reset_refusal m) refl
-  where
-    by : (o : Option Refused) → reset_refusal m ≡ o → ends_by (reset_told m window) ≡ is_some (ended_by m (Reset window))
-    by None q = rw q refl
-    by (Some why) q = rw q refl
+reset_ends m window = grind arith

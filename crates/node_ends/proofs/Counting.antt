@@ -1,12 +1,10 @@
 -- How many messages of the session of an end are acknowledged, as it is kept, from input to input.
 use Rattle.std.proofs.Common.{◌≡◌, ℕ, ◌+◌, ◌-◌, ◌<◌, ◌≤◌, Bool, true, false, cond, List, [], ◌∷◌, ◌++◌, length, refl, ap, sym, subst, ◌∙◌, arith}
 use Rattle.std.proofs.lemmas.Bool.{true≢false}
-use Rattle.std.specs.Prelude.{Option, Some, None, Result, Ok, Err, is_some, min}
-use Rattle.shdlc_core.specs.declared.answers.LinkState.{LinkState}
+use Rattle.std.specs.Prelude.{Option, Some, None, Ok, Err, is_some, min}
 use Rattle.hcp_packet.specs.Packets.{IsSendable, packet_count}
 use Rattle.link_laws.specs.machine.Machine.{LinkEnd as Machine, LinkInput, Turn, Message, Refused, Report, report, after_input, after_inputs, ended_by}
-use Rattle.link_laws.specs.machine.Machine.{began_by, whole_among}
-use Rattle.link_laws.specs.machine.Machine.{whole_acked, turn, give_refusal, aside_refusal, new_link_end, reset_refusal, reset_by, window_of, if_up}
+use Rattle.link_laws.specs.machine.Machine.{began_by, whole_among, whole_acked, turn, give_refusal, new_link_end, reset_refusal, if_up}
 use Rattle.link_laws.specs.machine.Machine.LinkInput.{Take, TakeUnknown, TakeBroken, Tick, Reset, Start, Stop, FromNode, Fetch}
 use Rattle.link_laws.specs.machine.Machine.Turn.{Give, Hold, FetchMessage, SetAside, Release}
 use Rattle.link_laws.specs.machine.Laws.{AreSendableInputs}
@@ -16,9 +14,7 @@ use Rattle.link_laws.proofs.machine.Sound.Shift.{Begins, Ends, Renews, Rests, St
 use Rattle.link_laws.proofs.machine.Reports.{Reports, take_so, tick_so, reset_so, start_so, stop_so}
 use Rattle.link_end.specs.declared.report.LinkReport.{LinkReport}
 use Rattle.link_end.specs.Reports.{report_told, nothing_told, reset_told, reset_refused}
-use Rattle.link_end.specs.declared.report.ResetRefused.{ResetRefused}
 use Rattle.swp_base.specs.declared.link_terms.Cause.TheVariants.{Asked}
-use Rattle.shdlc_core.specs.declared.answers.LinkState.TheVariants.{Down, Waiting, Up}
 use Rattle.node_ends.specs.Holding.{IsReached, kept_number, acked_since, acked_by_reset}
 use Rattle.node_ends.proofs.Apart.{is_outside}
 
@@ -30,19 +26,7 @@ after-append e [] js = refl
 after-append e (i ∷ is) js = after-append (after_input e i) is js
 
 joined : (i : LinkInput) (is : List LinkInput) → AreSendableInputs (i ∷ []) → AreSendableInputs is → AreSendableInputs (i ∷ is)
-joined (FromNode (Give m)) is a b = (a.0, b)
-joined (FromNode (Hold h)) is a b = b
-joined (FromNode FetchMessage) is a b = b
-joined (FromNode SetAside) is a b = b
-joined (FromNode Release) is a b = b
-joined (Take c) is a b = b
-joined TakeUnknown is a b = b
-joined (TakeBroken fault) is a b = b
-joined Tick is a b = b
-joined (Reset window) is a b = b
-joined (Start v) is a b = b
-joined Stop is a b = b
-joined Fetch is a b = b
+joined i is a b = grind arith
 
 sendable-append : (is js : List LinkInput) → AreSendableInputs is → AreSendableInputs js → AreSendableInputs (is ++ js)
 sendable-append [] js a b = b
@@ -59,15 +43,7 @@ reached_on m i a r = record {
 
 -- what comes from outside gives no message to the end
 none_given : (i : LinkInput) → is_outside i ≡ true → AreSendableInputs (i ∷ [])
-none_given (Take c) out = tt
-none_given TakeUnknown out = tt
-none_given Tick out = tt
-none_given (Reset window) out = tt
-none_given (Start value) out = tt
-none_given Stop out = tt
-none_given (TakeBroken fault) out = tt
-none_given (FromNode t) out = absurd (true≢false (sym out))
-none_given Fetch out = tt
+none_given i out = grind arith
 
 pub reached_outside : (m : Machine) (i : LinkInput) → is_outside i ≡ true → IsReached m → IsReached (after_input m i)
 reached_outside m i out r = reached_on m i (none_given i out) r
@@ -92,22 +68,10 @@ given_acked m x s h = by (give_refusal m x) refl
     by (Some why) q = rw q refl
 
 held_acked : (m : Machine) (held : Bool) → whole_acked (turn m (Hold held)) ≡ whole_acked m
-held_acked m held = go m.shdlc.ready held m.shdlc.session.answered_rnr refl refl refl
-  where
-    go : (was hold noted : Bool) → m.shdlc.ready ≡ was → held ≡ hold → m.shdlc.session.answered_rnr ≡ noted
-        → whole_acked (turn m (Hold held)) ≡ whole_acked m
-    go true true noted p q n = rw (p, q) refl
-    go true false noted p q n = rw (p, q) refl
-    go false true noted p q n = rw (p, q) refl
-    go false false true p q n = rw (p, q, n) refl
-    go false false false p q n = rw (p, q, n) refl
+held_acked m held = grind arith
 
 aside_acked : (m : Machine) → whole_acked (turn m SetAside) ≡ whole_acked m
-aside_acked m = by (aside_refusal m) refl
-  where
-    by : (o : Option Refused) → aside_refusal m ≡ o → whole_acked (turn m SetAside) ≡ whole_acked m
-    by None q = rw q refl
-    by (Some why) q = rw q refl
+aside_acked m = grind arith
 
 -- what a node does to an end acknowledges none
 pub turn_acked : (m : Machine) (t : Turn) → AreSendableInputs (FromNode t ∷ []) → IsReached m → whole_acked (turn m t) ≡ whole_acked m
@@ -130,27 +94,16 @@ acked_by e f ended began h shift sent = go shift
     without x q = rw q refl
 
     sent_true : (x : Bool) → x ≡ true → SentAfter x e f → f.sent ≡ []
-    sent_true true z s = s
-    sent_true false z s = absurd (true≢false (sym z))
+    sent_true x z s = grind arith
 
     sent_false : (x : Bool) → x ≡ false → SentAfter x e f → f.sent ≡ e.sent
-    sent_false false z s = s
-    sent_false true z s = absurd (true≢false z)
+    sent_false x z s = grind arith
 
     over : ended ≡ true → Is ended
-    over p = subst Is (sym p) (at (whole_acked e) (whole_acked f) (without f (sent_true ended p sent)))
-      where
-        at : (a b : ℕ) → b ≡ 0 → min (0 + (b - a)) 4294967295 ≡ min b 4294967295
-        at a b q = omega (arith, q)
+    over p = grind arith
 
     fresh : ended ≡ false → e.sent ≡ [] → Is ended
-    fresh p q =
-        let none = without f (sent_false ended p sent ∙ q) in
-        let old = without e q in
-        subst Is (sym p) (at (whole_acked e) (whole_acked f) old none)
-      where
-        at : (a b : ℕ) → a ≡ 0 → b ≡ 0 → min (min a 4294967295 + (b - a)) 4294967295 ≡ min b 4294967295
-        at a b q r = omega (arith, q, r)
+    fresh p q = grind arith
 
     go : Shift e.shdlc f.shdlc ended began → Is ended
     go (Stays p q g) =
@@ -177,10 +130,7 @@ input_acked e i r reports =
 pub outside_acked : (e : Machine) (i : LinkInput) → is_outside i ≡ true → IsReached e
     → acked_since (kept_number (whole_acked e)) (report_told (report e i)) ≡ kept_number (whole_acked (after_input e i))
 outside_acked e (Take c) out r = input_acked e (Take c) r (take_so e c)
-outside_acked e TakeUnknown out r = at (whole_acked e)
-  where
-    at : (a : ℕ) → min (min a 4294967295 + (a - a)) 4294967295 ≡ min a 4294967295
-    at a = omega arith
+outside_acked e TakeUnknown out r = grind arith
 outside_acked e Tick out r = input_acked e Tick r (tick_so e)
 outside_acked e (Reset window) out r = input_acked e (Reset window) r (reset_so e window)
 outside_acked e (Start value) out r = input_acked e (Start value) r (start_so e value)
@@ -196,24 +146,9 @@ acked_so told x before {was} {now} b t is = ap (λ n. acked_since n told) b ∙ 
 
 -- ## Resets
 
--- an end that was reset has no messages
-reset_sent : (m : Machine) (w : ℕ) → Sound m → (reset_by m w).sent ≡ []
-reset_sent m w h = by m.shdlc.phase refl
-  where
-    by : (p : LinkState) → m.shdlc.phase ≡ p → (reset_by m w).sent ≡ []
-    by Up p = rw p refl
-    by Waiting p = rw p (h.is.forgot (λ u. let z = sym p ∙ u in cc))
-    by Down p = rw p (h.is.forgot (λ u. let z = sym p ∙ u in cc))
-
 pub reset_report : (m : Machine) (window : Option ℕ) → Sound m → reset_refusal m ≡ None
     → record nothing_told { ended = if_up m.shdlc Asked } ≡ report_told (report m (Reset window))
-reset_report m window h q =
-    let w : ℕ = window_of m window in
-    let none : whole_acked (reset_by m w) - whole_acked m ≡ 0 = gone (whole_acked m) (reset_by m w) (reset_sent m w h) in
-    rw q (ap (λ x. record nothing_told { ended = if_up m.shdlc Asked; acked = x }) (sym none))
-  where
-    gone : (a : ℕ) (e : Machine) → e.sent ≡ [] → whole_acked e - a ≡ 0
-    gone a e s = let z : whole_acked e ≡ 0 = rw s refl in omega (arith, z)
+reset_report m window h q = grind arith
 
 -- what is told of a reset that is done is its report
 pub reset_done : (m : Machine) (window : Option ℕ) (r : LinkReport) → IsReached m → Ok r ≡ reset_told m window → r ≡ report_told (report m (Reset window))
@@ -240,7 +175,3 @@ reset_acked m window r = by (reset_refusal m) refl
         → acked_by_reset (kept_number (whole_acked m)) (reset_told m window) ≡ kept_number (whole_acked (after_input m (Reset window)))
     by None q = let t = told q in rw q (rw q at t)
     by (Some why) q = rw q refl
-
-pub reset_so_far : (told : Result LinkReport ResetRefused) (x : Result LinkReport ResetRefused) (before : ℕ) {was now : ℕ} → before ≡ was → told ≡ x
-    → acked_by_reset was x ≡ now → acked_by_reset before told ≡ now
-reset_so_far told x before {was} {now} b t is = ap (λ n. acked_by_reset n told) b ∙ (ap (acked_by_reset was) t ∙ is)

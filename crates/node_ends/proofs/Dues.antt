@@ -9,7 +9,6 @@ use Rattle.shdlc_core.specs.declared.answers.LinkState.TheVariants.{Down, Waitin
 use Rattle.shdlc_core.specs.Machine.{EndState, Fragment, taken, take_answer, ticked, tick_answer, stopped, reset_with, received, ahead, acknowledged, place_of}
 use Rattle.shdlc_core.specs.Machine.{runs_timer}
 use Rattle.swp_base.specs.declared.control_frames.Kind.{Kind}
-use Rattle.swp_base.specs.declared.control_frames.Kind.TheVariants.{Rr, Rej, Rnr, Srej}
 use Rattle.swp_base.specs.declared.control_frames.Control.{Control}
 use Rattle.swp_base.specs.declared.control_frames.Control.TheVariants.{I, S, Rset, Ua, Act as ActFrame, Clt}
 use Rattle.swp_base.specs.declared.control_frames.Act.{Act}
@@ -57,25 +56,12 @@ taken_few e c = go e.phase refl c
         by (Some x) q = let i = received_few (acknowledged e x) ns info in rw (p, q) (rw p at i)
 
     up_S : (k : Kind) (nr : ℕ) → e.phase ≡ Up → OneMore e.due (taken e (S k nr))
-    up_S k nr p = by k (place_of e.session nr) refl
-      where
-        by : (k : Kind) (o : Option ℕ) → place_of e.session nr ≡ o → OneMore e.due (taken e (S k nr))
-        by Srej o q = same (S Srej nr) (rw p refl)
-        by Rr None q = same (S Rr nr) (rw (p, q) refl)
-        by Rej None q = same (S Rej nr) (rw (p, q) refl)
-        by Rnr None q = same (S Rnr nr) (rw (p, q) refl)
-        by Rr (Some x) q = rw (p, q) (omega arith)
-        by Rej (Some x) q = rw (p, q) (omega arith)
-        by Rnr (Some x) q = rw (p, q) (omega arith)
+    up_S k nr p = grind arith
 
     go : (p : LinkState) → e.phase ≡ p → (c : Control) → OneMore e.due (taken e c)
     go Up p (I ns nr info) = up_I ns nr info p
     go Up p (S kind nr) = up_S kind nr p
-    go Up p (Rset w caps) = zero_or (w == 0) refl
-      where
-        zero_or : (b : Bool) → (w == 0) ≡ b → OneMore e.due (taken e (Rset w caps))
-        zero_or true q = same (Rset w caps) (rw (p, q) refl)
-        zero_or false q = rw (p, q) (omega arith)
+    go Up p (Rset w caps) = grind arith
     go Up p Ua = same Ua (rw p refl)
     go Up p (ActFrame x y) = same (ActFrame x y) (rw p refl)
     go Up p Clt = same Clt (rw p refl)
@@ -162,8 +148,7 @@ activated_few e event =
     omega (arith, sent, down)
 
 either_few : (b : Bool) (e f : Machine) (n : ℕ) → due_count e ≤ n → due_count f ≤ n → due_count (cond b e f) ≤ n
-either_few true e f n one other = one
-either_few false e f n one other = other
+either_few b e f n one other = grind arith
 
 heard_few : (e : Machine) (c : Control) → due_count (heard e c) ≤ due_count e + 1
 heard_few e c =

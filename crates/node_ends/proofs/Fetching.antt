@@ -1,18 +1,18 @@
 -- A frame comes to an end, and the message that it brings is fetched.
-use Rattle.std.proofs.Common.{◌≡◌, ℕ, ◌≤◌, true, false, List, [], ◌∷◌, ◌++◌, length, drop, refl, sym, ap, ◌∙◌, subst}
-use Rattle.std.specs.Prelude.{Option, Some, None, option_map, option_to_list, Result, Ok, Err, ◌-◌, is_some}
+use Rattle.std.proofs.Common.{◌≡◌, ℕ, ◌≤◌, true, false, List, [], ◌++◌, length, drop, refl, sym, ap, ◌∙◌, subst, arith}
+use Rattle.std.specs.Prelude.{Option, Some, None, option_map, option_to_list, Result, Ok, Err, is_some}
 use Rattle.std.specs.List.{AllByRecursion}
 use Rattle.block_pool.specs.declared.chain.Chain.{Chain}
 use Rattle.block_pool.specs.Pool.{PoolState, chain_bytes}
 use Rattle.hcp_chain.specs.declared.joiner.Open.{Open}
 use Rattle.hcp_chain.specs.Holding.{IsOwnOpen, messages_in as messages_of}
 use Rattle.hcp_chain.proofs.HoldingLemmas.{all_front}
-use Rattle.link_laws.specs.machine.Machine.{LinkEnd as Machine, Message, oldest, got_by, turn, lpdu_input, report, whole_acked}
+use Rattle.link_laws.specs.machine.Machine.{LinkEnd as Machine, Message, oldest, got_by, turn, lpdu_input, report}
 use Rattle.link_laws.specs.machine.Machine.Turn.{FetchMessage}
 use Rattle.link_laws.specs.machine.Machine.LinkInput.{Take}
 use Rattle.link_end.specs.Reports.{report_told}
 use Rattle.swp_base.specs.declared.control_frames.Control.{Control}
-use Rattle.swp_base.specs.declared.control_frames.Control.TheVariants.{I, S, Rset, Ua, Act as ActFrame, Clt}
+use Rattle.swp_base.specs.declared.control_frames.Control.TheVariants.{S}
 use Rattle.swp_lpdu.specs.Controls.{control_of}
 use Rattle.swp_lpdu.specs.declared.LpduFault.{LpduFault}
 use Rattle.std.proofs.lemmas.Bool.{true≢false}
@@ -23,20 +23,18 @@ use Rattle.link_end.specs.Ends.{EndStandsFor, Accounts, MayTake}
 use Rattle.link_end.proofs.AccountLemmas.{rests, rests_may_take, may_take_held}
 use Rattle.node_ends.specs.declared.seat.Waiting.{Waiting}
 use Rattle.node_ends.specs.Holding.{messages_waiting, chain_of, without_got, as_waiting, HoldsEnd, Moves, WaitsHeld}
-use Rattle.node_ends.proofs.Apart.{is_outside, took_apart}
+use Rattle.node_ends.proofs.Apart.{is_outside}
 use Rattle.node_ends.proofs.Quiet.{held_gets_none}
 
 -- at most one message came
 one_in : (pool : PoolState) (g : Option Got) → drop 1 (messages_of pool (got_chains g)) ≡ []
-one_in pool None = refl
-one_in pool (Some g) = refl
+one_in pool g = grind arith
 
 one_came : (pool : PoolState) (k : End) (m : Machine) → EndStandsFor k pool m → drop 1 m.got ≡ []
 one_came pool k m h = ap (drop 1) (sym h.halfway.got) ∙ one_in pool k.inbox.got
 
 is_oldest : (l : List Message) (o : Option Message) → drop 1 l ≡ [] → o ≡ oldest l → l ≡ option_to_list o
-is_oldest [] o one is = ap (λ x. option_to_list x) (sym is)
-is_oldest (x ∷ l) o one is = ap (λ t. x ∷ t) one ∙ ap (λ x. option_to_list x) (sym is)
+is_oldest l o one is = grind arith
 
 -- it has no more bytes than a message has
 short_in : (pool : PoolState) (owner : ℕ) (opens : List Open) (g : Option Got) → AllByRecursion (IsOwnOpen pool owner) (opens ++ got_chains g)
@@ -47,12 +45,10 @@ short_in pool owner opens (Some g) all =
 
 waits_of : (pool : PoolState) (o : Option (ℕ × Chain))
     → option_to_list (option_map (λ (x : ℕ × Chain). (x.0, chain_bytes pool x.1)) o) ≡ messages_waiting pool (option_map as_waiting o)
-waits_of pool None = refl
-waits_of pool (Some x) = refl
+waits_of pool o = grind arith
 
 chain_is : (o : Option (ℕ × Chain)) → option_map (λ (x : ℕ × Chain). x.1) o ≡ chain_of (option_map as_waiting o)
-chain_is None = refl
-chain_is (Some x) = refl
+chain_is o = grind arith
 
 -- the message that came was fetched, if one did, and waits from now on
 pub record Fetches (pool : PoolState) (before after : End) (m : Machine) (o : Option (ℕ × Chain)) : Type 0 where
@@ -88,8 +84,7 @@ none_got pool k m h = ap (λ g. record m { got = g }) (sym h.waits)
 
 -- where none is told, none came
 pub none_came : (l : List Message) → is_some (oldest l) ≡ false → l ≡ []
-none_came [] e = refl
-none_came (x ∷ l) e = cc
+none_came l e = grind arith
 
 -- where one came, none waited: an end at which one waits is held
 pub none_waited : {pool : PoolState} (k : End) (waiting : Option Waiting) (m : Machine) (lpdu : List ℕ) → HoldsEnd pool k waiting m
@@ -102,18 +97,7 @@ none_waited k (Some w) m lpdu h held came =
 -- ## What is told
 
 told_apart : (m : Machine) (c : Control) → report_told (report (without_got m) (Take c)) ≡ report_told (report m (Take c))
-told_apart m (I ns nr info) =
-    ap (λ (x : Machine). record (report_told (report m (Take (I ns nr info)))) { acked = whole_acked x - whole_acked m }) (took_apart m [] (I ns nr info))
-told_apart m (S kind nr) =
-    ap (λ (x : Machine). record (report_told (report m (Take (S kind nr)))) { acked = whole_acked x - whole_acked m }) (took_apart m [] (S kind nr))
-told_apart m (Rset window caps) =
-    ap (λ (x : Machine). record (report_told (report m (Take (Rset window caps)))) { acked = whole_acked x - whole_acked m })
-    (took_apart m [] (Rset window caps))
-told_apart m Ua = ap (λ (x : Machine). record (report_told (report m (Take Ua))) { acked = whole_acked x - whole_acked m }) (took_apart m [] Ua)
-told_apart m (ActFrame act again) =
-    ap (λ (x : Machine). record (report_told (report m (Take (ActFrame act again)))) { acked = whole_acked x - whole_acked m })
-    (took_apart m [] (ActFrame act again))
-told_apart m Clt = ap (λ (x : Machine). record (report_told (report m (Take Clt))) { acked = whole_acked x - whole_acked m }) (took_apart m [] Clt)
+told_apart m c = grind arith
 
 pub lpdu_told_apart : (m : Machine) (lpdu : List ℕ) → report_told (report (without_got m) (lpdu_input lpdu)) ≡ report_told (report m (lpdu_input lpdu))
 lpdu_told_apart m lpdu = by (control_of lpdu) refl
@@ -136,5 +120,4 @@ pub moves_on : (old new : PoolState) (before between after : End) → Moves old 
 moves_on old new before between after m same = record { sender = same.0 ∙ m.sender; receiver = same.1 ∙ m.receiver; beside = m.beside }
 
 pub none_waits : (o : Option Waiting) → is_some o ≡ false → o ≡ None
-none_waits None e = refl
-none_waits (Some w) e = cc
+none_waits o e = grind arith

@@ -1,9 +1,8 @@
 -- What a node looks at of its ends before it decides is what is kept of them.
-use Rattle.std.proofs.Common.{◌≡◌, ◌≢◌, ℕ, zero, suc, ◌+◌, ◌*◌, ◌/◌, ◌%◌, ◌≤◌, Bool, true, false, cond, eqb, List, [], ◌∷◌, map, refl, sym, ap, ap₂, ◌∙◌, arith}
-use Rattle.std.specs.Prelude.{Option, Some, ◌==◌}
+use Rattle.std.proofs.Common.{◌≡◌, ◌≢◌, ℕ, zero, suc, ◌+◌, ◌*◌, ◌/◌, ◌%◌, ◌≤◌, Bool, true, cond, eqb, List, [], ◌∷◌, map, refl, sym, ap, ap₂, ◌∙◌, arith}
+use Rattle.std.specs.Prelude.{Some, ◌==◌}
 use Rattle.std.specs.List.{AllByRecursion}
-use Rattle.std.specs.Option.{option_map_or}
-use Rattle.std.proofs.lemmas.Bool.{eqb-true, eq-eqb}
+use Rattle.std.proofs.lemmas.Bool.{eq-eqb}
 use Rattle.shdlc_core.specs.declared.answers.LinkState.TheVariants.{Down, Up}
 use Rattle.link_laws.specs.sessions.Sessions.{is_up}
 use Rattle.gate_admin.specs.View.{has}
@@ -21,21 +20,12 @@ use Rattle.node_ends.proofs.Changing.{host_is}
 -- ## Masks
 
 pub bit_is : (b : Bool) (n : ℕ) → n ≡ cond b 1 0 → eqb n 1 ≡ b
-bit_is true n q = ap (λ m. eqb m 1) q
-bit_is false n q = ap (λ m. eqb m 1) q
+bit_is b n q = grind arith
 
 -- a mask with these bits, each at most 1
 pub bits : (m a b c d e f g : ℕ) → m ≡ 2 * a + 4 * b + 8 * c + 16 * d + 32 * e + 64 * f + 128 * g → a ≤ 1 → b ≤ 1 → c ≤ 1 → d ≤ 1 → e ≤ 1 → f ≤ 1 → g ≤ 1
     → (m / 2 % 2 ≡ a) × (m / 4 % 2 ≡ b) × (m / 8 % 2 ≡ c) × (m / 16 % 2 ≡ d) × (m / 32 % 2 ≡ e) × (m / 64 % 2 ≡ f) × (m / 128 % 2 ≡ g)
-bits m a b c d e f g is p q r s t u v = (
-  omega (arith, is, p, q, r, s, t, u, v),
-  omega (arith, is, p, q, r, s, t, u, v),
-  omega (arith, is, p, q, r, s, t, u, v),
-  omega (arith, is, p, q, r, s, t, u, v),
-  omega (arith, is, p, q, r, s, t, u, v),
-  omega (arith, is, p, q, r, s, t, u, v),
-  omega (arith, is, p, q, r, s, t, u, v),
-)
+bits m a b c d e f g is p q r s t u v = grind arith
 
 pub has_bit : (test : ℕ → Bool) (m : ℕ) (h : ℕ) → 1 ≤ h → h ≤ 7 → eqb (m / 2 % 2) 1 ≡ test 1 → eqb (m / 4 % 2) 1 ≡ test 2 → eqb (m / 8 % 2) 1 ≡ test 3
     → eqb (m / 16 % 2) 1 ≡ test 4 → eqb (m / 32 % 2) 1 ≡ test 5 → eqb (m / 64 % 2) 1 ≡ test 6 → eqb (m / 128 % 2) 1 ≡ test 7 → has m h ≡ test h
@@ -64,8 +54,7 @@ found_behind pool s p all (t ∷ seats) (q ∷ ports) same differ g found =
     (by (p.desk.host == q.desk.host) refl, found_behind pool s p all seats ports same differ.1 g.1 found.1)
   where
     by : (b : Bool) → (p.desk.host == q.desk.host) ≡ b → IsFound (p ∷ all) q
-    by true e = absurd (differ.0 (host_is g.0 ∙ (sym (eqb-true p.desk.host q.desk.host e) ∙ sym same)))
-    by false e = rw e found.0
+    by b e = grind arith
 
 pub all_found : (pool : PoolState) (seats : List Seat) (ports : List Port) → HaveOwnHosts seats → SeatsStandFor pool seats ports
     → AllByRecursion (IsFound ports) ports
@@ -79,8 +68,7 @@ all_found pool (s ∷ seats) (p ∷ ports) own g =
 -- ## What is seen
 
 up_is : (b : Bool) → is_up (cond b Up Down) ≡ b
-up_is true = refl
-up_is false = refl
+up_is b = grind arith
 
 each_seen : (pool : PoolState) (up : ℕ) (all : List Port) (seats : List Seat) (ports : List Port)
     → ((h : ℕ) → 1 ≤ h → h ≤ 7 → has up h ≡ has_link all h) → AreOfHosts ports → AllByRecursion (IsFound all) ports → SeatsStandFor pool seats ports
@@ -89,12 +77,9 @@ each_seen pool up all [] [] mask hosts found g = refl
 each_seen pool up all [] (p ∷ ports) mask hosts found g = absurd g
 each_seen pool up all (s ∷ seats) [] mask hosts found g = absurd g
 each_seen pool up all (s ∷ seats) (p ∷ ports) mask hosts found g =
-    let linked : has_link all p.desk.host ≡ is_up p.side.shdlc.phase =
-    ap (λ (o : Option Port). option_map_or (λ (q : Port). is_up q.side.shdlc.phase) o false) found.0 in
-    let same : has up s.desk.host ≡ is_up p.side.shdlc.phase =
-    ap (has up) (host_is g.0) ∙ (mask p.desk.host hosts.0.0 hosts.0.1 ∙ linked) in
-    let one : seen_at p ≡ (desk_shown s.desk, is_up (cond (has up s.desk.host) Up Down)) =
-    ap₂ (λ (d : DeskOf) (b : Bool). (d, b)) (sym g.0.desk) (sym (up_is (has up s.desk.host) ∙ same)) in
+    let linked : has_link all p.desk.host ≡ is_up p.side.shdlc.phase = grind arith in
+    let same : has up s.desk.host ≡ is_up p.side.shdlc.phase = grind arith in
+    let one : seen_at p ≡ (desk_shown s.desk, is_up (cond (has up s.desk.host) Up Down)) = grind arith in
     ap₂ (λ (x : DeskOf × Bool) xs. x ∷ xs) one (each_seen pool up all seats ports mask hosts.1 found.1 g.1)
 
 pub are_seen : (pool : PoolState) (up : ℕ) (desks : List Desk) (seats : List Seat) (ports : List Port) → desks ≡ map (λ (s : Seat). s.desk) seats

@@ -1,11 +1,11 @@
 -- The chain of a message that waits at one end is given to an end.
-use Rattle.std.proofs.Common.{◌≡◌, true, false, List, [], drop, length, ◌≤◌, refl, sym, ap, ◌∙◌, subst}
+use Rattle.std.proofs.Common.{◌≡◌, false, List, [], drop, length, ◌≤◌, sym, ap, ◌∙◌, subst, arith}
 use Rattle.std.specs.Prelude.{Option, Some, None, is_none}
 use Rattle.std.specs.List.{AllByRecursion}
 use Rattle.block_pool.specs.declared.chain.Chain.{Chain}
 use Rattle.block_pool.specs.Pool.{PoolState, IsLive, chain_bytes, Gives, KeepsOthers}
 use Rattle.block_pool.proofs.HoldingLemmas.{apart_by_owner, lies_apart_by_owner}
-use Rattle.link_laws.specs.machine.Machine.{LinkEnd as Machine, Message, Refused, turn, give_refusal}
+use Rattle.link_laws.specs.machine.Machine.{LinkEnd as Machine, Message, turn, give_refusal}
 use Rattle.link_laws.specs.machine.Machine.Turn.{Give, FetchMessage}
 use Rattle.link_messages.specs.declared.outbox.Queued.{Queued}
 use Rattle.link_messages.specs.declared.inbox.Inbox.{Inbox}
@@ -34,23 +34,12 @@ pub record Refuses (old new : PoolState) (to after : End) (x : Message) (chain :
 
 -- an end that refuses a message is as it was
 pub refused_still : (m : Machine) (x : Message) → false ≡ is_none (give_refusal m x) → turn m (Give x) ≡ m
-refused_still m x refuses = by (give_refusal m x) refl
-  where
-    by : (o : Option Refused) → give_refusal m x ≡ o → turn m (Give x) ≡ m
-    by None q = absurd (let z : false ≡ true = refuses ∙ ap (λ o. is_none o) q in cc)
-    by (Some why) q = rw q refl
+refused_still m x refuses = grind arith
 
 -- nothing waits any more at an end
 none_waits : {old new : PoolState} {k : End} {w : Waiting} {m : Machine} → HoldsEnd old k (Some w) m → EndStandsFor k new (without_got m)
     → Accounts k new None → HoldsEnd new k None (turn m FetchMessage)
-none_waits {old} {new} {k} {w} {m} h stands accounts =
-    let none : drop 1 m.got ≡ [] = ap (drop 1) h.waits in
-    record {
-      stands = stands;
-      accounts = accounts;
-      waits = none;
-      short = (let P : List Message → Type 0 = λ l. AllByRecursion (λ (y : Message). length y.1 ≤ 4096) l in subst P (sym none) tt);
-    }
+none_waits h stands accounts = grind arith
 
 -- ## Elsewhere
 

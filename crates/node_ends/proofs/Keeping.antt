@@ -1,11 +1,11 @@
 -- What comes to an end from outside: what is kept of the end stands for its state behind that.
-use Rattle.std.proofs.Common.{◌≡◌, ℕ, true, List, [], refl, sym, ap, ◌∙◌, subst}
+use Rattle.std.proofs.Common.{◌≡◌, ℕ, true, List, [], refl, sym, ap, ◌∙◌, subst, arith}
 use Rattle.std.specs.Prelude.{Some, None, Option, option_map, is_some, Result, Ok, Err, OnOk}
 use Rattle.swp_base.specs.declared.control_frames.Control.{Control}
 use Rattle.swp_lpdu.specs.declared.LpduFault.{LpduFault}
 use Rattle.swp_lpdu.specs.Controls.{control_of}
 use Rattle.block_pool.specs.Pool.{PoolState}
-use Rattle.link_laws.specs.machine.Machine.{LinkEnd as Machine, LinkInput, Refused, after_input, got_by, lpdu_input, report, reset_refusal}
+use Rattle.link_laws.specs.machine.Machine.{LinkEnd as Machine, LinkInput, after_input, got_by, lpdu_input, report, reset_refusal}
 use Rattle.link_laws.specs.machine.Machine.LinkInput.{Reset}
 use Rattle.link_end.specs.declared.«end».End.{End}
 use Rattle.link_end.specs.Ends.{EndLeavesOthers, EndStandsFor}
@@ -26,7 +26,7 @@ use Rattle.node_ends.proofs.Apart.{is_outside}
 use Rattle.node_ends.proofs.Blocks.{outside_aside}
 use Rattle.node_ends.proofs.Coming.{reset_ends, still_holds}
 use Rattle.node_ends.proofs.Moving.{call_moves}
-use Rattle.node_ends.proofs.Counting.{acked_so, outside_acked, reached_outside, reset_so_far, reset_acked}
+use Rattle.node_ends.proofs.Counting.{acked_so, outside_acked, reached_outside}
 
 -- a call on an end that took an input
 pub record Takes (old new : PoolState) (s t : Seat) (i : LinkInput) : Type 0 where
@@ -85,8 +85,7 @@ refuses {window = window} {why} k tells = record {
     late = ap (λ (x : Seat). x.late) k.rest ∙ g.late;
     ended = ap ends_by (tells p.side g.holds) ∙ reset_ends p.side window;
     reached = reached_outside p.side (Reset window) k.outside g.reached;
-    acked = reset_so_far (Err why) (reset_told p.side window) _ (ap (λ (x : Seat). x.acked) k.rest ∙ g.acked) (tells p.side g.holds)
-        (reset_acked p.side window g.reached);
+    acked = grind arith;
     aside = ap (λ (x : Seat). x.aside) k.rest ∙ (g.aside ∙ sym (outside_aside p.side (Reset window) k.outside));
     sound = subst IsSoundDesk (sym (ap (λ (x : Seat). x.desk) k.rest)) g.sound;
   };
@@ -94,32 +93,20 @@ refuses {window = window} {why} k tells = record {
 
 -- one that is done isn't refused
 pub not_refused : (m : Machine) (window : Option ℕ) (r : LinkReport) → Ok r ≡ reset_told m window → option_map reset_refused (reset_refusal m) ≡ None
-not_refused m window r is = by (reset_refusal m) refl
-  where
-    by : (o : Option Refused) → reset_refusal m ≡ o → option_map reset_refused (reset_refusal m) ≡ None
-    by None q = rw q refl
-    by (Some why) q = absurd (let z : Ok r ≡ Err (reset_refused why) = rw q at is in cc)
+not_refused m window r is = grind arith
 
 -- one that is refused is refused for this
 pub why_refused : (m : Machine) (window : Option ℕ) (why : ResetRefused) → Err why ≡ reset_told m window
     → option_map reset_refused (reset_refusal m) ≡ Some why
-why_refused m window why is = by (reset_refusal m) refl
-  where
-    by : (o : Option Refused) → reset_refusal m ≡ o → option_map reset_refused (reset_refusal m) ≡ Some why
-    by None q = absurd (let z = rw q at is in cc)
-    by (Some x) q = rw q (let z : Err why ≡ Err (reset_refused x) = rw q at is in cc)
+why_refused m window why is = grind arith
 
 -- nothing is refused where there is no end
 pub none_refused : (what : ToEnd) → refusal_at what None ≡ None
-none_refused (comes.Frame read) = refl
-none_refused (comes.Reset window) = refl
-none_refused (comes.Start value) = refl
-none_refused comes.Stop = refl
+none_refused what = grind arith
 
 -- what follows where something was answered
 pub where_ok : {X Y P Q : Type 0} (r : Result X Y) → (P → Q) → OnOk r P → OnOk r Q
-where_ok (Ok x) so p = so p
-where_ok (Err why) so p = p
+where_ok r so p = grind arith
 
 -- a call on an end that takes what comes there
 pub frame_is : (read : Result Control LpduFault) (lpdu : List ℕ) → read ≡ control_of lpdu → lpdu_input lpdu ≡ frame_said read

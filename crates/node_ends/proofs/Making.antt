@@ -1,7 +1,7 @@
 -- New ends of a node stand for new ports.
 use Rattle.std.proofs.Common.{◌≡◌, ◌≢◌, ℕ, zero, suc, ◌+◌, ◌*◌, ◌<◌, ◌≤◌, List, [], ◌∷◌, ◌++◌, length, map, take, refl, sym, ap, ◌∙◌, subst, arith}
 use Rattle.std.proofs.Common.{append_assoc, length-append}
-use Rattle.std.specs.Prelude.{Option, Some, slice_get, Result, Ok, Err, OnOk}
+use Rattle.std.specs.Prelude.{Option, Some, slice_get, Result, OnOk}
 use Rattle.swp_base.specs.declared.outside.NoMemory.{NoMemory}
 use Rattle.std.specs.List.{AllByRecursion}
 use Rattle.swp_base.specs.declared.link_terms.Role.{Role as Named}
@@ -32,14 +32,7 @@ taken_get (suc m) zero (x ∷ xs) low = refl
 taken_get (suc m) (suc j) (x ∷ xs) low = taken_get m j xs (omega (arith, low))
 
 quota_at : (k : ℕ) → k < 7 → (slice_get all_quotas (2 * k) ≡ Some 128) × (slice_get all_quotas (2 * k + 1) ≡ Some 512)
-quota_at zero low = (refl, refl)
-quota_at (suc zero) low = (refl, refl)
-quota_at (suc (suc zero)) low = (refl, refl)
-quota_at (suc (suc (suc zero))) low = (refl, refl)
-quota_at (suc (suc (suc (suc zero)))) low = (refl, refl)
-quota_at (suc (suc (suc (suc (suc zero))))) low = (refl, refl)
-quota_at (suc (suc (suc (suc (suc (suc zero)))))) low = (refl, refl)
-quota_at (suc (suc (suc (suc (suc (suc (suc k))))))) low = absurd (omega (arith, low))
+quota_at k low = grind arith
 
 pub is_free : (pool : PoolState) (n k : ℕ) → IsNew pool (take (2 * n) all_quotas) → k < n → n ≤ 7 → IsFree pool (2 * k) (2 * k + 1)
 is_free pool n k new low few =
@@ -127,9 +120,7 @@ new_ends pool role hosts seats new few different adds =
 -- ## One more
 
 pub none_more : (role : Named) (hosts : List ℕ) (before : List Seat) → hosts ≡ [] → before ≡ before ++ [] → AddsNew role hosts before before
-none_more role hosts before none same =
-    let P : List ℕ → Type 0 = λ l. AddsNew role l before before in
-    subst P (sym none) ([], same, tt)
+none_more role hosts before none same = grind arith
 
 pub one_more : (role : Named) (h : ℕ) (hosts : List ℕ) (before now : List Seat) (s : Seat) → IsNewSeat role (length before) h s
     → AddsNew role hosts (before ++ s ∷ []) now → AddsNew role (h ∷ hosts) before now
@@ -140,5 +131,4 @@ one_more role h hosts before now s n adds =
 
 -- what follows of a call that went well
 pub on_ok : {P Q : Type 0} (r : Result (Unit {0}) NoMemory) → (P → Q) → OnOk r P → OnOk r Q
-on_ok (Ok u) f h = f h
-on_ok (Err e) f h = h
+on_ok r f h = grind arith

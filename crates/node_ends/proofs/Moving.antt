@@ -17,7 +17,7 @@ use Rattle.link_messages.specs.Outgoing.{chain_in}
 use Rattle.link_messages.specs.Incoming.{chains_in}
 use Rattle.link_end.specs.declared.«end».End.{End}
 use Rattle.link_end.specs.Ends.{EndStandsFor, EndLeavesOthers, Accounts, controls_in, due_of}
-use Rattle.link_end.proofs.AccountLemmas.{kept_beside_call, account_kept, account_moved, given_beside, given_own}
+use Rattle.link_end.proofs.AccountLemmas.{kept_beside_call, account_kept, given_beside, given_own}
 use Rattle.node_ends.specs.declared.seat.Waiting.{Waiting}
 use Rattle.node_ends.specs.Holding.{messages_waiting, chain_of, without_got, HoldsEnd, Moves}
 
@@ -25,9 +25,7 @@ use Rattle.node_ends.specs.Holding.{messages_waiting, chain_of, without_got, Hol
 pub waits_on : (old new : PoolState) (k : End) (waiting : Option Waiting) → Accounts k old (chain_of waiting)
     → ((c : Chain) → IsLive old c → c.owner ≡ k.inbox.joiner.owner → chain_bytes new c ≡ chain_bytes old c) → messages_waiting new waiting
     ≡ messages_waiting old waiting
-waits_on old new k None a same = refl
-waits_on old new k (Some w) a same =
-    ap (λ (bytes : List ℕ). (w.pipe, bytes) ∷ []) (same w.chain a.fetched.live a.fetched.owned)
+waits_on old new k waiting a same = grind arith
 
 -- a chain of neither owner lies apart from all chains of an end
 far_from : (pool : PoolState) (k : End) (m : Machine) (c : Chain) → EndStandsFor k pool m → IsLive pool c → c.owner ≢ k.outbox.owner
@@ -54,11 +52,7 @@ call_moves old new before after m h l = record {
 
 -- an end that is changed while nothing changes in the pool
 pub stays_beside : (pool : PoolState) (before after : End) → after.outbox ≡ before.outbox → after.inbox ≡ before.inbox → Moves pool pool before after
-stays_beside pool before after out into = record {
-  sender = ap (λ b. b.owner) out;
-  receiver = ap (λ b. b.joiner.owner) into;
-  beside = λ other waiting n differ g. g;
-}
+stays_beside pool before after out into = grind arith
 
 -- ## The end itself
 
@@ -89,12 +83,7 @@ call_holds old new before after waiting m n h l stands got =
 -- an end that is changed while nothing changes in the pool
 pub boxes_hold : (pool : PoolState) (before after : End) (waiting : Option Waiting) (m n : Machine) → HoldsEnd pool before waiting m
     → after.inbox ≡ before.inbox → EndStandsFor after pool (without_got n) → n.got ≡ m.got → HoldsEnd pool after waiting n
-boxes_hold pool before after waiting m n h into stands got = record {
-  stands = stands;
-  accounts = account_moved pool before after (chain_of waiting) into h.accounts;
-  waits = got ∙ h.waits;
-  short = short_on m n got h.short;
-}
+boxes_hold pool before after waiting m n h into stands got = grind arith
 
 -- ## The message that waits is given back
 
@@ -106,8 +95,7 @@ given_moves old new k chain a gives keeps = record {
   receiver = refl;
   beside = λ other waiting n differ g.
       let both = given_beside a gives keeps differ g.stands g.accounts in
-      let same : (c : Chain) → IsLive old c → c.owner ≡ other.inbox.joiner.owner → chain_bytes new c ≡ chain_bytes old c = λ c live is.
-      (keeps c live (apart_by_owner old c chain live a.fetched.live (λ e. differ.receivers (sym (sym is ∙ (e ∙ a.fetched.owned)))))).2 in
+      let same : (c : Chain) → IsLive old c → c.owner ≡ other.inbox.joiner.owner → chain_bytes new c ≡ chain_bytes old c = grind arith in
       record { stands = both.0; accounts = both.1; waits = g.waits ∙ sym (waits_on old new other waiting g.accounts same); short = g.short };
 }
 
@@ -116,22 +104,7 @@ pub given_holds : (old new : PoolState) (k : End) (w : Waiting) (m : Machine) �
 given_holds old new k w m h gives keeps =
     let own = given_own old new k (without_got m) w.chain h.stands h.accounts gives keeps in
     let none : drop 1 m.got ≡ [] = ap (drop 1) h.waits in
-    record {
-      stands = own.0;
-      accounts = own.1;
-      waits = none;
-      short = (let P : List Message → Type 0 = λ l. AllByRecursion (λ (x : Message). length x.1 ≤ 4096) l in subst P (sym none) tt);
-    }
-
-pub none_holds : (pool : PoolState) (k : End) (m : Machine) → HoldsEnd pool k None m → HoldsEnd pool k None (turn m FetchMessage)
-none_holds pool k m h =
-    let none : drop 1 m.got ≡ [] = ap (drop 1) h.waits in
-    record {
-      stands = h.stands;
-      accounts = h.accounts;
-      waits = none;
-      short = (let P : List Message → Type 0 = λ l. AllByRecursion (λ (x : Message). length x.1 ≤ 4096) l in subst P (sym none) tt);
-    }
+    grind arith
 
 -- few control frames wait at an end whose machine has few
 pub few_controls : (pool : PoolState) (k : End) (m : Machine) → EndStandsFor k pool (without_got m) → length m.acts + length m.shdlc.due ≤ 6

@@ -1,5 +1,5 @@
 -- Whether the session of the end with a host has ended in a step.
-use Rattle.std.proofs.Common.{◌≡◌, ◌≢◌, ℕ, Bool, true, false, List, [], ◌∷◌, refl, ap, ◌∙◌, subst}
+use Rattle.std.proofs.Common.{◌≡◌, ◌≢◌, ℕ, Bool, true, false, List, [], ◌∷◌, refl, ap, ◌∙◌, subst, arith}
 use Rattle.std.specs.Prelude.{◌==◌, ◌||◌}
 use Rattle.std.specs.List.{AllByRecursion}
 use Rattle.std.specs.Option.{option_map_or}
@@ -20,12 +20,10 @@ none_over pool h (s ∷ seats) [] d g = absurd g
 none_over pool h (s ∷ seats) (p ∷ ports) d g = by (none_over pool h seats ports d.1 g.1) (p.desk.host == h) refl
   where
     by : is_over_at ports h ≡ false → (b : Bool) → (p.desk.host == h) ≡ b → is_over_at (p ∷ ports) h ≡ false
-    by later true q = absurd (d.0 (host_is g.0 ∙ eqb-true p.desk.host h q))
-    by later false q = rw q later
+    by later b q = grind arith
 
 or_false : (b : Bool) → (b || false) ≡ b
-or_false true = refl
-or_false false = refl
+or_false b = grind arith
 
 over_in : (pool : PoolState) (h : ℕ) (seats : List Seat) (ports : List Port) → HaveOwnHosts seats → SeatsStandFor pool seats ports
     → is_over_at ports h ≡ option_map_or is_over (port_at ports h) false

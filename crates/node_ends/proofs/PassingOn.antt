@@ -57,20 +57,13 @@ pub record HasPlaceOf (s t : Seat) : Type 0 where
 owners_set : (k i : ℕ) (seats : List Seat) (s t : Seat) → HasPlaceOf s t → slice_get seats i ≡ Some s → HaveOwnersFrom k seats
     → HaveOwnersFrom k (slice_set seats i t)
 owners_set k i [] s t c is o = cc
-owners_set k zero (u ∷ seats) s t c is o =
-    let e : u ≡ s = cc in (
-      c.sender ∙ (ap (λ (x : Seat). x.side.outbox.owner) (sym e) ∙ o.0),
-      c.receiver ∙ (ap (λ (x : Seat). x.side.inbox.joiner.owner) (sym e) ∙ o.1),
-      o.2,
-    )
+owners_set k zero (u ∷ seats) s t c is o = grind arith
 owners_set k (suc i) (u ∷ seats) s t c is o = (o.0, o.1, owners_set (k + 1) i seats s t c is o.2)
 
 all_set : (n i : ℕ) (seats : List Seat) (s t : Seat) → HasPlaceOf s t → slice_get seats i ≡ Some s → AllByRecursion (λ (u : Seat). u.desk.host ≢ n) seats
     → AllByRecursion (λ (u : Seat). u.desk.host ≢ n) (slice_set seats i t)
 all_set n i [] s t c is all = cc
-all_set n zero (u ∷ seats) s t c is all =
-    let e : u ≡ s = cc in
-    (λ q. all.0 (ap (λ (x : Seat). x.desk.host) e ∙ (sym c.host ∙ q)), all.1)
+all_set n zero (u ∷ seats) s t c is all = grind arith
 all_set n (suc i) (u ∷ seats) s t c is all = (all.0, all_set n i seats s t c is all.1)
 
 hosts_set : (i : ℕ) (seats : List Seat) (s t : Seat) → HasPlaceOf s t → slice_get seats i ≡ Some s → HaveOwnHosts seats
@@ -98,11 +91,7 @@ twice h f g keeps (p ∷ ports) = by (p.desk.host == h) refl (twice h f g keeps 
   where
     by : (b : Bool) → (p.desk.host == h) ≡ b → with_port h (λ q. g (f q)) ports ≡ with_port h g (with_port h f ports)
         → with_port h (λ q. g (f q)) (p ∷ ports) ≡ with_port h g (with_port h f (p ∷ ports))
-    by true e later =
-        let is : p.desk.host ≡ h = eqb-true p.desk.host h e in
-        let same : ((f p).desk.host == h) ≡ true = eq-eqb (f p).desk.host h (keeps p ∙ is) in
-        rw (e, same) (ap (λ (l : List Port). g (f p) ∷ l) later)
-    by false e later = rw (e, e) (ap (λ (l : List Port). p ∷ l) later)
+    by b e later = grind arith
 
 -- where there is no end of a host, nothing happens to it
 pub none_there : (h : ℕ) (f : Port → Port) (ports : List Port) → port_at ports h ≡ None → with_port h f ports ≡ ports
@@ -110,8 +99,7 @@ none_there h f [] none = refl
 none_there h f (p ∷ ports) none = by (p.desk.host == h) refl (none_there h f ports)
   where
     by : (b : Bool) → (p.desk.host == h) ≡ b → (port_at ports h ≡ None → with_port h f ports ≡ ports) → with_port h f (p ∷ ports) ≡ p ∷ ports
-    by true e later = absurd (let z : Some p ≡ None = rw e at none in cc)
-    by false e later = let rest : port_at ports h ≡ None = rw e at none in rw e (ap (λ (l : List Port). p ∷ l) (later rest))
+    by b e later = grind arith
 
 -- what happens to another end makes none
 pub none_after : (h k : ℕ) (f : Port → Port) → ((p : Port) → (f p).desk.host ≡ p.desk.host) → (ports : List Port) → port_at ports h ≡ None
@@ -121,12 +109,7 @@ none_after h k f keeps (p ∷ ports) none = by (p.desk.host == h) (p.desk.host =
   where
     by : (a b : Bool) → (p.desk.host == h) ≡ a → (p.desk.host == k) ≡ b → (port_at ports h ≡ None → port_at (with_port k f ports) h ≡ None)
         → port_at (with_port k f (p ∷ ports)) h ≡ None
-    by true b e d later = absurd (let z : Some p ≡ None = rw e at none in cc)
-    by false true e d later =
-        let rest : port_at ports h ≡ None = rw e at none in
-        let same : ((f p).desk.host == h) ≡ false = ap (λ n. n == h) (keeps p) ∙ e in
-        rw (d, same) (later rest)
-    by false false e d later = let rest : port_at ports h ≡ None = rw e at none in rw (d, e) (later rest)
+    by a b e d later = grind arith
 
 -- ## Two ends are changed
 
@@ -212,8 +195,7 @@ module _ {old new : PoolState} {f g : Port → Port} {a b c d : Seat} (x : BothC
           let here : n ≡ i = eqb-true n i q in
           let away : i ≢ j = differ in
           let was : slice_get seats i ≡ Some s = subst (λ k. slice_get seats k ≡ Some s) here is in
-          let now_here : slice_get (slice_set (slice_set seats i c) j d) i ≡ Some t =
-          subst (λ k. slice_get (slice_set (slice_set seats i c) j d) k ≡ Some t) here now in
+          let now_here : slice_get (slice_set (slice_set seats i c) j d) i ≡ Some t = grind arith in
           let old_seat : Some s ≡ Some a = sym was ∙ at in
           let new_seat : Some t ≡ Some c = sym now_here ∙ (get_other (slice_set seats i c) j i d away ∙ get_same seats i a c at) in
           let s_is : s ≡ a = cc in
@@ -228,8 +210,7 @@ module _ {old new : PoolState} {f g : Port → Port} {a b c d : Seat} (x : BothC
       by n s t p is now h false true q r =
           let here : n ≡ j = eqb-true n j r in
           let was : slice_get seats j ≡ Some s = subst (λ k. slice_get seats k ≡ Some s) here is in
-          let now_here : slice_get (slice_set (slice_set seats i c) j d) j ≡ Some t =
-          subst (λ k. slice_get (slice_set (slice_set seats i c) j d) k ≡ Some t) here now in
+          let now_here : slice_get (slice_set (slice_set seats i c) j d) j ≡ Some t = grind arith in
           let old_seat : Some s ≡ Some b = sym was ∙ there in
           let new_seat : Some t ≡ Some d = sym now_here ∙ get_same (slice_set seats i c) j b d next in
           let s_is : s ≡ b = cc in

@@ -1,61 +1,21 @@
 -- An end that isn't ready accepts nothing, so that no message comes to it.
 use Rattle.std.proofs.Common.{◌≡◌, ◌⊎◌, inl, inr, ℕ, Bool, true, false, List, [], length, drop, refl, ap, ◌∙◌, arith}
 use Rattle.std.proofs.lemmas.List.{drop_all}
-use Rattle.std.specs.Prelude.{Option, Some, None, ◌==◌, if◌then◌else◌, Result, Ok, Err}
+use Rattle.std.specs.Prelude.{if◌then◌else◌, Result, Ok, Err}
 use Rattle.swp_base.specs.declared.control_frames.Control.{Control}
 use Rattle.swp_base.specs.declared.control_frames.Control.TheVariants.{I, S, Rset, Ua, Act as ActFrame, Clt}
-use Rattle.swp_base.specs.declared.control_frames.Kind.{Kind}
-use Rattle.swp_base.specs.declared.control_frames.Kind.TheVariants.{Rr, Rej, Rnr, Srej}
 use Rattle.swp_lpdu.specs.Controls.{control_of}
 use Rattle.swp_lpdu.specs.declared.LpduFault.{LpduFault}
 use Rattle.shdlc_core.specs.declared.answers.LinkState.{LinkState}
-use Rattle.shdlc_core.specs.declared.answers.LinkState.TheVariants.{Down, Waiting, Up}
-use Rattle.shdlc_core.specs.Machine.{EndState, Fragment, taken, place_of}
+use Rattle.shdlc_core.specs.Machine.{EndState, Fragment, taken}
 use Rattle.link_laws.specs.machine.Machine.{LinkEnd as Machine, Message, brought, news, messages_got, is_open, is_faulty, got_by, lpdu_input}
 
 -- what an end has accepted after a frame: the same, or nothing, in a new session
 abbrev AcceptsNone : EndState → EndState → Type 0
 AcceptsNone e f = (f.session.acc ≡ e.session.acc) ⊎ (f.session.acc ≡ [])
 
-up_i : (e : EndState) (ns nr : ℕ) (info : Fragment) → e.phase ≡ Up → e.ready ≡ false → (o : Option ℕ) → place_of e.session nr ≡ o
-    → AcceptsNone e (taken e (I ns nr info))
-up_i e ns nr info p r None q = inl (rw (p, q) refl)
-up_i e ns nr info p r (Some x) q = inl (rw (p, q, r) refl)
-
-up_s : (e : EndState) (kind : Kind) (nr : ℕ) → e.phase ≡ Up → (o : Option ℕ) → place_of e.session nr ≡ o → AcceptsNone e (taken e (S kind nr))
-up_s e Rr nr p None q = inl (rw (p, q) refl)
-up_s e Rr nr p (Some x) q = inl (rw (p, q) refl)
-up_s e Rej nr p None q = inl (rw (p, q) refl)
-up_s e Rej nr p (Some x) q = inl (rw (p, q) refl)
-up_s e Rnr nr p None q = inl (rw (p, q) refl)
-up_s e Rnr nr p (Some x) q = inl (rw (p, q) refl)
-up_s e Srej nr p o q = inl (rw p refl)
-
-any_rset : (e : EndState) (window caps : ℕ) (p : LinkState) → e.phase ≡ p → (b : Bool) → (window == 0) ≡ b → AcceptsNone e (taken e (Rset window caps))
-any_rset e window caps Up p true q = inl (rw (p, q) refl)
-any_rset e window caps Waiting p true q = inl (rw (p, q) refl)
-any_rset e window caps Down p true q = inl (rw (p, q) refl)
-any_rset e window caps Up p false q = inr (rw (p, q) refl)
-any_rset e window caps Waiting p false q = inl (rw (p, q) refl)
-any_rset e window caps Down p false q = inr (rw (p, q) refl)
-
 quiet_in : (e : EndState) (c : Control) → e.ready ≡ false → (p : LinkState) → e.phase ≡ p → AcceptsNone e (taken e c)
-quiet_in e (I ns nr info) r Up p = up_i e ns nr info p r (place_of e.session nr) refl
-quiet_in e (I ns nr info) r Waiting p = inl (rw p refl)
-quiet_in e (I ns nr info) r Down p = inl (rw p refl)
-quiet_in e (S kind nr) r Up p = up_s e kind nr p (place_of e.session nr) refl
-quiet_in e (S kind nr) r Waiting p = inl (rw p refl)
-quiet_in e (S kind nr) r Down p = inl (rw p refl)
-quiet_in e (Rset window caps) r q p = any_rset e window caps q p (window == 0) refl
-quiet_in e Ua r Up p = inl (rw p refl)
-quiet_in e Ua r Waiting p = inr (rw p refl)
-quiet_in e Ua r Down p = inl (rw p refl)
-quiet_in e (ActFrame act again) r Up p = inl (rw p refl)
-quiet_in e (ActFrame act again) r Waiting p = inl (rw p refl)
-quiet_in e (ActFrame act again) r Down p = inl (rw p refl)
-quiet_in e Clt r Up p = inl (rw p refl)
-quiet_in e Clt r Waiting p = inl (rw p refl)
-quiet_in e Clt r Down p = inl (rw p refl)
+quiet_in e c r p a = grind arith
 
 drop_nil : (n : ℕ) → drop {A = Message} n [] ≡ []
 drop_nil n = drop_all n [] (omega arith)

@@ -16,8 +16,7 @@ use Rattle.node_ends.specs.Ends.{SeatStandsFor, SeatsStandFor, message_read, res
 
 pub read_is : (got : List Message) (o : Option (ℕ × ℕ)) (buffer : List ℕ) → IfSome o (λ x. got ≡ (x.0, take x.1 buffer) ∷ []) → IfNone o (got ≡ [])
     → got ≡ message_read o buffer
-read_is got None buffer some none = none
-read_is got (Some x) buffer some none = some
+read_is got o buffer some none = grind arith
 
 -- what is kept at a place
 pub desk_is : (pool : PoolState) (seats : List Seat) (ports : List Port) (i : ℕ) → SeatsStandFor pool seats ports
@@ -40,8 +39,7 @@ flag_is pool f g same (s ∷ seats) (p ∷ ports) (suc i) each = flag_is pool f 
 
 -- a notice waits where one is kept
 notice_is : (o : Option Unanswered) → is_some o ≡ is_some (option_map notice_shown o)
-notice_is None = refl
-notice_is (Some n) = refl
+notice_is o = grind arith
 
 -- whether it is so at some end
 any_is : (pool : PoolState) (f : Seat → Bool) (g : Port → Bool) → ((s : Seat) (p : Port) → SeatStandsFor pool s p → f s ≡ g p)

@@ -1,5 +1,5 @@
 -- The message that waits at one place is passed on to the end at another one, or at the same.
-use Rattle.std.proofs.Common.{◌≡◌, ◌≢◌, ℕ, ◌==◌, Bool, true, false, List, [], ◌∷◌, ◌⊎◌, inl, inr, refl, sym, ap, ◌∙◌, subst}
+use Rattle.std.proofs.Common.{◌≡◌, ◌≢◌, ℕ, ◌==◌, Bool, true, false, List, [], ◌∷◌, ◌⊎◌, inl, inr, refl, sym, ap, ◌∙◌, subst, arith}
 use Rattle.std.specs.Prelude.{Option, Some, None, is_none, Result, Ok, Err, slice_get, slice_set, slice_index_or}
 use Rattle.std.proofs.lemmas.Bool.{eqb-true}
 use Rattle.std.proofs.lemmas.List.{get_or-set_same, get_or-set_other, set-set}
@@ -31,8 +31,7 @@ use Rattle.node_ends.proofs.PassingOn.{BothChange, both_change, own_places, not_
 -- ## What waits
 
 pub none_there_is : {X : Type 0} (o : Option X) → ((x : X) → o ≡ Some x → ⊥) → o ≡ None
-none_there_is None none = refl
-none_there_is (Some x) none = absurd (none x refl)
+none_there_is o none = grind arith
 
 -- what came to the end of a host
 got_there : (ports : List Port) (h : ℕ) (p : Port) → port_at ports h ≡ Some p → got_at ports h ≡ p.side.got
@@ -44,9 +43,7 @@ none_came ports h m none got = let z : [] ≡ m ∷ [] = rw none at got in cc
 
 waiting_message : (pool : PoolState) (o : Option Waiting) (w : Waiting) (m : Message) → o ≡ Some w → messages_waiting pool o ≡ m ∷ []
     → (w.pipe, chain_bytes pool w.chain) ≡ m
-waiting_message pool o w m is got =
-    let one : (w.pipe, chain_bytes pool w.chain) ∷ [] ≡ m ∷ [] = sym (ap (messages_waiting pool) is) ∙ got in
-    cc
+waiting_message pool o w m is got = grind arith
 
 module _ {pool : PoolState} {seats : List Seat} {ports : List Port} {m : Message} (h i : ℕ) (place : place_in h seats ≡ Some i)
     (e : AreEnds pool seats ports) (got : got_at ports h ≡ m ∷ []) where
@@ -84,10 +81,7 @@ module _ {pool : PoolState} {seats : List Seat} {ports : List Port} {m : Message
     second = placed_in k j place2 e
 
     pub same_end : i ≡ j → first.seat ≡ second.seat
-    same_end same =
-        let at : slice_get seats j ≡ Some first.seat = subst (λ n. slice_get seats n ≡ Some first.seat) same first.seat_is in
-        let z : Some first.seat ≡ Some second.seat = sym at ∙ second.seat_is in
-        cc
+    same_end same = grind arith
 
     pub two_owners : i ≢ j → HaveOwners first.seat.side second.seat.side
     two_owners differ =
@@ -273,8 +267,7 @@ handed {old} {new} {seats} {ports} {m} h i k j place place2 e got c d gone w aft
     let P : Message → Type 0 = λ x. Hands old new s.seat.side after x w.chain in
     let Q : End → Type 0 = λ l. Hands old new l after (w.pipe, chain_bytes old w.chain) w.chain in
     let there : P m = subst P (message_is h i place e got c w is) (subst Q side hands) in
-    let t_is : t ≡ record f.seat { waiting = None } =
-    ap (λ (x : Seat). record x { waiting = gone }) read ∙ ap (λ (o : Option Waiting). record f.seat { waiting = o }) none in
+    let t_is : t ≡ record f.seat { waiting = None } = grind arith in
     relayed {w = w} ports f.seat s.seat t u d place place2 e f.seat_is s.seat_is f.host s.host (ap (λ (x : Seat). x.waiting) (sym read) ∙ is)
     (may_be_sent h i place e got) t_is refl (record {
       over = over_by holds s.stands.holds there;
@@ -294,18 +287,13 @@ takes_still m h k (p ∷ ports) = by (p.desk.host == h) (p.desk.host == k) refl 
     by : (a b : Bool) → (p.desk.host == h) ≡ a → (p.desk.host == k) ≡ b
         → takes_at m (port_at ports k) ≡ takes_at m (port_at (with_port h (after_turn FetchMessage) ports) k)
         → takes_at m (port_at (p ∷ ports) k) ≡ takes_at m (port_at (with_port h (after_turn FetchMessage) (p ∷ ports)) k)
-    by true true q r later = rw (q, r) refl
-    by true false q r later = rw (q, r) later
-    by false true q r later = rw (q, r) refl
-    by false false q r later = rw (q, r) later
+    by a b q r later = grind arith
 
 passed_none : (chain : Chain) (o : Option Refused) → pass_by chain o ≡ Ok tt → true ≡ is_none o
-passed_none chain None e = refl
-passed_none chain (Some why) e = cc
+passed_none chain o e = grind arith
 
 passed_some : (chain : Chain) (o : Option Refused) (x : Chain × SendRefused) → pass_by chain o ≡ Err x → false ≡ is_none o
-passed_some chain None x e = cc
-passed_some chain (Some because) x e = refl
+passed_some chain o x e = grind arith
 
 pub told_passed : {r : Result (Unit {0}) (Chain × SendRefused)} (n : Machine) (m : Message) (chain : Chain) → r ≡ Ok tt → r ≡ pass_told n m chain
     → true ≡ is_none (give_refusal n m)

@@ -138,8 +138,7 @@ first_changed i f ports = map f (take i ports) ++ drop i ports
 
 -- none is changed yet
 pub none_changed : (f : Port → Port) (ports : List Port) → first_changed 0 f ports ≡ ports
-none_changed f [] = refl
-none_changed f (p ∷ ports) = refl
+none_changed f ports = grind arith
 
 -- the next one is changed
 pub next_changed : (i : ℕ) (f : Port → Port) (ports : List Port) → at_place i f (first_changed i f ports) ≡ first_changed (suc i) f ports

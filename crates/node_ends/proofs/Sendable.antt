@@ -1,27 +1,18 @@
 -- The messages that came to an end may be sent: they aren't empty, and they came on pipes that aren't reserved.
-use Rattle.std.proofs.Common.{◌≡◌, ℕ, suc, zero, ◌<◌, Bool, true, false, cond, List, [], ◌∷◌, ◌++◌, drop, length, refl, sym, subst, arith}
-use Rattle.std.specs.Prelude.{Option, Some, None, is_some, ◌==◌, nat_lt, ◌%◌}
+use Rattle.std.proofs.Common.{◌≡◌, ℕ, suc, zero, ◌<◌, Bool, true, cond, List, [], ◌∷◌, ◌++◌, drop, refl, sym, subst, arith}
+use Rattle.std.specs.Prelude.{Option, nat_lt, ◌%◌}
 use Rattle.std.specs.List.{AllByRecursion}
-use Rattle.std.proofs.lemmas.Bool.{ltb-true, true≢false}
 use Rattle.hcp_packet.specs.declared.Packet.{Packet}
 use Rattle.hcp_packet.specs.Packets.{IsSendable, AreSendable, packets_in, is_good, good_of}
-use Rattle.hcp_chain.specs.Joining.{is_fifth, grown, join_step, message_in, given_by}
-use Rattle.shdlc_core.specs.declared.answers.LinkState.{LinkState}
-use Rattle.shdlc_core.specs.declared.answers.LinkState.TheVariants.{Down, Waiting, Up}
-use Rattle.shdlc_core.specs.Machine.{EndState, Session, taken, ticked, tick_answer, stopped, reset_with}
+use Rattle.hcp_chain.specs.Joining.{join_step, message_in, given_by}
+use Rattle.shdlc_core.specs.Machine.{EndState, Session, taken, stopped}
 use Rattle.swp_base.specs.declared.control_frames.Control.{Control}
 use Rattle.swp_base.specs.declared.control_frames.Control.TheVariants.{I, S, Rset, Ua, Act as ActFrame, Clt}
-use Rattle.swp_base.specs.declared.control_frames.Act.{Act}
-use Rattle.swp_base.specs.declared.link_terms.Cause.TheVariants.{Asked}
 use Rattle.swp_act.specs.declared.ActEvent.{ActEvent}
-use Rattle.swp_act.specs.declared.ActEvent.TheVariants.{Start as ActStart, Take as ActTake, Tick as ActTick, Stop as ActStop}
-use Rattle.link_laws.specs.machine.Machine.{LinkEnd as Machine, LinkInput, Message, Refused, Turn, is_open, is_faulty, moved, put_down, with_act}
-use Rattle.link_laws.specs.machine.Machine.{activated, act_answer}
-use Rattle.link_laws.specs.machine.Machine.{role_after, heard, took, after_input, after_inputs, reset_refusal, window_of, news, new_link_end, Role}
-use Rattle.link_laws.specs.machine.Machine.{ActDue, if_up, turn, give_refusal, aside_refusal, frame_fetched}
-use Rattle.link_laws.specs.machine.Machine.Role.{Bare, Clf, Uicc}
+use Rattle.swp_act.specs.declared.ActEvent.TheVariants.{Start as ActStart, Take as ActTake, Stop as ActStop}
+use Rattle.link_laws.specs.machine.Machine.{LinkEnd as Machine, LinkInput, Message, Turn, is_open, is_faulty, moved, put_down, activated, heard, took}
+use Rattle.link_laws.specs.machine.Machine.{after_input, after_inputs, news, new_link_end, Role, turn, frame_fetched}
 use Rattle.link_laws.specs.machine.Machine.LinkInput.{Take, TakeUnknown, TakeBroken, Tick, Reset, Start, Stop, FromNode, Fetch}
-use Rattle.link_laws.specs.machine.Machine.Turn.{Give, Hold, FetchMessage, SetAside, Release}
 use Rattle.node_ends.specs.Holding.{IsReached}
 
 -- ## Messages of packets
@@ -39,14 +30,7 @@ all_dropped P (suc n) [] a = tt
 all_dropped P (suc n) (x ∷ xs) a = all_dropped P n xs a.1
 
 given_on_pipe : (messages : List (ℕ × List ℕ)) (p : Packet) → p.pipe < 112 → AllByRecursion OnPipe (message_in (join_step messages p).0)
-given_on_pipe messages p low = by (is_fifth messages p.pipe) (nat_lt 4096 (length (grown messages p))) p.last refl refl refl
-  where
-    by : (a b l : Bool) → is_fifth messages p.pipe ≡ a → nat_lt 4096 (length (grown messages p)) ≡ b → p.last ≡ l
-        → AllByRecursion OnPipe (message_in (join_step messages p).0)
-    by true b l q r s = rw q tt
-    by false true l q r s = rw (q, r) tt
-    by false false true q r s = rw (q, r, s) (low, tt)
-    by false false false q r s = rw (q, r, s) tt
+given_on_pipe messages p low = grind arith
 
 abbrev OnPipes : List Packet → Type 0
 OnPipes ps = AllByRecursion (λ (p : Packet). p.pipe < 112) ps
@@ -63,20 +47,14 @@ packets_on_pipe ([] ∷ fragments) = packets_on_pipe fragments
 packets_on_pipe ((first ∷ rest) ∷ fragments) = by (nat_lt (first % 128) 112) refl (packets_on_pipe fragments)
   where
     by : (b : Bool) → nat_lt (first % 128) 112 ≡ b → OnPipes (packets_in fragments) → OnPipes (packets_in ((first ∷ rest) ∷ fragments))
-    by true q later = rw q (ltb-true (first % 128) 112 q, later)
-    by false q later = rw q later
-
-good_is_some : (bytes : List ℕ) → is_good bytes ≡ true → 0 < length bytes
-good_is_some [] q = absurd (true≢false (sym q))
-good_is_some (b ∷ bytes) q = omega arith
+    by b q later = grind arith
 
 good_sendable : (messages : List Message) → AllByRecursion OnPipe messages → AreSendable (good_of messages)
 good_sendable [] all = tt
 good_sendable (m ∷ messages) all = by (is_good m.1) refl (good_sendable messages all.1)
   where
     by : (b : Bool) → is_good m.1 ≡ b → AreSendable (good_of messages) → AreSendable (good_of (m ∷ messages))
-    by true q later = rw q ((all.0, good_is_some m.1 q), later)
-    by false q later = rw q later
+    by b q later = grind arith
 
 news_sendable : (s : Session) (e : EndState) → AreSendable (news s e)
 news_sendable s e =
@@ -88,35 +66,17 @@ news_sendable s e =
 abbrev Came : Machine → Type 0
 Came m = AreSendable m.got
 
-moved_came : (e : Machine) (b : Bool) (s : EndState) → Came e → Came (moved e b s)
-moved_came e true s came = came
-moved_came e false s came = came
-
 down_came : (b : Bool) (e : Machine) → Came e → Came (put_down b e)
-down_came false e came = came
-down_came true e came = by e.shdlc.phase refl
-  where
-    by : (p : LinkState) → e.shdlc.phase ≡ p → Came (put_down true e)
-    by Up q = rw q came
-    by Waiting q = rw q came
-    by Down q = rw q came
-
-act_came : (o : Option Act) (e : Machine) → Came e → Came (with_act o e)
-act_came None e came = came
-act_came (Some act) e came = came
+down_came b e came = grind arith
 
 activated_came : (e : Machine) (event : ActEvent) → Came e → Came (activated e event)
-activated_came e event came =
-    act_came (act_answer e.role event).send (record (put_down (act_answer e.role event).ended_link e) { role = role_after e.role event })
-    (down_came (act_answer e.role event).ended_link e came)
+activated_came e event came = grind arith
 
 either_came : (b : Bool) (e f : Machine) → Came e → Came f → Came (cond b e f)
-either_came true e f one other = one
-either_came false e f one other = other
+either_came b e f one other = grind arith
 
 got_moved : (e : Machine) (b : Bool) (s : EndState) → (moved e b s).got ≡ e.got
-got_moved e true s = refl
-got_moved e false s = refl
+got_moved e b s = grind arith
 
 heard_came : (e : Machine) (c : Control) → Came e → Came (heard e c)
 heard_came e c came =
@@ -132,51 +92,19 @@ took_came e (ActFrame act again) came = activated_came e (ActTake act again) cam
 took_came e Clt came = came
 
 reset_came : (e : Machine) (window : Option ℕ) → Came e → Came (after_input e (Reset window))
-reset_came e window came = by (reset_refusal e) refl
-  where
-    by : (o : Option Refused) → reset_refusal e ≡ o → Came (after_input e (Reset window))
-    by None q = rw q (moved_came e (is_some (if_up e.shdlc Asked)) (reset_with e.shdlc (window_of e window)) came)
-    by (Some why) q = rw q came
-
-give_came : (e : Machine) (m : Message) → Came e → Came (turn e (Give m))
-give_came e m came = by (give_refusal e m) refl
-  where
-    by : (o : Option Refused) → give_refusal e m ≡ o → Came (turn e (Give m))
-    by None q = rw q came
-    by (Some why) q = rw q came
-
-aside_came : (e : Machine) → Came e → Came (turn e SetAside)
-aside_came e came = by (aside_refusal e) refl
-  where
-    by : (o : Option Refused) → aside_refusal e ≡ o → Came (turn e SetAside)
-    by None q = rw q came
-    by (Some why) q = rw q came
+reset_came e window came = grind arith
 
 turn_came : (e : Machine) (t : Turn) → Came e → Came (turn e t)
-turn_came e (Give m) came = give_came e m came
-turn_came e (Hold held) came = came
-turn_came e FetchMessage came = all_dropped IsSendable 1 e.got came
-turn_came e SetAside came = aside_came e came
-turn_came e Release came = came
+turn_came e t came = grind arith
 
 fetched_came : (e : Machine) → Came e → Came (frame_fetched e)
-fetched_came e came = by e.acts refl
-  where
-    by : (acts : List ActDue) → e.acts ≡ acts → Came (frame_fetched e)
-    by [] q = rw q came
-    by (a ∷ acts) q = one (a.behind == 0) refl
-      where
-        one : (b : Bool) → (a.behind == 0) ≡ b → Came (frame_fetched e)
-        one true p = rw (q, p) came
-        one false p = rw (q, p) came
+fetched_came e came = grind arith
 
 input_came : (e : Machine) (i : LinkInput) → Came e → Came (after_input e i)
 input_came e (Take c) came = took_came e c came
 input_came e TakeUnknown came = came
 input_came e (TakeBroken fault) came = came
-input_came e Tick came =
-    either_came (is_open e.role) (moved e (is_some (tick_answer e.shdlc).ended) (ticked e.shdlc)) (activated e ActTick)
-    (moved_came e (is_some (tick_answer e.shdlc).ended) (ticked e.shdlc) came) (activated_came e ActTick came)
+input_came e Tick came = grind arith
 input_came e (Reset window) came = reset_came e window came
 input_came e (Start value) came = activated_came (moved e true (stopped e.shdlc)) (ActStart value) came
 input_came e Stop came = activated_came (moved e true (stopped e.shdlc)) ActStop came
@@ -188,9 +116,7 @@ inputs_came [] e came = came
 inputs_came (i ∷ is) e came = inputs_came is (after_input e i) (input_came e i came)
 
 new_came : (role : Role) → Came (new_link_end role)
-new_came Bare = tt
-new_came (Clf s) = tt
-new_came (Uicc s) = tt
+new_came role = grind arith
 
 -- so it is in each state to which an end comes
 pub got_sendable : (m : Machine) → IsReached m → AreSendable m.got

@@ -1,8 +1,8 @@
 -- A block is set aside for an end, or released.
-use Rattle.std.proofs.Common.{◌≡◌, ◌≢◌, ℕ, ◌+◌, ◌-◌, ◌≤◌, ◌<◌, Bool, true, false, List, length, refl, sym, ap, ◌∙◌, subst, arith, length-set}
+use Rattle.std.proofs.Common.{◌≡◌, ◌≢◌, ℕ, ◌+◌, ◌-◌, ◌≤◌, ◌<◌, Bool, true, List, length, refl, sym, ap, ◌∙◌, subst, arith, length-set}
 use Rattle.std.proofs.lemmas.List.{get_or-set_same, get_or-set_other}
 use Rattle.std.specs.Prelude.{Option, nat_lt}
-use Rattle.std.proofs.lemmas.Bool.{lt-ltb, ltb-true}
+use Rattle.std.proofs.lemmas.Bool.{lt-ltb}
 use Rattle.block_pool.specs.declared.chain.Chain.{Chain}
 use Rattle.block_pool.specs.declared.owners.Owner.{Owner}
 use Rattle.block_pool.specs.Slots.{Places, Held}
@@ -168,18 +168,12 @@ set_counts pool k m h some =
 
 -- at most 128 blocks are set aside
 pub few_aside : (pool : PoolState) (k : End) (m : Machine) → EndStandsFor k pool (without_got m) → m.aside ≤ 128
-few_aside pool k m h =
-    let kept = h.halfway.sends.lies.kept in
-    let used = kept.used in let within = kept.within in let aside = h.halfway.aside in
-    omega (arith, used, within, aside)
+few_aside pool k m h = grind arith
 
 -- where none is, there is none to release
 pub none_released : (pool : PoolState) (k : End) (waiting : Option Waiting) (m : Machine) → m.aside ≡ 0 → HoldsEnd pool k waiting m
     → HoldsEnd pool k waiting (turn m Release)
-none_released pool k waiting m none h =
-    let same : m.aside ≡ m.aside - 1 = omega (arith, none) in
-    let P : ℕ → Type 0 = λ n. HoldsEnd pool k waiting (record m { aside = n }) in
-    subst P same h
+none_released pool k waiting m none h = grind arith
 
 pub set_refused : (pool : PoolState) (k : End) (m : Machine) → EndStandsFor k pool (without_got m) → (0 < spare_of pool k.outbox.owner → ⊥)
     → turn m SetAside ≡ m
@@ -188,8 +182,7 @@ set_refused pool k m h none =
     by (nat_lt 0 (spare m)) refl (λ some. none (omega (arith, some, spare_here)))
   where
     by : (b : Bool) → nat_lt 0 (spare m) ≡ b → (0 < spare m → ⊥) → turn m SetAside ≡ m
-    by true q no_spare = absurd (no_spare (ltb-true 0 (spare m) q))
-    by false q no_spare = rw q refl
+    by b q no_spare = grind arith
 
 pub released_holds : (old new : PoolState) (k : End) (waiting : Option Waiting) (m : Machine) → HoldsEnd old k waiting m → 0 < aside_of old k.outbox.owner
     → Counts old new k.outbox.owner (used_of old k.outbox.owner - 1) (aside_of old k.outbox.owner - 1) → HoldsEnd new k waiting (turn m Release)

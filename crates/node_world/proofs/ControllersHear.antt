@@ -1,13 +1,13 @@
 -- What is known of the controller by what is kept of it, and what comes to its ends.
-use Rattle.std.proofs.Common.{◌≡◌, ℕ, ◌==◌, true, false, List, [], ◌∷◌, ◌++◌, get_or, map, refl, ap, ap₂, sym, subst, ◌∙◌, length}
+use Rattle.std.proofs.Common.{◌≡◌, ℕ, ◌==◌, true, false, List, [], ◌∷◌, ◌++◌, get_or, map, refl, ap, ap₂, sym, subst, ◌∙◌, length, arith}
 use Rattle.std.specs.Prelude.{Option, Some, None, slice_set}
 use Rattle.std.specs.List.{AllByRecursion}
-use Rattle.node_world.proofs.Words.{AreDifferent, AreTimely, AsksReset, AtController, Clf, Comes, Core, CutOff, Desk, EndsBoot, Entry, HaveRoom, HostSite}
-use Rattle.node_world.proofs.Words.{IsNodePlace, IsThere, Link, LinkEnd, LinkInput, MayGoOn, Memory, NextFrame, NoInput, Node, NumberedEnd, Off, On}
-use Rattle.node_world.proofs.Words.{OnWire, Port, Power, Running, RunsAs, Site, SiteIs, SitesAre, StandsAt, Starts, Step, Stops, Wires, WiresStandFor}
-use Rattle.node_world.proofs.Words.{WorldBecomes, after_planned, as_it_comes, as_it_comes_to, between, boot_writes, boots, changed_if, comes_at, comes_to}
-use Rattle.node_world.proofs.Words.{count_of, end_c, fails_within, found, happens, happens_at_controller, input_of, kept_alike, kept_is, link_is, link_to}
-use Rattle.node_world.proofs.Words.{memory_kept, new_clf, new_desk, new_link_end, next_frame, port_for, same_number, site_at, with_bare_link, with_site}
+use Rattle.node_world.proofs.Words.{AreDifferent, AreTimely, AtController, Clf, Comes, Core, CutOff, Desk, EndsBoot, Entry, HaveRoom, HostSite, IsNodePlace}
+use Rattle.node_world.proofs.Words.{IsThere, Link, LinkEnd, MayGoOn, Memory, NoInput, Node, NumberedEnd, Off, On, Port, Power, Running, RunsAs, Site, SiteIs}
+use Rattle.node_world.proofs.Words.{SitesAre, StandsAt, Step, Wires, WiresStandFor, WorldBecomes, after_planned, as_it_comes, as_it_comes_to, between}
+use Rattle.node_world.proofs.Words.{boot_writes, boots, changed_if, comes_at, comes_to, count_of, end_c, fails_within, found, happens, happens_at_controller}
+use Rattle.node_world.proofs.Words.{input_of, kept_alike, kept_is, link_is, link_to, memory_kept, new_clf, new_desk, new_link_end, next_frame, port_for}
+use Rattle.node_world.proofs.Words.{same_number, site_at, with_bare_link, with_site}
 use Rattle.node_machine.specs.world.World.{NodeWorld, controller_cut}
 use Rattle.node_laws.specs.telling.Telling.{hosts_in}
 use Rattle.swp_base.specs.declared.link_terms.Role.TheVariants as named
@@ -36,17 +36,11 @@ place_is_on k m node near n q place =
 -- or it doesn't
 pub place_is_off : (k : Power) (m : Memory) (node : Option Running) (near : ℕ → NumberedEnd) → ((n : Node Memory) → k ≡ On n → ⊥)
     → IsNodePlace k m node near → node ≡ None
-place_is_off (On n) m node near q place = absurd (q n refl)
-place_is_off (Off x) m None near q place = refl
-place_is_off (Off x) m (Some r) near q place = absurd place
+place_is_off k m node near q place = grind arith
 
 -- where it doesn't run, nothing comes
 pub comes_off : (w : NodeWorld) (h : ℕ) (comes : Comes) → w.controller ≡ None → comes_at w (end_c h) comes ≡ (w, [])
-comes_off w h comes off = go (input_of (link_to w.sites h) comes) refl
-  where
-    go : (o : Option LinkInput) → input_of (link_to w.sites h) comes ≡ o → comes_at w (end_c h) comes ≡ (w, [])
-    go None q = rw q refl
-    go (Some i) q = rw (q, off) refl
+comes_off w h comes off = grind arith
 
 pub comes_none : (w : NodeWorld) (h : ℕ) (comes : Comes) → input_of (link_to w.sites h) comes ≡ None → comes_at w (end_c h) comes ≡ (w, [])
 comes_none w h comes none = rw none refl
@@ -147,15 +141,7 @@ site_read i h ks sites s k p is a read =
 
 -- what comes leaves the far end of a link
 pub come_far : (l : Link) (comes : Comes) → (as_it_comes l comes).host ≡ l.host
-come_far l NextFrame = go l.to_controller
-  where
-    go : (w : List OnWire) → (as_it_comes (record l { to_controller = w }) NextFrame).host ≡ l.host
-    go [] = refl
-    go (x ∷ xs) = refl
-come_far l (AsksReset window) = refl
-come_far l (Starts value) = refl
-come_far l Stops = refl
-come_far l NoInput = refl
+come_far l comes = grind arith
 
 -- it has these wires now
 pub site_with : (k : HostSite) (wires : Wires) (s : Site) (l : Link) → l.host ≡ s.link.host → WiresStandFor wires l → SiteIs k s
@@ -179,15 +165,7 @@ room_kept [] (n ∷ news) [] (t ∷ after) a b q r = absurd (cc q)
 room_kept (k ∷ ks) [] (s ∷ sites) [] a b q r = absurd (cc q)
 
 pub come_resets : (l : Link) (comes : Comes) → (as_it_comes l comes).resets ≡ l.resets
-come_resets l NextFrame = go l.to_controller
-  where
-    go : (w : List OnWire) → (as_it_comes (record l { to_controller = w }) NextFrame).resets ≡ l.resets
-    go [] = refl
-    go (x ∷ xs) = refl
-come_resets l (AsksReset window) = refl
-come_resets l (Starts value) = refl
-come_resets l Stops = refl
-come_resets l NoInput = refl
+come_resets l comes = grind arith
 
 pub resets_as_it_comes : (h : ℕ) (comes : Comes) (sites : List Site)
     → map (λ (s : Site). s.link.resets) (as_it_comes_to h comes sites) ≡ map (λ (s : Site). s.link.resets) sites

@@ -1,24 +1,22 @@
 -- The world behind a step of the controller: what is kept stands for the world as the definition leaves it.
-use Rattle.std.proofs.Common.{◌≡◌, ℕ, ◌+◌, ◌==◌, Bool, true, false, cond, List, [], ◌∷◌, ◌++◌, map, refl, ap, ap₂, sym, subst, ◌∙◌, append_assoc, append-nil}
-use Rattle.std.proofs.Common.{not, get_or}
-use Rattle.std.specs.Prelude.{if◌then◌else◌, Option, Some, None, Result, OnOk}
+use Rattle.std.proofs.Common.{◌≡◌, ℕ, ◌==◌, Bool, true, false, cond, List, [], ◌∷◌, ◌++◌, map, refl, ap, ap₂, sym, subst, ◌∙◌, append_assoc, append-nil, not}
+use Rattle.std.proofs.Common.{get_or, arith}
+use Rattle.std.specs.Prelude.{Option, Some, None, Result, OnOk}
 use Rattle.std.specs.List.{AllByRecursion, flat_map}
 use Rattle.std.specs.Option.{option_map_or}
 use Rattle.std.proofs.lemmas.Bool.{eqb-true}
-use Rattle.node_world.proofs.Words.{AreDifferent, AreNumbered, AreSessions, Arrived, AsksReset, AtEnd, BeginsOver, Comes, Control, Controller, CountsFew}
-use Rattle.node_world.proofs.Words.{CutOff, Desk, Ending, Entry, FewAreCounted, GoesOnWith, GoesOut, HasEnds, HasGone, HasOneEnd, HostSite, IfItRuns, Incoming}
-use Rattle.node_world.proofs.Words.{IsArrivalOf, IsNodePlace, IsOnly, Link, LinkEnd, LinkInput, MayGoOn, Memory, NextFrame, NoInput, Node, NumberedEnd, On}
-use Rattle.node_world.proofs.Words.{OnWire, Port, Power, Reset, ResetRefused, Running, RunsAs, SameWires, SendsTo, Site, SiteIs, SitesAre, Starts}
-use Rattle.node_world.proofs.Words.{StaysCounted, Step, Stops, Tick, TimePasses, WentOffWith, WiresStandFor, Work, WorldBecomes, after_input, after_planned}
-use Rattle.node_world.proofs.Words.{arrival, as_comes, as_it_comes, as_it_comes_to, between, changed_if, comes_at, comes_to, controller_work, cut, end_c}
-use Rattle.node_world.proofs.Words.{ending_of, entries_for, frames_emitted, frames_noted, frames_out, happens_at_controller, has_come, hosts_of_ends, input_at}
-use Rattle.node_world.proofs.Words.{input_of, is_rset, is_up, kept_alike, link_is, link_to, near_end_in, new_link_end, next_frame, node_memory, number_of}
-use Rattle.node_world.proofs.Words.{on_ok, port_at, port_for, put, put_all, puts_entries, refusal_arrived, refusal_coming, renewed, same_number, sent_all}
-use Rattle.node_world.proofs.Words.{sent_port, sent_to, site_at, steps, swapped, turns_at, wires_for, with_bare_link, with_bare_wires, with_controller}
-use Rattle.node_world.proofs.Words.{with_port, work_numbers, work_of}
-use Rattle.link_laws.specs.sessions.Sessions.{fits}
+use Rattle.node_world.proofs.Words.{AreDifferent, AreNumbered, AreSessions, Arrived, AtEnd, BeginsOver, Comes, Control, Controller, CountsFew, CutOff, Desk}
+use Rattle.node_world.proofs.Words.{Ending, Entry, FewAreCounted, GoesOnWith, GoesOut, HasEnds, HasGone, HasOneEnd, HostSite, IfItRuns, Incoming, IsArrivalOf}
+use Rattle.node_world.proofs.Words.{IsNodePlace, IsOnly, Link, LinkEnd, LinkInput, MayGoOn, Memory, Node, NumberedEnd, On, Port, Power, Reset, ResetRefused}
+use Rattle.node_world.proofs.Words.{Running, RunsAs, SameWires, SendsTo, Site, SiteIs, SitesAre, StaysCounted, Step, WentOffWith, WiresStandFor, Work}
+use Rattle.node_world.proofs.Words.{WorldBecomes, after_planned, arrival, as_comes, as_it_comes, as_it_comes_to, between, changed_if, comes_at, comes_to}
+use Rattle.node_world.proofs.Words.{controller_work, cut, end_c, ending_of, entries_for, frames_emitted, frames_noted, frames_out, happens_at_controller}
+use Rattle.node_world.proofs.Words.{has_come, hosts_of_ends, input_at, input_of, is_up, kept_alike, link_is, link_to, near_end_in, new_link_end, next_frame}
+use Rattle.node_world.proofs.Words.{node_memory, number_of, on_ok, port_at, port_for, put, put_all, puts_entries, refusal_arrived, refusal_coming, renewed}
+use Rattle.node_world.proofs.Words.{same_number, sent_all, sent_port, sent_to, site_at, steps, swapped, turns_at, wires_for, with_bare_link, with_bare_wires}
+use Rattle.node_world.proofs.Words.{with_controller, with_port, work_numbers, work_of}
 use Rattle.link_laws.specs.messages.Links.{becomes}
-use Rattle.link_laws.specs.entries.Entries.{End as Side, far, pushed_out, wire_with, put_entries, ending_entries}
+use Rattle.link_laws.specs.entries.Entries.{End as Side, far, pushed_out, wire_with, put_entries}
 use Rattle.link_laws.specs.entries.Entries.Entry.{Emit}
 use Rattle.node_laws.specs.telling.Telling.{hosts_in}
 use Rattle.node_laws.proofs.telling.Steps.{AreAlike}
@@ -31,7 +29,6 @@ use Rattle.node_sites.proofs.Numbered.{stepped, arrival_numbered}
 use Rattle.node_world.specs.Controllers.{due_at, has_frames, EndsStep}
 use Rattle.node_world.proofs.EndsGo.{same_stand, silent_same, same_twice, ended_far, each_found, next_ports, all_sides, EndGoes, controller_ends, hosts_kept}
 use Rattle.node_world.proofs.HostsHear.{refused_so, near_side, number_coming}
-use Rattle.node_world.proofs.ControllersHear.{come_far}
 
 -- ## Its ends
 
@@ -97,22 +94,10 @@ sent_everywhere (h ∷ hosts) (p ∷ ports) d q =
 -- ## What is noted of frames
 
 put_alike : (l m : Link) (c : Control) → AreAlike l m → AreAlike (put l c) (put m c)
-put_alike l m c a = go (is_rset c) refl
-  where
-    go : (b : Bool) → is_rset c ≡ b → AreAlike (put l c) (put m c)
-    go true q =
-        rw q
-        (record {
-          to_host = ap (λ n. fits (l.to_host ++ record { frame = c; age = 0; number = n + 1 } ∷ [])) a.resets
-              ∙ ap (λ w. fits (w ++ record { frame = c; age = 0; number = m.resets + 1 } ∷ [])) a.to_host;
-          resets = ap (λ n. n + 1) a.resets;
-        })
-    go false q = rw q (record { to_host = ap (λ w. fits (w ++ record { frame = c; age = 0; number = 0 } ∷ [])) a.to_host; resets = a.resets })
+put_alike l m c a = grind arith
 
 wire_alike : (l m : Link) (c : Control) → AreAlike l m → wire_with l c ≡ wire_with m c
-wire_alike l m c a =
-    let wire : ℕ → List OnWire → List OnWire = λ n w. w ++ record { frame = c; age = 0; number = if is_rset c then n + 1 else 0 } ∷ [] in
-    ap (wire l.resets) a.to_host ∙ ap (λ n. wire n m.to_host) a.resets
+wire_alike l m c a = grind arith
 
 -- two links with the same wire to the host and as many RSETs note the same
 puts_alike : (who : Side) (cs : List Control) (l m : Link) → AreAlike l m → puts_entries who l cs ≡ puts_entries who m cs
@@ -120,14 +105,6 @@ puts_alike who [] l m a = refl
 puts_alike who (c ∷ cs) l m a =
     ap (λ w. (Emit who c ∷ pushed_out (far who) w) ++ puts_entries who (put l c) cs) (wire_alike l m c a)
     ∙ ap (λ z. put_entries who m c ++ z) (puts_alike who cs (put l c) (put m c) (put_alike l m c a))
-
-cut_silent : (h : ℕ) (ports : List Port) (l : Link)
-    → option_map_or (λ (p : Port). entries_for h (ending_entries Controller l p.side CutOff)) (port_at ports h) [] ≡ []
-cut_silent h ports l = go (port_at ports h)
-  where
-    go : (o : Option Port) → option_map_or (λ (p : Port). entries_for h (ending_entries Controller l p.side CutOff)) o [] ≡ []
-    go None = refl
-    go (Some p) = refl
 
 -- ## All links
 
@@ -162,16 +139,13 @@ module _ (v : Work) (starts out : Site → Link) (so : Site → Ending → Link)
           let ending : ending_of v ≡ GoesOut = ap (λ (b : Bool). cond b CutOff GoesOut) on in
           ap (λ cs. entries_for s.host (puts_entries Controller e.link cs)) due
           ∙ (ap (entries_for s.host) (puts_alike Controller (frames_out e.port.side) e.link (out s) e.alike)
-          ∙ sym (ap (λ o. option_map_or (λ (p : Port). entries_for s.host (ending_entries Controller (out s) p.side (ending_of v))) o []) e.here
-          ∙ ap (λ x. entries_for s.host (ending_entries Controller (out s) e.port.side x)) ending))
+          ∙ sym (grind arith))
 
   pub none_told : (sites : List Site) → v.cut ≡ true → flat_map (λ (s : Site). frames_noted Controller s.host (out s) v) sites ≡ []
   none_told [] off = refl
   none_told (s ∷ sites) off =
       let ending : ending_of v ≡ CutOff = ap (λ (b : Bool). cond b CutOff GoesOut) off in
-      let one : frames_noted Controller s.host (out s) v ≡ [] =
-      ap (λ x. option_map_or (λ (p : Port). entries_for s.host (ending_entries Controller (out s) p.side x)) (port_at v.ports s.host) []) ending
-      ∙ cut_silent s.host v.ports (out s) in
+      let one : frames_noted Controller s.host (out s) v ≡ [] = grind arith in
       ap (λ xs. xs ++ flat_map (λ (s : Site). frames_noted Controller s.host (out s) v) sites) one ∙ none_told sites off
 
   abbrev pub starts_so : Site → Site
@@ -265,8 +239,7 @@ module _ (w : NodeWorld) (v : Work) (starts out : Site → Link) (so : Site → 
   sides : AllByRecursion (λ (p : Port). (link_to (sites_so GoesOut) p.desk.host).controller.side ≡ sent_all p.side) v.ports
   sides =
       all_sides v w.sites (λ (s : Site). record s { link = so s GoesOut }) (λ s. refl) hosts different
-      (λ s found. let e : EndSteps v s (starts s) (out s) (so s) = each s found in
-      record { port = e.port; here = e.here; side = ap (λ (l : Link). l.controller.side) e.goes_out })
+      (λ s found. grind arith)
 
   none_left : (near_ends : ℕ → NumberedEnd) (ports : List Port) → AllByRecursion (λ (p : Port). (near_ends p.desk.host).side ≡ sent_all p.side) ports
       → AllByRecursion (λ (p : Port). SendsOneByOne p.side) ports
@@ -329,21 +302,6 @@ module _ (w : NodeWorld) (v : Work) (starts out : Site → Link) (so : Site → 
 
 -- ## As a step begins
 
--- it leaves what notes the frames that go out
-pub come_alike : (l : Link) (comes : Comes) → AreAlike (as_it_comes l comes) (wires_for l comes)
-come_alike l NextFrame = go l.to_controller
-  where
-    go : (w : List OnWire) → AreAlike (as_it_comes (record l { to_controller = w }) NextFrame) (record l { to_controller = w })
-    go [] = record { to_host = refl; resets = refl }
-    go (x ∷ xs) = record { to_host = refl; resets = refl }
-come_alike l (AsksReset window) = record { to_host = refl; resets = refl }
-come_alike l (Starts value) = record { to_host = refl; resets = refl }
-come_alike l Stops = record { to_host = refl; resets = refl }
-come_alike l NoInput = record { to_host = refl; resets = refl }
-
-alike_then : {l m n : Link} → SameWires l m → AreAlike l n → AreAlike m n
-alike_then s a = record { to_host = s.to_host ∙ a.to_host; resets = s.resets ∙ a.resets }
-
 -- ends with the same machines
 pub same_ends : (near far : ℕ → NumberedEnd) (desks : List Desk) → ((h : ℕ) → (near h).side ≡ (far h).side)
     → map between (map (λ (d : Desk). port_for (near d.host) d) desks) ≡ map between (map (λ (d : Desk). port_for (far d.host) d) desks)
@@ -367,19 +325,16 @@ ends_fresh near (d ∷ desks) = ((refl, refl), ends_fresh near desks)
 -- no more messages are counted behind what comes to them
 few_one : (input : NodeInput) (d : Desk) (a b : NumberedEnd) → a.side ≡ b.side → StaysCounted a.side (input_at input (port_for a d))
     → StaysCounted b.side (input_at input (port_for b d))
-few_one (AtEnd h i) d a b q few = let Q : LinkEnd → Type 0 = λ e. StaysCounted e (if d.host == h then Some i else None) in subst Q q few
-few_one TimePasses d a b q few = let Q : LinkEnd → Type 0 = λ e. StaysCounted e (Some Tick) in subst Q q few
+few_one input d a b q few = grind arith
 
 late_of : (o : Option LinkInput) (d : Desk) (a b : NumberedEnd) → a.side ≡ b.side → StaysCounted (has_come (port_for a d) o).side (Some (Reset None))
     → StaysCounted (has_come (port_for b d) o).side (Some (Reset None))
-late_of None d a b q few = let Q : LinkEnd → Type 0 = λ e. StaysCounted e (Some (Reset None)) in subst Q q few
-late_of (Some i) d a b q few = let Q : LinkEnd → Type 0 = λ e. StaysCounted (after_input e i) (Some (Reset None)) in subst Q q few
+late_of o d a b q few = grind arith
 
 late_one : (input : NodeInput) (d : Desk) (a b : NumberedEnd) → a.side ≡ b.side
     → StaysCounted (has_come (port_for a d) (input_at input (port_for a d))).side (Some (Reset None))
     → StaysCounted (has_come (port_for b d) (input_at input (port_for b d))).side (Some (Reset None))
-late_one (AtEnd h i) d a b q few = late_of (if d.host == h then Some i else None) d a b q few
-late_one TimePasses d a b q few = late_of (Some Tick) d a b q few
+late_one input d a b q few = grind arith
 
 abbrev FewCome : NodeInput → (ℕ → NumberedEnd) → List Desk → Type 0
 FewCome input ends ds = AllByRecursion (λ (p : Port). StaysCounted p.side (input_at input p)) (map (λ (d : Desk). port_for (ends d.host) d) ds)
@@ -434,16 +389,7 @@ module _ (w : NodeWorld) (r : Running) (h : ℕ) (comes : Comes) (i : LinkInput)
   pub each : (x : Site) → site_at w.sites x.host ≡ Some x → EndSteps Then x (starts x) (out x) (so x)
   each x there =
       let g : EndGoes x.host x.link (comes_to h comes x.host) Then = controller_ends w r h comes i x.host x may.orderly node there input in
-      record {
-        port = g.port;
-        here = g.here;
-        link = g.goes.link;
-        wires = g.goes.wires;
-        alike = alike_then g.goes.wires (come_alike x.link (comes_to h comes x.host));
-        goes_out = g.goes.out;
-        goes_off = g.goes.cut;
-        far = g.goes.far ∙ sym (come_far x.link (comes_to h comes x.host));
-      }
+      grind arith
 
   pub hosts_then : hosts_of_ends Then.ports ≡ hosts_in w.sites
   hosts_then = hosts_kept w r h comes i may.orderly node input

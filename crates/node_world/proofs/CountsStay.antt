@@ -1,10 +1,10 @@
 -- What functions of a world of nodes ask for: its numbers of RSETs and its counts of acknowledged messages stay within 32 bits.
-use Rattle.std.proofs.Common.{◌≡◌, ◌⊎◌, inl, inr, ℕ, zero, suc, ◌+◌, ◌<◌, ◌≤◌, ◌^◌, ◌==◌, Bool, true, false, List, [], ◌∷◌, map, refl, subst, sym, arith}
+use Rattle.std.proofs.Common.{◌≡◌, ℕ, zero, suc, ◌+◌, ◌<◌, ◌≤◌, ◌^◌, ◌==◌, Bool, true, false, List, [], ◌∷◌, map, refl, arith}
 use Rattle.std.specs.Prelude.{Option, Some, None, length, replicate, unwrap_or, IfSome}
 use Rattle.std.specs.List.{AllByRecursion}
-use Rattle.node_world.proofs.Words.{AreSendable, AsksReset, AtEnd, Comes, CountsFew, Desk, FewOn, FewOnEach, Happening, IsFromOutside, Link, LinkEnd}
-use Rattle.node_world.proofs.Words.{LinkInput, Message, NextFrame, NoInput, NumberedEnd, OnWire, Port, Reset, Site, Starts, StaysCounted, Stops, Tick}
-use Rattle.node_world.proofs.Words.{TimePasses, after_input, has_come, input_at, link_to, near_end_in, port_for, taken_of, took_with}
+use Rattle.node_world.proofs.Words.{AreSendable, AtEnd, Comes, CountsFew, Desk, FewOn, FewOnEach, Happening, IsFromOutside, Link, LinkEnd, LinkInput}
+use Rattle.node_world.proofs.Words.{NumberedEnd, OnWire, Port, Reset, Site, StaysCounted, Tick, TimePasses, after_input, has_come, input_at, link_to}
+use Rattle.node_world.proofs.Words.{near_end_in, port_for, taken_of}
 use Rattle.link_laws.specs.machine.Machine.Role.{Bare}
 use Rattle.link_laws.specs.messages.Links.{new_link}
 use Rattle.node_world.specs.Bounds.{AcksWithin, AckWithin}
@@ -17,12 +17,10 @@ repeats zero c = refl
 repeats (suc n) c = let z = repeats n c in omega (arith, z)
 
 pub taken_within : (count : Option ℕ) (wire : List OnWire) → length wire ≤ 64 → taken_of count wire ≤ 64
-taken_within None wire few = few
-taken_within (Some n) wire few = omega (arith, few)
+taken_within count wire few = grind arith
 
 pub ticks_within : (times : Option ℕ) → IfSome times (λ n. (1 ≤ n) × (n ≤ 100)) → unwrap_or times 1 ≤ 100
-ticks_within None q = omega arith
-ticks_within (Some n) q = q.1
+ticks_within times q = grind arith
 
 -- ## RSETs
 
@@ -41,26 +39,13 @@ few_to n h [] a = new_few n
 few_to n h (x ∷ sites) a = go (x.host == h) refl (few_to n h sites a.1)
   where
     go : (b : Bool) → (x.host == h) ≡ b → FewOn n (link_to sites h) → FewOn n (link_to (x ∷ sites) h)
-    go true r later = rw r a.0
-    go false r later = rw r later
+    go b r later = grind arith
 
 -- ## Ends of a node
 
 -- an end as it has heard of the number of an RSET
 pub acks_of_near : (n : ℕ) (l : Link) (comes : Comes) → FewOn n l → AcksWithin n (near_end_in l comes).side
-acks_of_near n l NextFrame f = go l.to_controller
-  where
-    by : List OnWire → NumberedEnd
-    by [] = l.controller
-    by (x ∷ xs) = record l.controller { took = took_with l.controller.took x }
-
-    go : (w : List OnWire) → AcksWithin n (by w).side
-    go [] = f.controller
-    go (x ∷ xs) = f.controller
-acks_of_near n l (AsksReset window) f = f.controller
-acks_of_near n l (Starts value) f = f.controller
-acks_of_near n l Stops f = f.controller
-acks_of_near n l NoInput f = f.controller
+acks_of_near n l comes f = grind arith
 
 -- the ends of a node as a step of it begins
 pub acks_of_ports : (n : ℕ) (near_ends : ℕ → NumberedEnd) → ((h : ℕ) → AcksWithin n (near_ends h).side) → (desks : List Desk)
@@ -71,11 +56,7 @@ acks_of_ports n near_ends a (d ∷ desks) = (a d.host, acks_of_ports n near_ends
 -- ## Whole messages
 
 sendable_still : (more : ℕ) (e f : LinkEnd) → Nearly more e f → AreSendable e.sent → AreSendable f.sent
-sendable_still more e f n a = go n.sent
-  where
-    go : (f.sent ≡ e.sent) ⊎ (f.sent ≡ []) → AreSendable f.sent
-    go (inl q) = subst (λ (ms : List Message). AreSendable ms) (sym q) a
-    go (inr q) = subst (λ (ms : List Message). AreSendable ms) (sym q) tt
+sendable_still more e f n a = grind arith
 
 counted : (n : ℕ) (e : LinkEnd) (i : LinkInput) → n ≤ 300000000 → IsFromOutside i → AcksWithin n e → AreSendable e.sent → StaysCounted e (Some i)
 counted n e i q o few a =

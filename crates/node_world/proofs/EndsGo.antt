@@ -1,5 +1,5 @@
 -- What a step of an end does to the wires of its link, and to the end.
-use Rattle.std.proofs.Common.{◌≡◌, Bool, true, false, List, [], ◌∷◌, refl, sym, subst, ◌∙◌, ℕ, ◌==◌, cond, ap, map, ap₂}
+use Rattle.std.proofs.Common.{◌≡◌, Bool, true, false, List, [], ◌∷◌, refl, sym, subst, ◌∙◌, ℕ, ◌==◌, cond, ap, map, ap₂, arith}
 use Rattle.std.specs.Prelude.{Option, Some, None, is_some}
 use Rattle.std.specs.Option.{option_map_or}
 use Rattle.std.proofs.lemmas.Bool.{eqb-true}
@@ -22,7 +22,6 @@ use Rattle.node_laws.specs.telling.Telling.{hosts_in, IfDue, is_due}
 use Rattle.node_laws.proofs.telling.Accounts.{at_host}
 use Rattle.node_laws.proofs.telling.Events.{given, is_so, is_step, opened, site_map}
 use Rattle.link_wires.proofs.GoingOut.{put_stays}
-use Rattle.shdlc_core.specs.declared.answers.LinkState.TheVariants.{Up}
 use Rattle.node_machine.specs.Node.{is_late}
 use Rattle.node_laws.proofs.telling.Ticks.{IfLate, TickedOfTicks as Ticked, not_late, older, ticked_of_ticks as ticked}
 use Rattle.node_laws.proofs.telling.WorldTicks.{opened as tick_opened, up_late, young_ports}
@@ -53,29 +52,16 @@ pub same_exchanged : {l m : Link} → SameWires l m → SameWires (exchanged l) 
 same_exchanged s = record { to_controller = s.to_host; to_host = s.to_controller; resets = s.resets; controller = s.host; host = s.controller }
 
 pub ended_same : (l : Link) (b : Bool) → SameWires l (with_ended l b)
-ended_same l true = record { to_controller = refl; to_host = refl; resets = refl; controller = (refl, refl); host = (refl, refl) }
-ended_same l false = no_change l
+ended_same l b = grind arith
 
 pub silent_same : (l : Link) (e : LinkEnd) → SameWires (with_bare_wires l) (silent l e)
-silent_same l e = go (is_up l.controller.side.shdlc.phase)
-  where
-    go : (b : Bool) → SameWires (with_bare_wires l)
-        (let m : Link = with_ended l b in record m { controller = record m.controller { side = e }; to_controller = []; to_host = [] })
-    go true = record { to_controller = refl; to_host = refl; resets = refl; controller = (refl, refl); host = (refl, refl) }
-    go false = record { to_controller = refl; to_host = refl; resets = refl; controller = (refl, refl); host = (refl, refl) }
+silent_same l e = grind arith
 
 pub emptied_same : {l m : Link} → SameWires l m → SameWires (with_bare_wires l) (with_bare_wires m)
 emptied_same s = record { to_controller = refl; to_host = refl; resets = s.resets; controller = s.controller; host = s.host }
 
 pub same_twice : {l m n : Link} → SameWires l m → SameWires m n → SameWires l n
-same_twice s t =
-    record {
-      to_controller = t.to_controller ∙ s.to_controller;
-      to_host = t.to_host ∙ s.to_host;
-      resets = t.resets ∙ s.resets;
-      controller = (t.controller.0 ∙ s.controller.0, t.controller.1 ∙ s.controller.1);
-      host = (t.host.0 ∙ s.host.0, t.host.1 ∙ s.host.1);
-    }
+same_twice s t = grind arith
 
 -- ## A step of the near end
 
@@ -356,8 +342,7 @@ pub record EndTicks (h : ℕ) (l : Link) (late : Bool) (v : Work) : Type 0 where
   pub goes : TicksOn l late (turns_at v h) port.side
 
 up_ready : (late : Bool) (l : Link) → IfLate late l.controller.side → late ≡ true → is_waiting l.controller.side.shdlc ≡ false
-up_ready true l up q = let is : l.controller.side.shdlc.phase ≡ Up = up.1 in rw is refl
-up_ready false l up q = cc
+up_ready late l up q = grind arith
 
 tick_goes : (h : ℕ) (who : Side) (l : Link) (late : Bool) (v : Work) → IfLate late l.controller.side → Ticked h who l late v → EndTicks h l late v
 tick_goes h who l true v up a =

@@ -1,19 +1,17 @@
 -- A host of the world behind a step of it: what is kept stands for the host as the definition leaves it.
 use Rattle.std.proofs.Common.{◌≡◌, ℕ, ◌==◌, Bool, true, false, cond, List, [], ◌∷◌, ◌++◌, map, refl, ap, sym, subst, ◌∙◌, not, append-nil, append_assoc}
-use Rattle.std.proofs.Common.{length, ap₂}
+use Rattle.std.proofs.Common.{length, ap₂, arith}
 use Rattle.std.specs.Prelude.{Option, Some, None}
 use Rattle.std.specs.List.{AllByRecursion}
-use Rattle.std.specs.Option.{option_map_or}
 use Rattle.node_world.proofs.Words.{Control, Core, CutOff, Desk, End, Ending, EndsBoot, Entry, GoesOut, HasBecome, Host, HostSite, IsNodePlace, IsOnly}
 use Rattle.node_world.proofs.Words.{IsToSend, Link, LinkEnd, Lose, Loss, MayTick, Memory, NoInput, Node, NumberedEnd, Off, On, Port, Power, Running, RunsAs}
-use Rattle.node_world.proofs.Words.{SameWires, Site, SiteIs, Tick, Turn, Uicc, Wires, WiresStandFor, Work, after_input, after_planned, at, between}
-use Rattle.node_world.proofs.Words.{boot_writes, changed_if, count_of, counts, ending_of, entries_for, exchanged, fails_within, found, frames_noted}
-use Rattle.node_world.proofs.Words.{frames_out, happens, host_behind, host_boots, host_cut, host_ticks, hosts_of_ends, kept_alike, kept_is, memory_kept}
-use Rattle.node_world.proofs.Words.{new_desk, new_link_end, new_uicc, next_frame, node_memory, port_at, port_for, put_all, puts_entries, renewed, same_number}
-use Rattle.node_world.proofs.Words.{sent_all, sent_port, site_loses, ticks_at_controller, turns_at, with_bare_wires, with_controller, with_port}
+use Rattle.node_world.proofs.Words.{SameWires, Site, SiteIs, Tick, Turn, Uicc, Wires, WiresStandFor, Work, after_input, after_planned, at, between, boot_writes}
+use Rattle.node_world.proofs.Words.{changed_if, count_of, counts, entries_for, exchanged, fails_within, found, frames_noted, frames_out, happens, host_behind}
+use Rattle.node_world.proofs.Words.{host_boots, host_cut, host_ticks, hosts_of_ends, kept_alike, kept_is, memory_kept, new_link_end, new_uicc, next_frame}
+use Rattle.node_world.proofs.Words.{node_memory, port_at, port_for, put_all, puts_entries, renewed, sent_all, sent_port, site_loses, ticks_at_controller}
+use Rattle.node_world.proofs.Words.{turns_at, with_bare_wires, with_controller, with_port}
 use Rattle.link_laws.specs.messages.Links.{becomes}
 use Rattle.node_laws.proofs.telling.Accounts.{at_host}
-use Rattle.link_laws.specs.entries.Entries.{ending_entries}
 use Rattle.node_sites.proofs.FramesGoOut.{at_found}
 use Rattle.node_core.proofs.Between.{all_one_by_one}
 use Rattle.node_core.specs.Running.{SendsOneByOne}
@@ -45,11 +43,7 @@ pub record WentOff (new : HostSite) (n : Node Memory) (w : Work) (l : Link) (bef
 pub one_port : (h : ℕ) (p : Port) (ports : List Port) → hosts_of_ends ports ≡ h ∷ [] → port_at ports h ≡ Some p → ports ≡ p ∷ []
 one_port h p [] q f = absurd (cc q)
 one_port h p (x ∷ y ∷ ports) q f = absurd (cc q)
-one_port h p (x ∷ []) q f =
-    let host : x.desk.host ≡ h = cc in
-    let there : (x.desk.host == h) ≡ true = ap (λ n. x.desk.host == n) (sym host) ∙ same_number x.desk.host in
-    let is : Some x ≡ Some p = rw there at f in
-    let one : x ≡ p = cc in ap (λ (z : Port). z ∷ []) one
+one_port h p (x ∷ []) q f = grind arith
 
 -- as the next step begins, it has sent all
 ends_next : (h : ℕ) (p : Port) (near_end : NumberedEnd) (ports : List Port) → hosts_of_ends ports ≡ h ∷ [] → port_at ports h ≡ Some p
@@ -137,14 +131,10 @@ only_one h p ports q f = let P : List Port → Type 0 = λ ps. IsOnly h p ps in 
 -- what goes out behind a step that has lost its power: nothing
 frames_on : (h : ℕ) (l : Link) (k : Work) (p : Port) → k.cut ≡ false → port_at k.ports h ≡ Some p
     → frames_noted Host h l k ≡ entries_for h (puts_entries Host l (frames_out p.side))
-frames_on h l k p on here =
-    ap (λ o. option_map_or (λ (x : Port). entries_for h (ending_entries Host l x.side (ending_of k))) o []) here
-    ∙ ap (λ (b : Bool). entries_for h (ending_entries Host l p.side (cond b CutOff GoesOut))) on
+frames_on h l k p on here = grind arith
 
 frames_off : (h : ℕ) (l : Link) (k : Work) (p : Port) → k.cut ≡ true → port_at k.ports h ≡ Some p → frames_noted Host h l k ≡ []
-frames_off h l k p off here =
-    ap (λ o. option_map_or (λ (x : Port). entries_for h (ending_entries Host l x.side (ending_of k))) o []) here
-    ∙ ap (λ (b : Bool). entries_for h (ending_entries Host l p.side (cond b CutOff GoesOut))) off
+frames_off h l k p off here = grind arith
 
 module _ (mid : HostSite) (live : Bool) (noted : List Entry) (short : Bool) (before : List Entry) (s : Site) (step : List Turn → Ending → Link) (l : Link)
     (w : Work) (is : IsToSend mid live noted short before s step l w) where
@@ -219,11 +209,7 @@ tick_off k s entries is off may =
 -- A frame is lost on the way to an end of the link of a host.
 
 same_host : (to : End) (l : Link) (why : Loss) → (happens l (at to (Lose why))).host ≡ l.host
-same_host to l why = go to.at_host refl
-  where
-    go : (b : Bool) → to.at_host ≡ b → (happens l (at to (Lose why))).host ≡ l.host
-    go true q = rw q refl
-    go false q = rw q refl
+same_host to l why = grind arith
 
 module _ (new : HostSite) (s : Site) (to : End) (why : Loss) (host : new.host ≡ s.host)
     (wires : WiresStandFor new.wires (happens s.link (at to (Lose why)))) where
@@ -235,7 +221,8 @@ module _ (new : HostSite) (s : Site) (to : End) (why : Loss) (host : new.host �
   -- or to the host, for whose REC_ERROR it may count
   pub lost_far : to.at_host ≡ true → IsNodePlace new.power s.memory (counts why s.host s.node) (λ h. s.link.host) → SiteIs new (site_loses to why s)
   lost_far far place =
-      rw (ap (λ b. record s { link = happens s.link (at to (Lose why)); node = cond b (counts why s.host s.node) s.node }) far) (record { host = host; wires = wires; place = rw (← same_host to s.link why) at place })
+      rw (ap (λ b. record s { link = happens s.link (at to (Lose why)); node = cond b (counts why s.host s.node) s.node }) far)
+      (record { host = host; wires = wires; place = rw (← same_host to s.link why) at place })
 
 -- A host of the world boots.
 
@@ -249,12 +236,6 @@ boot_goes s q = rw q refl
 pub boot_stops : (s : Site) → fails_within (length (boot_writes s.memory.content)) s.memory.plan ≡ true
     → host_boots s ≡ (host_cut (record s { memory = after_planned (boot_writes s.memory.content) s.memory }), note.Cut s.host ∷ [])
 boot_stops s q = rw q refl
-
-new_ports : (n : Node Memory) (core : Core) (s : Site) → s.link.host.side ≡ new_link_end (Uicc new_uicc)
-    → RunsAs n core (map (new_port named.Uicc) (s.host ∷ [])) → RunsAs n core (map (λ d. port_for s.link.host d) (map new_desk (s.host ∷ [])))
-new_ports n core s side runs =
-    kept_alike (map (new_port named.Uicc) (s.host ∷ [])) (map (λ d. port_for s.link.host d) (map new_desk (s.host ∷ [])))
-    (ap (λ (e : LinkEnd). record { desk = new_desk s.host; side = e; session = 0; late = false; ended = false; turns = [] } ∷ []) (sym side)) runs
 
 -- how its boot ended, by what is kept of it
 pub boots_here : (k : HostSite) (new : Power) (s : Site) → SiteIs k s → (s.host == 0) ≡ false
@@ -279,11 +260,7 @@ runs_now k new s n count before {now} on is side other booted counts noted =
     let N : Power → Type 0 = λ a. IsNodePlace a (after_planned (boot_writes s.memory.content) s.memory) (Some r) (λ h. s.link.host) in
     subst C (sym (boot_goes s b.0))
     (record {
-      site = record {
-        host = is.host;
-        wires = is.wires;
-        place = subst N (sym on) (b.1, new_ports n r.core s side runs, (ap next_frame side, tt));
-      };
+      site = grind arith;
       noted = noted ∙ ap₂ (λ h x. before ++ note.Booted h x ∷ []) is.host (counts r.core (map (new_port named.Uicc) (s.host ∷ [])) runs);
     })
 
@@ -310,11 +287,4 @@ lost_power k new s left wires before {now} off is booted empty noted =
 -- its power was cut
 pub was_cut_off : (k new : HostSite) (s : Site) → SiteIs k s → new.host ≡ k.host → new.power ≡ Off (memory_kept k.power)
     → WiresStandFor new.wires (with_bare_wires s.link) → SiteIs new (host_cut s)
-was_cut_off k new s is host off empty =
-    let N : Power → Type 0 = λ a. IsNodePlace a s.memory None (λ h. (host_cut s).link.host) in
-    let g = goes_on (exchanged s.link) NoInput None [] refl tt in
-    record {
-      host = host ∙ is.host;
-      wires = same_stand (same_exchanged (cut_same g)) empty;
-      place = subst N (sym off) (kept_is k.power s.memory s.node (λ h. s.link.host) is.place);
-    }
+was_cut_off k new s is host off empty = grind arith

@@ -1,21 +1,20 @@
 -- A host of the world as a step of it begins.
-use Rattle.std.proofs.Common.{◌≡◌, ℕ, ◌==◌, ◌≤◌, ◌<◌, Bool, true, false, cond, max, List, [], ◌∷◌, ◌++◌, map, replicate, get_or, refl, ap, ap₂, sym, subst}
-use Rattle.std.proofs.Common.{◌∙◌, arith, ◌&&◌, append-nil}
-use Rattle.std.specs.Prelude.{Option, Some, None, is_some, Result, OnOk, option_map, Ok}
+use Rattle.std.proofs.Common.{◌≡◌, ℕ, ◌==◌, ◌≤◌, ◌<◌, Bool, true, false, max, List, [], ◌∷◌, ◌++◌, map, replicate, get_or, refl, ap, ap₂, sym, subst, ◌∙◌}
+use Rattle.std.proofs.Common.{arith, ◌&&◌, append-nil}
+use Rattle.std.specs.Prelude.{Option, Some, None, is_some, Result, OnOk, Ok}
 use Rattle.std.specs.List.{AllByRecursion}
 use Rattle.std.proofs.lemmas.List.{get_or-replicate}
 use Rattle.std.proofs.lemmas.Bool.{eqb-false}
 use Rattle.node_world.proofs.Words.{AreMute, AreNumbered, Arrived, AsksReset, AtEnd, BeginsOver, Comes, Control, Core, CountsFew, CountsOn, Deed, Desk, End}
 use Rattle.node_world.proofs.Words.{Ending, Entry, HasBecome, HasEnds, HasGone, Host, HostSite, IfItRuns, Incoming, IsArrivalOf, IsHostOf, IsNodePlace}
 use Rattle.node_world.proofs.Words.{IsToSend, Link, LinkEnd, LinkInput, MayTick, Memory, Message, NextFrame, NoCause, NoInput, Node, NumberedEnd, Off, On}
-use Rattle.node_world.proofs.Words.{OnWire, Port, Power, Reset, ResetRefused, Running, RunsAs, SameWires, Site, SiteIs, Starts, StaysCounted, Step, Stops}
-use Rattle.node_world.proofs.Words.{Tick, TimePasses, Turn, Wires, WiresStandFor, Work, WorldBecomes, after_planned, arrival, as_comes, as_it_comes, beginning}
-use Rattle.node_world.proofs.Words.{begins_with, between, entries_for, exchanged, frames_noted, frames_out, happens_at_controller, has_come, host_behind}
-use Rattle.node_world.proofs.Words.{host_hears, host_opened, host_stepped, host_tick, host_ticks, host_work, hosts_of_ends, if_accepted, input_at, input_of}
-use Rattle.node_world.proofs.Words.{is_rset, kept_alike, near_end_in, next_frame, node_memory, noted_behind, number_of, port_at, port_for, put, puts_entries}
-use Rattle.node_world.proofs.Words.{refusal_arrived, refusal_coming, reset_refusal, same_number, sending_refused, session_at, side_of, steps}
-use Rattle.node_world.proofs.Words.{ticked_so, took_with, wires_for, work_numbers, work_of}
-use Rattle.link_laws.specs.entries.Entries.{put_entries, End as Side}
+use Rattle.node_world.proofs.Words.{OnWire, Port, Power, Reset, ResetRefused, Running, RunsAs, SameWires, Site, SiteIs, Starts, Step, Stops, Tick, TimePasses}
+use Rattle.node_world.proofs.Words.{Turn, Wires, WiresStandFor, Work, WorldBecomes, after_planned, arrival, as_comes, as_it_comes, begins_with, between}
+use Rattle.node_world.proofs.Words.{entries_for, exchanged, frames_noted, frames_out, happens_at_controller, host_behind, host_hears, host_opened, host_stepped}
+use Rattle.node_world.proofs.Words.{host_tick, host_ticks, host_work, hosts_of_ends, if_accepted, input_of, is_rset, kept_alike, near_end_in, next_frame}
+use Rattle.node_world.proofs.Words.{node_memory, noted_behind, number_of, port_at, port_for, put, puts_entries, refusal_arrived, refusal_coming}
+use Rattle.node_world.proofs.Words.{sending_refused, session_at, side_of, steps, ticked_so, took_with, wires_for, work_numbers, work_of}
+use Rattle.link_laws.specs.entries.Entries.{put_entries}
 use Rattle.node_laws.specs.telling.Telling.{is_due, NoneDue}
 use Rattle.node_laws.proofs.telling.Steps.{Keeps, begins_keep, steps_keep, tick_keeps}
 use Rattle.node_sites.specs.LinksKept.{without_first}
@@ -30,11 +29,9 @@ use Rattle.node_core.proofs.Asking.{asked_may}
 use Rattle.node_ends.specs.Ends.{MayStartAt}
 use Rattle.node_ends.specs.declared.inputs.LinkInput.TheVariants as asks
 use Rattle.swp_base.specs.declared.outside.NoMemory.{NoMemory}
-use Rattle.link_end.specs.Reports.{reset_refused}
 use Rattle.history.specs.Follows.{seen_from}
 use Rattle.link_wires.specs.Notes.{AreNoted}
 use Rattle.node_machine.specs.world.World.{NodeWorld}
-use Rattle.node_core.proofs.Behind.{power_may_start}
 use Rattle.node_sites.specs.declared.incoming.Incoming.TheVariants as coming
 use Rattle.node_sites.specs.declared.incoming.Arrived.TheVariants as arrived
 use Rattle.node_sites.specs.Arrivals.{ComesToEnd, HasArrived, NoneArrived, MayArriveAt, MayArrive}
@@ -98,14 +95,7 @@ at_few : (h : ℕ) (near : NumberedEnd) (i : LinkInput) (desks : List Desk) → 
     → CountsFew (AtEnd h i) (map (λ (d : Desk). port_for near d) desks)
 at_few h near i [] q c = absurd (cc q)
 at_few h near i (x ∷ y ∷ desks) q c = absurd (cc q)
-at_few h near i (d ∷ []) q c =
-    let host : d.host ≡ h = cc in
-    let there : (d.host == h) ≡ true = ap (λ n. d.host == n) (sym host) ∙ same_number d.host in
-    let p : Port = port_for near d in
-    let comes : input_at (AtEnd h i) p ≡ Some i = ap (λ b. cond b (Some i) None) there in
-    let Come : Option LinkInput → Type 0 = StaysCounted near.side in
-    let Late : Option LinkInput → Type 0 = λ o. StaysCounted (has_come p o).side (Some (Reset None)) in
-    record { come = (subst Come (sym comes) c.come, tt); late = (subst Late (sym comes) c.late, tt) }
+at_few h near i (d ∷ []) q c = grind arith
 
 tick_few : (near : NumberedEnd) (desks : List Desk) → CountsOn near.side Tick → CountsFew TimePasses (map (λ (d : Desk). port_for near d) desks)
 tick_few near [] c = record { come = tt; late = tt }
@@ -130,16 +120,7 @@ all_always n h (d ∷ []) q low = let host : d.host ≡ h = cc in (always_is n h
 
 -- what comes leaves the end with the number with which its frames go out
 pub number_coming : (l : Link) (comes : Comes) → number_of (near_end_in l comes) ≡ number_of (as_it_comes l comes).controller
-number_coming l NextFrame = go l.to_controller
-  where
-    go : (w : List OnWire) → number_of (near_end_in (record l { to_controller = w }) NextFrame)
-        ≡ number_of (without_first (record l { to_controller = w })).controller
-    go [] = refl
-    go (x ∷ xs) = refl
-number_coming l (AsksReset window) = refl
-number_coming l (Starts value) = refl
-number_coming l Stops = refl
-number_coming l NoInput = refl
+number_coming l comes = grind arith
 
 -- ## What goes out
 
@@ -155,8 +136,7 @@ puts_behind l w took (c ∷ cs) =
     taken m = record m { to_controller = w; controller = record m.controller { took = took } }
 
     swapped : (b : Bool) → is_rset c ≡ b → put (taken l) c ≡ taken (put l c)
-    swapped true q = rw q refl
-    swapped false q = rw q refl
+    swapped b q = grind arith
 
 puts_coming : (l : Link) (comes : Comes) (cs : List Control) → puts_entries Host (as_it_comes l comes) cs ≡ puts_entries Host (wires_for l comes) cs
 puts_coming l NextFrame cs = go l.to_controller
@@ -205,7 +185,8 @@ module _ (s : Site) (r : Running) (is : IsHostOf s) (runs : s.node ≡ Some r) w
     numbers =
         work_numbers Session r s.memory.plan (λ k. Near) (entries_for s.host (arrival Host (exchanged s.link) comes))
         (arrival_numbered Session s.host Host (exchanged s.link) comes)
-        (rw (← number_coming (exchanged s.link) comes) at (all_always (number_of (as_it_comes (exchanged s.link) comes).controller) s.host r.desks node.ends is.low))
+        (rw (← number_coming (exchanged s.link) comes) at (all_always
+        (number_of (as_it_comes (exchanged s.link) comes).controller) s.host r.desks node.ends is.low))
 
     abbrev pub step_at_end : List Turn → Ending → Link
     step_at_end turns ending = happens_at_controller (exchanged s.link) (Step comes turns ending)
@@ -265,8 +246,7 @@ module _ (mid : HostSite) (was n : Node Memory) (live : Bool) where
   midway s {bare = bare} {l} {w} d memory gone on host wires numbers noted =
       let A : ℕ → Type 0 = λ k. AreNumbered (always k) w.entries in
       let B : List ℕ → Type 0 = λ ks. AreNumbered (session_at ks) w.entries in
-      let number : number_of bare.controller ≡ max mid.wires.host.emitted mid.wires.host.took =
-      ap₂ max (sym wires.there.emitted_is) (sym wires.there.took_is) in
+      let number : number_of bare.controller ≡ max mid.wires.host.emitted mid.wires.host.took = grind arith in
       record {
         node = n;
         on = on;
@@ -302,14 +282,7 @@ as_none {new} {to} {l} {what} {before} {now} is h = let C : Option Arrived → T
 
 pub may_arrive : (at_host : Bool) (what : Incoming) (a : Arrived) (port : Option Port) → IsArrivalOf what a → MayArrive at_host what
     → ((value : ℕ) → at_host ≡ true → MayStartAt value port) → MayArriveAt a port
-may_arrive b coming.NextFrame (arrived.Frame read) port is may starts = is
-may_arrive b coming.NextFrame (arrived.Reset window) port is may starts = absurd is
-may_arrive b coming.NextFrame (arrived.Start value) port is may starts = absurd is
-may_arrive b (coming.Reset window) a port is may starts = let A : Arrived → Type 0 = λ x. MayArriveAt x port in subst A (sym is) may
-may_arrive true (coming.Start value) a port is may starts =
-    let A : Arrived → Type 0 = λ x. MayArriveAt x port in subst A (sym is) (starts value refl)
-may_arrive false (coming.Start value) a port is may starts =
-    let A : Arrived → Type 0 = λ x. MayArriveAt x port in subst A (sym is) (power_may_start value port may)
+may_arrive at_host what a port is may starts = grind arith
 
 -- ## Why it is refused
 
@@ -317,28 +290,16 @@ may_arrive false (coming.Start value) a port is may starts =
 pub refused_so : (what : Incoming) (a : Arrived) (p : Port) (node : Option Running) (r : Running) (e : LinkEnd) → IsArrivalOf what a
     → p.side ≡ e → node ≡ Some r
     → refusal_arrived a (Some p) ≡ refusal_coming node e (as_comes what)
-refused_so coming.NextFrame (arrived.Frame read) p at r e is side on = refl
-refused_so coming.NextFrame (arrived.Reset window) p at r e is side on = absurd is
-refused_so coming.NextFrame (arrived.Start value) p at r e is side on = absurd is
-refused_so (coming.Reset window) a p at r e is side on =
-    let A : Arrived → Type 0 = λ x. refusal_arrived x (Some p) ≡ refusal_coming at e (AsksReset window) in
-    let there : option_map reset_refused (reset_refusal e) ≡ refusal_coming at e (AsksReset window) = rw on refl in
-    subst A (sym is) (ap (λ x. option_map reset_refused (reset_refusal x)) side ∙ there)
-refused_so (coming.Start value) a p at r e is side on =
-    let A : Arrived → Type 0 = λ x. refusal_arrived x (Some p) ≡ None in subst A (sym is) refl
+refused_so what a p node r e is side on = grind arith
 
 -- nothing is where its node doesn't run
 pub off_refuses_none : (what : Incoming) (node : Option Running) (e : LinkEnd) → node ≡ None → None ≡ refusal_coming node e (as_comes what)
-off_refuses_none coming.NextFrame at e off = refl
-off_refuses_none (coming.Reset window) at e off = rw off refl
-off_refuses_none (coming.Start value) at e off = refl
+off_refuses_none what node e off = grind arith
 
 -- or where nothing comes
 pub none_refused : (what : Incoming) (l : Link) (node : Option Running) (e : LinkEnd) → input_of l (as_comes what) ≡ None
     → None ≡ refusal_coming node e (as_comes what)
-none_refused coming.NextFrame l at e none = refl
-none_refused (coming.Reset window) l at e none = let z : Some (Reset window) ≡ None = none in absurd (cc z)
-none_refused (coming.Start value) l at e none = refl
+none_refused what l node e none = grind arith
 
 -- what is refused is a reset, which left the wires as they were
 pub wires_as_were : {new : Wires} {to : End} {l : Link} {before now : List Entry} {why : ResetRefused} (what : Incoming) (a : Arrived) (port : Option Port)
@@ -357,32 +318,16 @@ wires_as_were {new} {to} {l} {before} {now} {why} what a port h = go what a h.is
 
 -- ## What is noted of it
 
--- no number of a session is in it
-arrival_told : (session : ℕ → ℕ) (h : ℕ) (who : Side) (l : Link) (comes : Comes)
-    → map (with_session_number session) (entries_for h (arrival who l comes)) ≡ entries_for h (arrival who l comes)
-arrival_told session h who l NextFrame = go l.to_controller
-  where
-    go : (w : List OnWire) → map (with_session_number session) (entries_for h (arrival who (record l { to_controller = w }) NextFrame))
-        ≡ entries_for h (arrival who (record l { to_controller = w }) NextFrame)
-    go [] = refl
-    go (x ∷ xs) = refl
-arrival_told session h who l (AsksReset window) = refl
-arrival_told session h who l (Starts value) = refl
-arrival_told session h who l Stops = refl
-arrival_told session h who l NoInput = refl
-
 pub arrived_noted : {new : Wires} {to : End} {l : Link} {what : Incoming} {a : Arrived} {before now : List Entry} (session : ℕ → ℕ)
     → HasArrived new to l what before now a
     → now ≡ before ++ map (with_session_number session) (entries_for to.link (arrival (side_of to) l (as_comes what)))
-arrived_noted {to = to} {l} {what} {before = before} session h =
-    h.noted ∙ ap (λ es. before ++ es) (sym (arrival_told session to.link (side_of to) l (as_comes what)))
+arrived_noted session h = grind arith
 
 -- ## What becomes of the world
 
 pub unrefused : {Why : Type 0} {k : Power} {ks : List HostSite} {before now : List Entry} {after : NodeWorld × List Entry} {cause : Option Why}
     (w : NodeWorld) → cause ≡ None → WorldBecomes k ks before now (if_accepted cause w after) → WorldBecomes k ks before now after
-unrefused {Why} {k} {ks} {before} {now} {after} w none b =
-    let B : Option Why → Type 0 = λ x. WorldBecomes k ks before now (if_accepted x w after) in subst B none b
+unrefused w none b = grind arith
 
 -- What is known of a host of the world by what is kept of it, and what happens at it, case by case.
 
@@ -404,13 +349,7 @@ is_on {k} {s} {n} is on =
 
 -- it doesn't
 pub is_off : {k : HostSite} {s : Site} → SiteIs k s → ((n : Node Memory) → k.power ≡ On n → ⊥) → s.node ≡ None
-is_off {k} {s} is on = go k.power s.node on is.place
-  where
-    go : (power : Power) (o : Option Running) → ((n : Node Memory) → power ≡ On n → ⊥) → IsNodePlace power s.memory o (λ h. s.link.host)
-        → o ≡ None
-    go (On n) o q place = absurd (q n refl)
-    go (Off m) None q place = refl
-    go (Off m) (Some r) q place = absurd place
+is_off is on = grind arith
 
 -- nothing happened
 pub unchanged : {k : HostSite} {s : Site} (entries : List Entry) → SiteIs k s → HasBecome k entries entries (s, [])
@@ -439,11 +378,7 @@ pub stepped_on : (s : Site) (r : Running) (comes : Comes) (f : Work → Work) �
 stepped_on s r comes f on = rw on refl
 
 pub hears_off : (s : Site) (comes : Comes) → s.node ≡ None → host_hears s comes ≡ (s, [])
-hears_off s comes off = go (input_of (exchanged s.link) comes) refl
-  where
-    go : (o : Option LinkInput) → input_of (exchanged s.link) comes ≡ o → host_hears s comes ≡ (s, [])
-    go None q = rw q refl
-    go (Some i) q = rw (q, off) refl
+hears_off s comes off = grind arith
 
 pub hears_none : (s : Site) (comes : Comes) → input_of (exchanged s.link) comes ≡ None → host_hears s comes ≡ (s, [])
 hears_none s comes none = rw none refl
@@ -538,9 +473,6 @@ still_stands k s n m wires is on stand runs memory before now q =
     go None p = p
 
 -- ## What a host sends by itself
-
-pub beginning_mute : (identity : List ℕ) (pipes : List (List ℕ)) → AreMute (beginning identity pipes)
-beginning_mute identity pipes = (tt, (tt, tt))
 
 sending_on : (s : Site) (r : Running) (m : Message) → s.node ≡ Some r
     → sending_refused s m ≡ if_waiting (m.0 == 1 && is_command_message m.1 && is_some r.core.command) (give_refusal s.link.host.side m)

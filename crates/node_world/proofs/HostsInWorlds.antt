@@ -3,19 +3,18 @@ use Rattle.std.proofs.Common.{◌≡◌, ℕ, ◌==◌, Bool, true, false, cond,
 use Rattle.std.proofs.Common.{map, arith, ◌≢◌}
 use Rattle.std.specs.Prelude.{Option, Some, None, is_some, slice_set}
 use Rattle.std.specs.List.{AllByRecursion}
-use Rattle.std.proofs.lemmas.Bool.{eq-eqb, true≢false}
+use Rattle.std.proofs.lemmas.Bool.{eq-eqb}
 use Rattle.std.proofs.lemmas.List.{map-append}
-use Rattle.node_world.proofs.Words.{AreDifferent, AreMute, AreSendable, AsksReset, AtController, AtEnd, BecomesUnless, Comes, Controller, CountsOn, CutOff}
-use Rattle.node_world.proofs.Words.{Desk, End, Entry, FewAreCounted, FewBehind, FewOn, FewOnEach, Gives, Happening, HasBecome, HaveRoom, Header, Host}
-use Rattle.node_world.proofs.Words.{HostSite, IfItRuns, Inits, IsFromOutside, IsHost, IsHostOf, IsNodePlace, IsOrderly, IsThere, IsWithinBounds, Line}
-use Rattle.node_world.proofs.Words.{LineOutcome, LinePlayed, Link, LinkInput, Lose, Loss, MayGoOn, MayPlay, Memory, NextFrame, NoCause, NoInput, NumberedEnd}
-use Rattle.node_world.proofs.Words.{Off, On, OnWire, Plan, Port, Power, Reset, Running, Site, SiteIs, SitesAre, SitesBecome, StandsAt, Start, Starts, Stop}
-use Rattle.node_world.proofs.Words.{Stops, Take, TimePasses, WasRefused, Work, WorldBecomes, WorldIs, after_host, after_planned, at, beginning, begins_with}
-use Rattle.node_world.proofs.Words.{boot_found, boot_writes, boot_written, boots, changed_if, comes_at, count_of, counts, end_c, end_h, ending_of, entries_for}
-use Rattle.node_world.proofs.Words.{exchanged, fails_within, first_lost, frame_lost, frames_noted, frames_to, happens, host_boots, host_cut, host_does}
-use Rattle.node_world.proofs.Words.{host_hears, host_stepped, host_work, if_accepted, input_of, line_step, link_is, link_to, loses_power_at, machine_in}
-use Rattle.node_world.proofs.Words.{memory_at, new_desk, node_at, node_of, port_for, refusal_coming, refusal_in, sending, sending_refused, side_of, site_at}
-use Rattle.node_world.proofs.Words.{site_loses, steps, turns_at, wires_for, with_memory, with_node, with_site, world_step}
+use Rattle.node_world.proofs.Words.{AreDifferent, AreMute, AreSendable, AtController, AtEnd, BecomesUnless, Comes, Controller, CountsOn, CutOff, Desk, End}
+use Rattle.node_world.proofs.Words.{Entry, FewAreCounted, FewBehind, FewOn, FewOnEach, Gives, Happening, HasBecome, HaveRoom, Header, Host, HostSite, IfItRuns}
+use Rattle.node_world.proofs.Words.{Inits, IsFromOutside, IsHost, IsHostOf, IsNodePlace, IsOrderly, IsThere, IsWithinBounds, Line, LineOutcome, LinePlayed}
+use Rattle.node_world.proofs.Words.{Link, LinkInput, Lose, Loss, MayGoOn, MayPlay, Memory, NoCause, NoInput, NumberedEnd, Off, On, Plan, Port, Power, Running}
+use Rattle.node_world.proofs.Words.{Site, SiteIs, SitesAre, SitesBecome, StandsAt, TimePasses, WasRefused, Work, WorldBecomes, WorldIs, after_host}
+use Rattle.node_world.proofs.Words.{after_planned, at, beginning, begins_with, boot_found, boot_writes, boot_written, boots, changed_if, comes_at, count_of}
+use Rattle.node_world.proofs.Words.{counts, end_c, end_h, ending_of, entries_for, exchanged, fails_within, first_lost, frame_lost, frames_noted, frames_to}
+use Rattle.node_world.proofs.Words.{happens, host_boots, host_cut, host_does, host_hears, host_stepped, host_work, if_accepted, input_of, line_step, link_is}
+use Rattle.node_world.proofs.Words.{link_to, loses_power_at, machine_in, memory_at, new_desk, node_at, node_of, port_for, refusal_coming, refusal_in, sending}
+use Rattle.node_world.proofs.Words.{sending_refused, side_of, site_at, site_loses, steps, turns_at, wires_for, with_memory, with_node, with_site, world_step}
 use Rattle.trace_model.specs.declared.entry.Entry.TheVariants as entry
 use Rattle.node_machine.specs.Node.{found as found_at}
 use Rattle.node_machine.specs.world.World.{NodeWorld, links_of}
@@ -34,7 +33,7 @@ use Rattle.node_world.specs.HostSteps.{CountsComing}
 use Rattle.node_world.specs.Whole.{line_asked, HostsPlayed}
 use Rattle.node_world.specs.Controllers.{FewAreCountedAt}
 use Rattle.node_world.proofs.HostsDo.{boot_goes, boot_stops}
-use Rattle.node_world.proofs.HostsHear.{worked, stepped_off, stepped_on, hears_none, beginning_mute, sending_mute}
+use Rattle.node_world.proofs.HostsHear.{worked, stepped_off, stepped_on, hears_none}
 use Rattle.node_world.proofs.CountsStay.{counts_few_at_end, resets_fit, acks_of_ports, counts_few_in_tick, few_to}
 use Rattle.node_world.proofs.SitesKept.{others_before, of_these, read_there, written_there}
 use Rattle.node_world.proofs.LinesGo.{one_step, is_there}
@@ -307,15 +306,7 @@ counts_on n e i most outside acks sendable =
     record { come = few.come.0; late = few.late.0 }
 
 pub from_outside : (l : Link) (comes : Comes) (i : LinkInput) → input_of l comes ≡ Some i → IsFromOutside i
-from_outside l NextFrame i q = go l.to_controller refl
-  where
-    go : (xs : List OnWire) → l.to_controller ≡ xs → IsFromOutside i
-    go [] e = let z : None ≡ Some i = rw e at q in absurd (cc z)
-    go (x ∷ xs) e = let z : Some (Take x.frame) ≡ Some i = rw e at q in let one : Take x.frame ≡ i = cc in subst IsFromOutside one tt
-from_outside l (AsksReset window) i q = let one : Reset window ≡ i = cc in subst IsFromOutside one tt
-from_outside l (Starts value) i q = let one : Start value ≡ i = cc in subst IsFromOutside one tt
-from_outside l Stops i q = let one : Stop ≡ i = cc in subst IsFromOutside one tt
-from_outside l NoInput i q = absurd (cc q)
+from_outside l comes i q = grind arith
 
 first_sendable : (e : NumberedEnd) (h : ℕ) (desks : List Desk) → map (λ (d : Desk). d.host) desks ≡ h ∷ []
     → AllByRecursion (λ (p : Port). AreSendable p.side.sent) (map (λ (d : Desk). port_for e d) desks) → AreSendable e.side.sent
@@ -376,13 +367,7 @@ at_place ks w i h a k all read ready =
 
 -- it runs where its place does
 pub runs_alike : (k : HostSite) (s : Site) → SiteIs k s → is_on k.power ≡ is_some s.node
-runs_alike k s is = go k.power s.node is.place
-  where
-    go : (power : Power) (node : Option Running) → IsNodePlace power s.memory node (λ h. s.link.host) → is_on power ≡ is_some node
-    go (On n) (Some r) place = refl
-    go (On n) None place = absurd place
-    go (Off m) None place = refl
-    go (Off m) (Some r) place = absurd place
+runs_alike k s is = grind arith
 
 -- ## Ends
 
@@ -405,12 +390,10 @@ none_changed h f [] q = refl
 none_changed h f (x ∷ sites) q = go (x.host == h) refl (none_changed h f sites)
   where
     go : (b : Bool) → (x.host == h) ≡ b → (site_at sites h ≡ None → with_site h f sites ≡ sites) → with_site h f (x ∷ sites) ≡ x ∷ sites
-    go true e later = let z : Some x ≡ None = rw e at q in absurd (cc z)
-    go false e later = rw e (ap (λ xs. x ∷ xs) (later (rw e at q)))
+    go b e later = grind arith
 
 pub runs_so : (o : Option Running) → o ≢ None → (r : Running) × (o ≡ Some r)
-runs_so None n = absurd (n refl)
-runs_so (Some r) n = (r, refl)
+runs_so o n = grind arith
 
 abbrev pub armed : Plan → Memory → Memory
 armed plan m = record m { plan = Some plan }
@@ -432,12 +415,8 @@ module _ (w : NodeWorld) (h : ℕ) (s : Site) (off : (h == 0) ≡ false) (found 
       → refusal_coming (node_at w (node_of (end_h h))) (machine_in w (end_h h)) comes ≡ refusal_coming s.node s.link.host.side comes
   refusal_there comes = rw (off, found) refl
 
-  send_there : (pid : ℕ) (message : List ℕ) → refusal_in w (line.Send (end_h h) pid message) ≡ sending_refused s (pid, message)
-  send_there pid message = rw (off, found) refl
-
   pub asked_there : (asked : Asked) → refusal_in w (line_asked (end_h h) asked) ≡ sending_refused s (message_asked asked)
-  asked_there (Send pipe message) = send_there pipe message.now
-  asked_there (Init identity pipes) = send_there 1 (3 ∷ [])
+  asked_there asked = grind arith
 
 -- what happens where a host does what it is asked to
 abbrev pub happening_asked : End → Asked → Happening
@@ -445,17 +424,14 @@ happening_asked e (Send pipe message) = Gives e (pipe, message.now)
 happening_asked e (Init identity pipes) = Inits e identity.now pipes.now
 
 pub asked_goes : (w : NodeWorld) (e : End) (asked : Asked) → goes_on w (line_asked e asked) ≡ one_step w (happening_asked e asked)
-asked_goes w e (Send pipe message) = refl
-asked_goes w e (Init identity pipes) = refl
+asked_goes w e asked = grind arith
 
 pub asked_does : (w : NodeWorld) (e : End) (asked : Asked) → e.at_host ≡ true
     → host_does w e.link NoInput (begins_with e.link (deeds_asked asked e.link)) ≡ world_step w (happening_asked e asked)
-asked_does w e (Send pipe message) at_host = refl
-asked_does w e (Init identity pipes) at_host = refl
+asked_does w e asked at_host = grind arith
 
 pub asked_mute : (asked : Asked) (h : ℕ) → AreMute (deeds_asked asked h)
-asked_mute (Send pipe message) h = sending_mute h (pipe, message.now)
-asked_mute (Init identity pipes) h = beginning_mute identity.now pipes.now
+asked_mute asked h = grind arith
 
 -- a step that a host's own number names
 pub steps_there : (w : NodeWorld) (h : ℕ) (s : Site) → site_at w.sites h ≡ Some s → s.host ≡ h → (comes : Comes) (f : ℕ → Work → Work)
@@ -524,17 +500,12 @@ split_at (x ∷ xs) h s q = go (x.host == h) refl (split_at xs h s)
 
 near_in : (front : List Site) (s t : Site) (back : List Site) (h : ℕ) → LeavesNear s t
     → (link_to (front ++ t ∷ back) h).controller ≡ (link_to (front ++ s ∷ back) h).controller
-near_in [] s t back h a = go (s.host == h) refl
-  where
-    go : (b : Bool) → (s.host == h) ≡ b → (link_to (t ∷ back) h).controller ≡ (link_to (s ∷ back) h).controller
-    go true e = let z : (t.host == h) ≡ true = ap (λ n. n == h) a.host ∙ e in rw (e, z) a.near
-    go false e = let z : (t.host == h) ≡ false = ap (λ n. n == h) a.host ∙ e in rw (e, z) refl
+near_in [] s t back h a = grind arith
 near_in (x ∷ front) s t back h a = go (x.host == h) refl (near_in front s t back h a)
   where
     go : (b : Bool) → (x.host == h) ≡ b → (link_to (front ++ t ∷ back) h).controller ≡ (link_to (front ++ s ∷ back) h).controller
         → (link_to (x ∷ (front ++ t ∷ back)) h).controller ≡ (link_to (x ∷ (front ++ s ∷ back)) h).controller
-    go true e later = rw e refl
-    go false e later = rw e later
+    go b e later = grind arith
 
 abbrev near_of : List Site → ℕ → NumberedEnd
 near_of sites h = (link_to sites h).controller
@@ -564,16 +535,12 @@ module _ (w : NodeWorld) (h : ℕ) (s : Site) (found : site_at w.sites h ≡ Som
       let node : now.0.controller ≡ w.controller = ap (λ (v : NodeWorld). v.controller) c.world in
       let one = subst (λ near. Q w.memory w.controller near) (sym all_left) world.controller in
       let two = subst (λ n. Q w.memory n (near_of now.0.sites)) (sym node) one in
-      record {
-        world = record { controller = subst (λ m. Q m now.0.controller (near_of now.0.sites)) (sym memory) two; sites = b.sites };
-        noted = b.noted;
-      }
+      grind arith
 
   pub host_becomes_unless : {Why : Type 0} (k : Power) (ks new : List HostSite) (before later : List Entry) (cause : Option Why)
       → WorldIs k ks w → SitesBecome new before later (if_accepted cause w now) → WorldBecomes k new before later (if_accepted cause w now)
   host_becomes_unless k ks new before later None world b = host_becomes k ks new before later world b
-  host_becomes_unless k ks new before later (Some cause) world b =
-      record { world = record { controller = world.controller; sites = b.sites }; noted = b.noted }
+  host_becomes_unless k ks new before later (Some cause) world b = grind arith
 
 pub loses_leaves : (e : End) (why : Loss) (s : Site) → e.at_host ≡ true → LeavesNear s (site_loses e why s)
 loses_leaves e why s q = record { host = refl; near = rw q refl }
@@ -659,10 +626,7 @@ near_kept h why (s ∷ sites) k = go (s.host == h) (s.host == k) refl refl (near
     go : (b c : Bool) → (s.host == h) ≡ b → (s.host == k) ≡ c
         → (link_to (with_site h (lost_on why) sites) k).controller ≡ (link_to sites k).controller
         → (link_to (with_site h (lost_on why) (s ∷ sites)) k).controller ≡ (link_to (s ∷ sites) k).controller
-    go true true p q later = rw p (rw q refl)
-    go true false p q later = rw p (rw q later)
-    go false true p q later = rw p (rw q refl)
-    go false false p q later = rw p (rw q later)
+    go b c p q later = grind arith
 
 all_near : (h : ℕ) (why : Loss) (sites : List Site) → near_ends (with_site h (lost_on why) sites) ≡ near_ends sites
 all_near h why sites = λ i k. near_kept h why sites k i
@@ -714,8 +678,7 @@ module _ (k : Power) (ks new : List HostSite) (noted : List Entry) (header : Hea
       go None sites =
           let s : Site = there.0 in
           let after : NodeWorld × List Entry = host_does w e.link NoInput f in
-          let b : SitesBecome new [] after.1 after =
-          record { sites = subst (λ (v : NodeWorld). SitesAre new v.sites) is sites; noted = refl } in
+          let b : SitesBecome new [] after.1 after = grind arith in
           subst StillIs (sym is)
           (host_becomes w e.link s there.1 may.goes_on.orderly (host_stepped s NoInput f) after (does_in_world w e.link s there.1 NoInput f)
           (stepped_leaves s NoInput f) k ks new [] after.1 world b).world
@@ -740,15 +703,10 @@ module _ (k : Power) (ks new : List HostSite) (noted : List Entry) (header : Hea
 -- ## Lines that no world of nodes plays
 
 pub never_busy : {header : Header} {w : NodeWorld} (said : Line) (e : End) → said ≡ line.Busy e → MayPlay header said w → ⊥
-never_busy {header} {w} said e is may =
-    let now : MayPlay header (line.Busy e) w = subst (λ l. MayPlay header l w) is may in
-    true≢false (sym now.is_header.nodes ∙ now.is_line.may_follow.0)
+never_busy said e is may = grind arith
 
 pub never_ready : {header : Header} {w : NodeWorld} (said : Line) (e : End) → said ≡ line.Ready e → MayPlay header said w → ⊥
-never_ready {header} {w} said e is may =
-    let now : MayPlay header (line.Ready e) w = subst (λ l. MayPlay header l w) is may in
-    true≢false (sym now.is_header.nodes ∙ now.is_line.may_follow.0)
+never_ready said e is may = grind arith
 
 pub never_settles : {header : Header} {w : NodeWorld} (said : Line) (rounds : ℕ) → said ≡ line.Settle rounds → MayPlay header said w → ⊥
-never_settles {header} {w} said rounds is may =
-    let now : MayPlay header (line.Settle rounds) w = subst (λ l. MayPlay header l w) is may in true≢false now.is_line.settles_not
+never_settles said rounds is may = grind arith

@@ -1,7 +1,7 @@
 -- The history of plays is legal.
-use Rattle.std.proofs.Common.{◌≡◌, inl, inr, ℕ, ◌+◌, ◌≤◌, true, false, IsTrue, List, [], ◌∷◌, ◌++◌, refl, ap, sym, ◌∙◌, arith, ◌==◌, ◌⊎◌, suc, ◌-◌, ◌^◌, min}
-use Rattle.std.proofs.Common.{Bool, cond, eqb, length, append-nil, append_assoc, length-append, length-take, subst}
-use Rattle.std.specs.Prelude.{None, Some, IsSome}
+use Rattle.std.proofs.Common.{◌≡◌, inl, inr, ℕ, ◌+◌, ◌≤◌, true, false, List, [], ◌∷◌, ◌++◌, refl, ap, sym, ◌∙◌, arith, ◌==◌, ◌⊎◌, suc, ◌-◌, ◌^◌, min, Bool}
+use Rattle.std.proofs.Common.{cond, eqb, length, append-nil, append_assoc, length-append, length-take, subst}
+use Rattle.std.specs.Prelude.{Some, IsSome}
 use Rattle.std.specs.List.{AllByRecursion, fold}
 use Rattle.std.proofs.lemmas.Bool.{true≢false, cases_Bool, eqb-true, eq-eqb}
 use Rattle.node_world.proofs.Words.{Book, Entry, FollowsNodes, Header, IsHost, IsNodeHeader, IsNodeOf, IsPlayFor, IsPlayedLine, Line, Memory, NodeHistory}
@@ -56,18 +56,8 @@ module _ (header : Header) where
   in_ranges (l ∷ ls) are = (in_range header l are.0.may_follow (not_settling l are.0.settles_not), in_ranges ls are.1)
 
   module _ (bare : header.hci ≡ false) where
-    no_nodes : IsTrue header.hci → ⊥
-    no_nodes nodes = true≢false (sym nodes ∙ bare)
-
     bare_line : (l : Line) → IsPlayedLine header l → IsLineOf header l
-    bare_line (saying.Boot node) may = absurd (no_nodes may.may_follow.0)
-    bare_line (saying.Cut node) may = absurd (no_nodes may.may_follow.0)
-    bare_line (saying.Activate host sync power) may = absurd (no_nodes may.may_follow.0)
-    bare_line (saying.Arm node nth fill) may = absurd (no_nodes may.may_follow.0)
-    bare_line (saying.Init e identity pipes) may = absurd (no_nodes may.may_follow.0)
-    bare_line (saying.Tables node) may = absurd (no_nodes may.may_follow.0)
-    bare_line (saying.Settle rounds) may = absurd (true≢false may.settles_not)
-    bare_line l may = may.may_follow
+    bare_line l may = grind arith
 
     in_bare_ranges : (ls : List Line) → AllByRecursion (IsPlayedLine header) ls → AllByRecursion (IsLineOf header) ls
     in_bare_ranges [] may = tt
@@ -77,9 +67,7 @@ module _ (header : Header) where
 
   -- a round asks for nothing
   round_asks_none : (l : Line) → IsRoundLine header l → AsksNone l
-  round_asks_none (saying.Deliver e None) is = refl
-  round_asks_none (saying.Tick None) is = refl
-  round_asks_none l is = absurd is
+  round_asks_none l is = grind arith
 
   rounds_ask_none : (ls : List Line) → AllByRecursion (IsRoundLine header) ls → lines_asking ls ≡ 0
   rounds_ask_none [] are = refl
@@ -169,23 +157,15 @@ record AreThere (k : ℕ) (b : Book) (l : Last) : Type 0 where
   all : k ≤ length b.commands
   more : IsOpen l → suc k ≤ length b.commands
 
-opened_cut : (l : Last) → IsOpen (last_after 0 l (entry.Cut 0)) → IsOpen l
-opened_cut NothingYet o = o
-opened_cut CommandLast o = tt
-opened_cut CutBehindCommand o = tt
-opened_cut OtherLast o = o
-
 module _ (k n : ℕ) where
   abbrev Keeps : List Entry → Type 0
   Keeps t = AreThere k (book_in t n) (last_in t n)
 
   found_most : (j : ℕ) (t : List Entry) → Keeps t → FindsCommands t n j → k ≤ j
-  found_most j t keeps (inl all) = omega (arith, all, keeps.all)
-  found_most j t keeps (inr less) = omega (arith, less.0, keeps.more (subst IsOpen (sym less.1) tt))
+  found_most j t keeps a = grind arith
 
   found_least : (j : ℕ) (t : List Entry) → FindsCommands t n j → j ≤ length (commands_in t n)
-  found_least j t (inl all) = omega (arith, all)
-  found_least j t (inr less) = omega (arith, less.0)
+  found_least j t a = grind arith
 
   -- they are still there behind an entry
   after_one : (t : List Entry) (e : Entry) → Keeps t → ((j : ℕ) → e ≡ entry.Booted n j → FindsCommands t n j)
@@ -197,10 +177,7 @@ module _ (k n : ℕ) where
         let longer = length-append (commands_in t n) (c ∷ []) in
         rw is (record { all = omega (arith, longer, keeps.all); more = λ o. omega (arith, longer, keeps.all) })
     by_node (inr other) = rw other keeps
-  after_one t (entry.AnyOk m j) keeps finds = by_node (cases_Bool (eqb m n)) where
-    by_node : (eqb m n ≡ true) ⊎ (eqb m n ≡ false) → AreThere k (book_after n (book_in t n) (entry.AnyOk m j)) (last_after n (last_in t n) (entry.AnyOk m j))
-    by_node (inl is) = rw is (record { all = keeps.all; more = λ o. absurd o })
-    by_node (inr other) = rw other keeps
+  after_one t (entry.AnyOk m j) keeps finds = grind arith
   after_one t (entry.Booted m j) keeps finds = by_node (cases_Bool (eqb m n)) where
     by_node : (eqb m n ≡ true) ⊎ (eqb m n ≡ false) → AreThere k (book_after n (book_in t n) (entry.Booted m j)) (last_after n (last_in t n) (entry.Booted m j))
     by_node (inl is) =
@@ -209,10 +186,7 @@ module _ (k n : ℕ) where
         let least = found_least j t here in
         rw is (record { all = omega (arith, length-take j (commands_in t n), most, least); more = λ o. absurd o })
     by_node (inr other) = rw other keeps
-  after_one t (entry.Cut m) keeps finds = by_node (cases_Bool (eqb m n)) where
-    by_node : (eqb m n ≡ true) ⊎ (eqb m n ≡ false) → AreThere k (book_after n (book_in t n) (entry.Cut m)) (last_after n (last_in t n) (entry.Cut m))
-    by_node (inl is) = rw is (record { all = keeps.all; more = λ o. keeps.more (opened_cut (last_in t n) o) })
-    by_node (inr other) = rw other keeps
+  after_one t (entry.Cut m) keeps finds = grind arith
   after_one t _ keeps finds = keeps
 
   then_one : (t : List Entry) (e : Entry) → Keeps t → ((j : ℕ) → e ≡ entry.Booted n j → FindsCommands t n j) → Keeps (t ++ e ∷ [])
@@ -238,8 +212,7 @@ module _ (k n : ℕ) where
       let book_is : book_in start n ≡ book_in front n = book_more front (entry.AnyOk n k ∷ []) n in
       let last_is : last_in start n ≡ OtherLast =
       last_more front (entry.AnyOk n k ∷ []) n ∙ ap (λ b. cond b OtherLast (last_in front n)) (eq-eqb n n refl) in
-      let first : Keeps start =
-      record { all = omega (arith, counted, ap (λ (b : Book). length b.commands) book_is); more = λ o. absurd (subst IsOpen last_is o) } in
+      let first : Keeps start = grind arith in
       let whole : start ++ back ≡ node_entries h = append_assoc front (entry.AnyOk n k ∷ []) back ∙ sym is in
       found_most found (node_entries h)
       (subst Keeps whole (still_there back start (subst AreFound (sym whole) kept.found) first)) finds
@@ -275,8 +248,7 @@ module _ (header : Header) (nodes : IsNodeHeader header) (lines : List Line) (t 
         let s = there q in
         let known = site_found (SiteKeeps entries) IsHost w.sites n s.0 keep.sites
         (subst (AllByRecursion IsHost) (sym keep.hosts_are) (hosts_are header nodes).all) s.1 in
-        let is : WouldFind s.0.memory.content (book_in entries n) (last_in entries n) =
-        subst (λ x. WouldFind s.0.memory.content (book_in entries x) (last_in entries x)) known.2 known.0.would in
+        let is : WouldFind s.0.memory.content (book_in entries n) (last_in entries n) = grind arith in
         rw (q, s.1) is
 
   found_as_kept : (n : ℕ) → ((n == 0) ≡ false → (s : Site) × (site_at (nodes_behind header lines).sites n ≡ Some s)) → (content : List ℕ)

@@ -1,13 +1,13 @@
 -- What becomes of a line at which one thing happens, or which is refused.
-use Rattle.std.proofs.Common.{◌≡◌, ℕ, ◌==◌, Bool, true, false, List, [], ◌∷◌, length, refl, sym, subst, ◌∙◌, append-nil, arith, ◌≢◌, ◌++◌, ap}
+use Rattle.std.proofs.Common.{◌≡◌, ℕ, ◌==◌, Bool, true, false, List, [], ◌∷◌, length, refl, sym, subst, ◌∙◌, append-nil, arith, ◌≢◌, ◌++◌}
 use Rattle.std.specs.Prelude.{Option, Some, None, Contains, IsTrue, is_some, option_map}
 use Rattle.std.specs.List.{AllByRecursion, list_any}
 use Rattle.std.proofs.lemmas.Bool.{eq-eqb, true≢false}
 use Rattle.std.proofs.lemmas.List.Elements.{All-contains, All-from_recursion}
-use Rattle.node_world.proofs.Words.{AsksReset, End, Entry, Finds, Happening, Header, HostSite, IsNodeOf, IsThere, IsWithinBounds, Line, LineOutcome}
-use Rattle.node_world.proofs.Words.{LinePlayed, LinkEnd, Loses, Loss, MayPlay, NoCause, Power, Running, Site, SitesAre, SitesBecome, Takes, WasRefused}
-use Rattle.node_world.proofs.Words.{WorldBecomes, WorldIs, frames_at, if_off, is_running, is_waiting, line_step, machine_in, misread_in, node_at, node_of}
-use Rattle.node_world.proofs.Words.{refusal_coming, refusal_in, reset_refusal, site_at, world_step}
+use Rattle.node_world.proofs.Words.{AsksReset, End, Entry, Finds, Happening, Header, HostSite, IsNodeOf, IsThere, IsWithinBounds, Line, LineOutcome, LinePlayed}
+use Rattle.node_world.proofs.Words.{LinkEnd, Loses, Loss, MayPlay, NoCause, Power, Running, Site, SitesAre, SitesBecome, Takes, WasRefused, WorldBecomes}
+use Rattle.node_world.proofs.Words.{WorldIs, frames_at, if_off, is_running, line_step, machine_in, misread_in, node_at, node_of, refusal_coming, refusal_in}
+use Rattle.node_world.proofs.Words.{reset_refusal, site_at, world_step}
 use Rattle.trace_model.specs.declared.entry.Entry.TheVariants as note
 use Rattle.node_machine.specs.world.World.{NodeWorld}
 use Rattle.node_machine.specs.world.Lines.{goes_on, first_cause}
@@ -15,10 +15,9 @@ use Rattle.node_machine.specs.world.Lines.LineOutcome.{Occurred}
 use Rattle.node_laws.specs.telling.Telling.{hosts_in}
 use Rattle.trace_model.specs.declared.entry.NoCause.TheVariants as no
 use Rattle.trace_model.specs.declared.line.Line.TheVariants as line
-use Rattle.link_laws.specs.machine.Machine.{is_open}
 use Rattle.link_laws.specs.sessions.Sessions.{OnWire}
 use Rattle.link_end.specs.Reports.{reset_refused}
-use Rattle.history.specs.Follows.{as_noted, first_verdict, if_empty, if_out_of_reach, other_frame}
+use Rattle.history.specs.Follows.{as_noted, first_verdict, if_empty, if_out_of_reach}
 use Rattle.arrayvec.specs.ArrayVec.{ArrayVec}
 use Rattle.history.specs.Damage.Verdict.{Same, LostFor}
 use Rattle.link_wires.specs.declared.finding.Damaged.{Damaged}
@@ -38,8 +37,7 @@ none_there h (x ∷ sites) q = go (x.host == h) refl (none_there h sites)
   where
     go : (b : Bool) → (x.host == h) ≡ b → (site_at sites h ≡ None → AllByRecursion (λ k. (k == h) ≡ false) (hosts_in sites))
         → AllByRecursion (λ k. (k == h) ≡ false) (hosts_in (x ∷ sites))
-    go true e later = let z : Some x ≡ None = rw e at q in absurd (cc z)
-    go false e later = (e, later (rw e at q))
+    go b e later = grind arith
 
 -- a host of the header is there
 pub is_there : {header : Header} {said : Line} {w : NodeWorld} (h : ℕ) → MayPlay header said w → Contains header.hosts.items h → IsThere h w
@@ -116,12 +114,10 @@ module _ (w : NodeWorld) (e : End) where
       go (x ∷ xs) q = refl
 
 pub stands_there : (o : Option Running) → is_some o ≡ true → o ≢ None
-stands_there None e none = absurd (cc e)
-stands_there (Some r) e none = absurd (cc none)
+stands_there o e none = grind arith
 
 pub stands_not : (o : Option Running) → is_some o ≡ false → o ≡ None
-stands_not None e = refl
-stands_not (Some r) e = absurd (cc e)
+stands_not o e = grind arith
 
 -- ## What becomes of a line
 
@@ -129,8 +125,7 @@ module _ (w : NodeWorld) (said : Line) (k : Power) (ks : List HostSite) (before 
     (none : before ≡ []) where
   pub line_refused : (cause : NoCause) → refusal_in w said ≡ Some cause → WorldIs k ks w
       → now ≡ before ++ note.No cause ∷ [] → LinePlayed k ks now (line_step w said)
-  line_refused cause e world noted =
-      world_refused w said k ks cause now e world (noted ∙ ap (λ es. es ++ note.No cause ∷ []) none)
+  line_refused cause e world noted = grind arith
 
   pub line_goes : (c : Happening) → goes_on w said ≡ one_step w c → refusal_in w said ≡ None → WorldBecomes k ks before now (world_step w c)
       → LinePlayed k ks now (line_step w said)
@@ -172,37 +167,22 @@ boots_free w n e = rw e refl
 
 -- an end that isn't reset tells so in one of two ways
 told_so : (e : LinkEnd) → as_noted (reset_refusal e) ≡ option_map reset_noted (option_map reset_refused (reset_refusal e))
-told_so e = go (is_open e.role) (is_waiting e.shdlc) refl refl
-  where
-    go : (a b : Bool) → is_open e.role ≡ a → is_waiting e.shdlc ≡ b
-        → as_noted (reset_refusal e) ≡ option_map reset_noted (option_map reset_refused (reset_refusal e))
-    go true true p q = rw (p, q) refl
-    go true false p q = rw (p, q) refl
-    go false b p q = rw p refl
-
-coming_so : (node : Option Running) (e : LinkEnd) (window : Option ℕ) → is_some node ≡ true
-    → option_map reset_refused (reset_refusal e) ≡ refusal_coming node e (AsksReset window)
-coming_so None e window q = absurd (cc q)
-coming_so (Some r) e window q = refl
+told_so e = grind arith
 
 pub reset_runs : (w : NodeWorld) (at : End) (window : Option ℕ) → is_running w (node_of at) ≡ true
     → refusal_in w (line.Reset at window) ≡ option_map reset_noted (refusal_coming (node_at w (node_of at)) (machine_in w at) (AsksReset window))
-reset_runs w at window on =
-    second_is (if_off w (node_of at)) (as_noted (reset_refusal (machine_in w at))) _ (on_is w (node_of at) on)
-    (told_so (machine_in w at) ∙ ap (option_map reset_noted) (coming_so (node_at w (node_of at)) (machine_in w at) window on))
+reset_runs w at window on = grind arith
 
 -- What becomes of a line that damages a frame, and which lines do.
 
 -- ## Which lines damage a frame
 
 pub is_sound : (said : Line) → ((e : End) (places : ArrayVec ℕ) → said ≡ line.Damage e places → ⊥) → is_damaging said ≡ false
-is_sound (line.Damage e places) none = absurd (none e places refl)
-is_sound said none = refl
+is_sound said none = grind arith
 
 -- no other frame is read at a line that damages none
 pub sound_reads : (w : NodeWorld) (said : Line) → is_damaging said ≡ false → misread_in w said ≡ None
-sound_reads w (line.Damage e places) q = absurd (true≢false q)
-sound_reads w said q = refl
+sound_reads w said q = grind arith
 
 -- ## What becomes of it
 
@@ -222,10 +202,6 @@ module _ (w : NodeWorld) (e : End) (places : ArrayVec ℕ) where
   pub misread_not : (cause : NoCause) → refusal_in w (line.Damage e places) ≡ Some cause → misread_in w (line.Damage e places) ≡ None
   misread_not cause q = rw q refl
 
-  pub misread_is : (o : Option (List ℕ)) → refusal_in w (line.Damage e places) ≡ None
-      → other_frame (first_verdict (frames_at w e) places.items) ≡ o → misread_in w (line.Damage e places) ≡ o
-  misread_is o q same = rw q same
-
   pub same_is : first_verdict (frames_at w e) places.items ≡ Some Same → is_running w (node_of e) ≡ true
       → goes_on w (line.Damage e places) ≡ one_step w (Takes e)
   same_is q can = rw (q, can) refl
@@ -236,7 +212,4 @@ module _ (w : NodeWorld) (e : End) (places : ArrayVec ℕ) where
 
   pub finds_read : (d : Damaged) → is_running w (node_of e) ≡ true → Finds (frames_at w e) places.items d
       → misread_in w (line.Damage e places) ≡ read_there d
-  finds_read (found.Refused cause) on f = misread_not cause (on_refused (Some cause) on f)
-  finds_read found.Same on f = misread_is None (on_refused None on f.0) (ap other_frame f.1)
-  finds_read (found.Lost cause) on f = misread_is None (on_refused None on f.0) (ap other_frame f.1.1)
-  finds_read (found.Undetected other) on f = misread_is (Some other.read) (on_refused None on f.0) (ap other_frame f.1)
+  finds_read d on f = grind arith

@@ -3,9 +3,8 @@ use Rattle.std.proofs.Common.{◌≡◌, ℕ, ◌+◌, ◌<◌, ◌≤◌, Bool,
 use Rattle.std.proofs.Common.{append_assoc, arith, length-append}
 use Rattle.std.specs.Prelude.{◌&&◌, Option, Some, None}
 use Rattle.std.specs.List.{AllByRecursion, list_all}
-use Rattle.node_world.proofs.Words.{AreTimely, Clf, Core, Desk, HasEnds, HostSite, IfItRuns, IsNodePlace, MayGoOn, Memory, Node, NumberedEnd, Off, On}
-use Rattle.node_world.proofs.Words.{OnWire, Port, Power, Running, RunsAs, Site, SiteIs, SitesAre, Uicc, is_clear, link_is, link_to, new_clf, new_link_end}
-use Rattle.node_world.proofs.Words.{new_uicc, port_for, site_at}
+use Rattle.node_world.proofs.Words.{AreTimely, Clf, Core, Desk, HasEnds, HostSite, IfItRuns, IsNodePlace, MayGoOn, Memory, Node, NumberedEnd, Off, On, OnWire}
+use Rattle.node_world.proofs.Words.{Port, Power, Running, RunsAs, Site, SiteIs, SitesAre, is_clear, link_is, link_to, new_clf, new_link_end, port_for, site_at}
 use Rattle.link_laws.specs.machine.AtRest.{end_rests}
 use Rattle.link_laws.specs.messages.Rest.{link_rests}
 use Rattle.node_machine.specs.world.World.{NodeWorld}
@@ -19,22 +18,18 @@ use Rattle.node_world.proofs.SitesKept.{There, there, as_many}
 -- ## Wires
 
 pub clear : (wire : List OnWire) (n : ℕ) → n ≡ length wire → n ≡ 0 → is_clear wire ≡ true
-clear [] n is none = refl
-clear (x ∷ xs) n is none = absurd (omega (arith, is, none))
+clear wire n is none = grind arith
 
 pub not_clear : (wire : List OnWire) (n : ℕ) → n ≡ length wire → (n ≡ 0 → ⊥) → is_clear wire ≡ false
-not_clear [] n is some = absurd (some is)
-not_clear (x ∷ xs) n is some = refl
+not_clear wire n is some = grind arith
 
 -- ## Ends
 
 and_false : (b : Bool) → (b && false) ≡ false
-and_false true = refl
-and_false false = refl
+and_false b = grind arith
 
 and_true : (b : Bool) → (b && true) ≡ b
-and_true true = refl
-and_true false = refl
+and_true b = grind arith
 
 -- the ends of a node, by the hosts of their links
 ends_rest : (near_ends : ℕ → NumberedEnd) (desks : List Desk)
@@ -50,11 +45,6 @@ host_end_rests s r runs a =
     let node : HasEnds s.host (s.host ∷ []) r = subst (IfItRuns s.host (s.host ∷ [])) runs a.ends in
     ends_rest (λ h. s.link.host) r.desks
     ∙ (ap (list_all (λ (h : ℕ). end_rests s.link.host.side)) node.ends ∙ and_true (end_rests s.link.host.side))
-
-pub new_host_rests : (s : Site) → s.node ≡ None → IsToLookAt s → end_rests s.link.host.side ≡ true
-new_host_rests s off a =
-    let new : s.link.host.side ≡ new_link_end (Uicc new_uicc) = rw off at a.off in
-    ap end_rests new
 
 pub far_is : (s : Site) (b : Bool) → is_clear s.link.to_controller ≡ true → is_clear s.link.to_host ≡ true → b ≡ end_rests s.link.host.side
     → b ≡ far_rests s
@@ -121,12 +111,7 @@ host_says k s n b is on may says =
     go None q place = absurd place
 
 pub host_is_new : (k : HostSite) (s : Site) (m : Memory) → SiteIs k s → k.power ≡ Off m → IsToLookAt s → true ≡ end_rests s.link.host.side
-host_is_new k s m is off may =
-    go s.node refl (subst (λ (p : Power). IsNodePlace p s.memory s.node (λ h. s.link.host)) off is.place)
-  where
-    go : (o : Option Running) → s.node ≡ o → IsNodePlace (Off m) s.memory o (λ h. s.link.host) → true ≡ end_rests s.link.host.side
-    go None q place = sym (new_host_rests s q may)
-    go (Some r) q place = absurd place
+host_is_new k s m is off may = grind arith
 
 module _ (w : NodeWorld) (may : MayGoOn w) (k : Power)
     (is : IsNodePlace k w.memory w.controller (λ h. (link_to w.sites h).controller)) where
@@ -153,11 +138,7 @@ module _ (w : NodeWorld) (may : MayGoOn w) (k : Power)
 -- ## All links
 
 mixed : (a b c d n f : Bool) → ((a && b && c && d) && (n && f)) ≡ ((c && n) && ((a && b && d) && f))
-mixed true true true true n f = refl
-mixed true true true false n f = sym (and_false n)
-mixed true true false d n f = refl
-mixed true false c d n f = sym (and_false (c && n))
-mixed false b c d n f = sym (and_false (c && n))
+mixed a b c d n f = grind arith
 
 pub links_rest : (sites : List Site) → sites_rest sites ≡ (list_all near_rests sites && list_all far_rests sites)
 links_rest [] = refl
@@ -182,8 +163,7 @@ all_with f [] ys = refl
 all_with f (x ∷ xs) ys = ap (λ b. f x && b) (all_with f xs ys) ∙ go (f x)
   where
     go : (b : Bool) → (b && (list_all f xs && list_all f ys)) ≡ ((b && list_all f xs) && list_all f ys)
-    go true = refl
-    go false = refl
+    go b = grind arith
 
 last_of : (Q : Site → Type 0) (front : List Site) (s : Site) (back : List Site) → AllByRecursion Q (front ++ s ∷ back) → Q s
 last_of Q [] s back a = a.0

@@ -1,6 +1,6 @@
 -- What a node of a world finds as it boots is of version 02.
-use Rattle.std.proofs.Common.{◌≡◌, List, ℕ, refl, ◌⊎◌, inl, inr, suc, ◌-◌, ◌^◌, ◌≤◌, min, false, cond, [], ◌∷◌, ◌++◌, length, map, take, sym, ap, ◌∙◌, subst}
-use Rattle.std.proofs.Common.{arith, length-take, eqb, Bool, true, ◌==◌}
+use Rattle.std.proofs.Common.{◌≡◌, List, ℕ, refl, ◌⊎◌, inl, inr, ◌-◌, ◌^◌, ◌≤◌, min, false, cond, [], ◌∷◌, ◌++◌, length, map, take, sym, ap, ◌∙◌, subst, arith}
+use Rattle.std.proofs.Common.{length-take, eqb, Bool, true, ◌==◌}
 use Rattle.std.specs.Prelude.{Option, Some, None, IsSome, is_some, replicate}
 use Rattle.std.specs.Option.{option_map_or}
 use Rattle.std.specs.List.{AllByRecursion}
@@ -26,7 +26,6 @@ use Rattle.hci_store.proofs.Starting.{counted}
 use Rattle.node_machine.specs.Parts.{Creation}
 use Rattle.node_machine.specs.Controller.{asked_at}
 use Rattle.node_machine.specs.world.NodeFilters.{with_found, commands_in}
-use Rattle.node_machine.specs.world.NodeLegal.Last.{CutBehindCommand}
 use Rattle.node_laws.specs.kept.Finds.{Knows}
 use Rattle.node_laws.specs.kept.Books.{WaitsFor}
 use Rattle.node_laws.specs.kept.Worlds.{NodeKeeps, SiteKeeps, AllKeep, MayHappen}
@@ -50,8 +49,7 @@ pub boots_find_version_02 : (content : List ℕ) (book : Book) (last : Last) →
 boots_find_version_02 content book last w = go (current content)
   where
     go : (bank : Option Side) → (started_state (state_by bank (journal content) (is_open_beside content))).version ≡ 2
-    go None = refl
-    go (Some side) = w.finds.version
+    go bank = grind arith
 
 -- What a boot leaves of a world whose nodes keep what is read of some entries, however many commands these have.
 
@@ -86,20 +84,10 @@ module _ (n : ℕ) (hosts : List ℕ) (t : List Entry) (m : Memory) (would : Wou
   as_found = entry.Booted n would.many
 
   pub told_as_found : FindsCommands t n would.many
-  told_as_found = go would.which
-    where
-      go : (would.many ≡ length book.commands) ⊎ ((suc would.many ≡ length book.commands) × (last_in t n ≡ CutBehindCommand) × IsSome (current content))
-          → FindsCommands t n would.many
-      go (inl all) = inl all
-      go (inr less) = inr (less.0, less.1)
+  told_as_found = grind arith
 
   most : would.many ≤ length book.commands
-  most = go would.which
-    where
-      go : (would.many ≡ length book.commands) ⊎ ((suc would.many ≡ length book.commands) × (last_in t n ≡ CutBehindCommand) × IsSome (current content))
-          → would.many ≤ length book.commands
-      go (inl all) = omega (arith, all)
-      go (inr less) = let z = less.0 in omega (arith, z)
+  most = grind arith
 
   knows_now : (o : Option Side) → current content ≡ o → Knows (after_writes (boot_writes content) content) now (close (tables_of content))
   knows_now (Some side) is =
@@ -157,13 +145,11 @@ planned_reads [] m = refl
 planned_reads (w ∷ writes) m = go (is_next m.plan) (planned_reads writes (memory_after m w.at w.bytes))
   where
     one : (b : Bool) → is_next m.plan ≡ b → (memory_after m w.at w.bytes).failing_read ≡ m.failing_read
-    one true q = rw q refl
-    one false q = rw q refl
+    one b q = grind arith
 
     go : (b : Bool) → (after_planned writes (memory_after m w.at w.bytes)).failing_read ≡ (memory_after m w.at w.bytes).failing_read
         → (cond b (memory_after m w.at w.bytes) (after_planned writes (memory_after m w.at w.bytes))).failing_read ≡ m.failing_read
-    go true later = one (is_next m.plan) refl
-    go false later = later ∙ one (is_next m.plan) refl
+    go b later = grind arith
 
 -- ## Sites
 
@@ -180,8 +166,7 @@ one_of h f keeps [] a = tt
 one_of h f keeps (s ∷ sites) a = (go (s.host == h), one_of h f keeps sites a.1)
   where
     go : (b : Bool) → (changed_if b f s).memory.failing_read ≡ None
-    go true = keeps s a.0
-    go false = a.0
+    go b = grind arith
 
 pub reads_at_first : (hosts : List ℕ) → ReadsGoThrough (new_world hosts)
 reads_at_first hosts = record { controller = refl; hosts = go hosts }
@@ -430,8 +415,7 @@ module _ (hosts : List ℕ) (are : AreHosts hosts) where
       where
         go : (eqb s.host n ≡ true) ⊎ (eqb s.host n ≡ false) → (site_at sites n ≡ None → AllByRecursion (λ k. eqb k n ≡ false) (hosts_in sites))
             → AllByRecursion (λ k. eqb k n ≡ false) (hosts_in (s ∷ sites))
-        go (inl is) later = let found_it : Some s ≡ None = sym (ap (λ b. cond b (Some s) (site_at sites n)) is) ∙ e in absurd (cc found_it)
-        go (inr off) later = (off, later (sym (ap (λ b. cond b (Some s) (site_at sites n)) off) ∙ e))
+        go a later = grind arith
 
     -- nothing is read of a node that isn't there
     nobody_boots : (n : ℕ) → eqb n 0 ≡ false → site_at w.sites n ≡ None → KeepSome hosts (boots w n).0

@@ -59,10 +59,7 @@ found_still h (x ∷ xs) (y ∷ ys) s q found =
     go : x.host ≡ y.host → (b : Bool) → (y.host == h) ≡ b → (site_at ys h ≡ Some s → (t : Site) × (site_at xs h ≡ Some t))
         → (t : Site) × (site_at (x ∷ xs) h ≡ Some t)
     go same true e later = let z : (x.host == h) ≡ true = ap (λ n. n == h) same ∙ e in (x, rw z refl)
-    go same false e later =
-        let z : (x.host == h) ≡ false = ap (λ n. n == h) same ∙ e in
-        let r = later (rw e at found) in
-        (r.0, rw z r.1)
+    go same false e later = grind arith
 
 pub there_still : (h : ℕ) (v w : NodeWorld) → hosts_in v.sites ≡ hosts_in w.sites → IsThere h w → IsThere h v
 there_still h v w q there = found_still h v.sites w.sites there.0 q there.1
@@ -70,20 +67,14 @@ there_still h v w q there = found_still h v.sites w.sites there.0 q there.1
 -- ## Few frames are on their way
 
 pub few_on_way : (to : End) (h : ℕ) (ks : List HostSite) (sites : List Site) → SitesAre ks sites → length (frames_to (link_to sites h) to) ≤ 64
-few_on_way to h [] [] a = go to.at_host refl
-  where
-    go : (b : Bool) → to.at_host ≡ b → length (frames_to (link_to [] h) to) ≤ 64
-    go true e = rw e (omega arith)
-    go false e = rw e (omega arith)
+few_on_way to h [] [] a = grind arith
 few_on_way to h (k ∷ ks) (s ∷ sites) a = go (s.host == h) refl (few_on_way to h ks sites a.1)
   where
     here : (b : Bool) → to.at_host ≡ b → length (frames_to s.link to) ≤ 64
-    here true e = rw e a.0.wires.there.wire_is.few
-    here false e = rw e a.0.wires.here.wire_is.few
+    here b e = grind arith
 
     go : (b : Bool) → (s.host == h) ≡ b → length (frames_to (link_to sites h) to) ≤ 64 → length (frames_to (link_to (s ∷ sites) h) to) ≤ 64
-    go true e later = rw e (here to.at_host refl)
-    go false e later = rw e later
+    go b e later = grind arith
 few_on_way to h [] (s ∷ sites) a = absurd a
 few_on_way to h (k ∷ ks) [] a = absurd a
 
@@ -129,8 +120,7 @@ pub happens_first : (v : NodeWorld) (c : Happening) (m : ℕ) → can_happen v c
 happens_first v c m can = rw can refl
 
 pub happens_not : (v : NodeWorld) (c : Happening) (m : ℕ) → can_happen v c ≡ false → all_happen v (replicate m c) ≡ (v, [])
-happens_not v c zero can = refl
-happens_not v c (suc m) can = rw can refl
+happens_not v c m can = grind arith
 
 module _ (w : NodeWorld) (c : Happening) (most : ℕ) where
   abbrev IsSo : Power → List HostSite → List Entry → List Entry → ℕ → Type 0
@@ -245,8 +235,7 @@ taken_may (suc n) w e may = go (can_happen w (Takes e)) refl (taken_may n (world
 
     go : (b : Bool) → can_happen w (Takes e) ≡ b → MayGoOn (all_happen (world_step w (Takes e)).0 (replicate n (Takes e))).0
         → MayGoOn (all_happen w (replicate (suc n) (Takes e))).0
-    go true q later = subst (λ (p : NodeWorld × List Occurrence). MayGoOn p.0) (sym (happens_first w (Takes e) n q)) later
-    go false q later = subst (λ (p : NodeWorld × List Occurrence). MayGoOn p.0) (sym (happens_not w (Takes e) (suc n) q)) may
+    go b q later = grind arith
 
 taken_few : (n m : ℕ) (w : NodeWorld) (e : End) → m ≤ 64 → FewBehind n w → FewBehind (n + 128) (all_happen w (replicate m (Takes e))).0
 taken_few n m w e most few =
@@ -366,11 +355,7 @@ module _ (w : NodeWorld) where
       → map (λ (x : HostSite). x.host) ks ≡ front ++ h ∷ back → length front ≡ i → site ≡ get_or ks i site → site.host ≡ h
   host_read [] [] h back i site q place read = let z : [] ≡ h ∷ back = q in absurd (cc z)
   host_read [] (x ∷ front) h back i site q place read = let z : [] ≡ x ∷ (front ++ h ∷ back) = q in absurd (cc z)
-  host_read (k ∷ ks) [] h back i site q place read =
-      let z : k.host ∷ map (λ (x : HostSite). x.host) ks ≡ h ∷ back = q in
-      let same : k.host ≡ h = cc in
-      let here : site ≡ k = read ∙ ap (λ n. get_or (k ∷ ks) n site) (sym place) in
-      ap (λ (x : HostSite). x.host) here ∙ same
+  host_read (k ∷ ks) [] h back i site q place read = grind arith
   host_read (k ∷ ks) (x ∷ front) h back i site q place read =
       let z : k.host ∷ map (λ (y : HostSite). y.host) ks ≡ x ∷ (front ++ h ∷ back) = q in
       let rest : map (λ (y : HostSite). y.host) ks ≡ front ++ h ∷ back = cc in

@@ -7,7 +7,7 @@ use Rattle.std.proofs.lemmas.List.{get_or_at, set_at, length-append, length-map,
 use Rattle.std.proofs.lemmas.List.{get_or-set_other, take-append-drop}
 use Rattle.std.proofs.lemmas.Grind.{flat_map-append}
 use Rattle.std.specs.Option.{option_map_or}
-use Rattle.std.proofs.lemmas.Bool.{eqb-true, eqb-false}
+use Rattle.std.proofs.lemmas.Bool.{eqb-false}
 use Rattle.node_world.proofs.Words.{AreDifferent, AreSessions, Control, Controller, Entry, HasOneEnd, HaveRoom, HostSite, IsHost, IsNodePlace, IsOnly, Link}
 use Rattle.node_world.proofs.Words.{NumberedEnd, Port, Site, SiteIs, SitesAre, StandsAt, Wires, WiresStandFor, changed_if, entries_for, frames_emitted}
 use Rattle.node_world.proofs.Words.{frames_out, number_of, port_at, put_all, puts_entries, sent_port, sent_to, site_at, swapped, with_port}
@@ -174,12 +174,7 @@ one_stays k h (x ∷ ports) p q a = (go (x.desk.host == k) refl, one_stays k h p
   where
     go : (b : Bool) → (x.desk.host == k) ≡ b → ((changed_if (x.desk.host == k) sent_port x).desk.host == h) ≡ true
         → changed_if (x.desk.host == k) sent_port x ≡ p
-    go true e is =
-        let there : (x.desk.host == h) ≡ true = rw e at is in
-        let same : x.desk.host ≡ k = eqb-true x.desk.host k e in
-        let other : (x.desk.host == h) ≡ false = ap (λ n. n == h) same ∙ q in
-        absurd (let z : true ≡ false = sym there ∙ other in cc)
-    go false e is = rw e (a.0 (rw e at is))
+    go b e is = grind arith
 
 found_stays : (k h : ℕ) (ports : List Port) (p : Port) → (k == h) ≡ false → port_at ports h ≡ Some p → port_at (with_port k sent_port ports) h ≡ Some p
 found_stays k h [] p q f = absurd (cc f)
@@ -187,13 +182,7 @@ found_stays k h (x ∷ ports) p q f = go (x.desk.host == k) (x.desk.host == h) r
   where
     go : (b c : Bool) → (x.desk.host == k) ≡ b → (x.desk.host == h) ≡ c
         → (port_at ports h ≡ Some p → port_at (with_port k sent_port ports) h ≡ Some p) → port_at (with_port k sent_port (x ∷ ports)) h ≡ Some p
-    go true true e d later =
-        let same : x.desk.host ≡ k = eqb-true x.desk.host k e in
-        let other : (x.desk.host == h) ≡ false = ap (λ n. n == h) same ∙ q in
-        absurd (let z : true ≡ false = sym d ∙ other in cc)
-    go true false e d later = rw e (rw d (later (rw d at f)))
-    go false true e d later = rw e (rw d (rw d at f))
-    go false false e d later = rw e (rw d (later (rw d at f)))
+    go b c e d later = grind arith
 
 -- an end stays as it is while frames go out to others
 pub stays : (hosts : List ℕ) (h : ℕ) (ports : List Port) (p : Port) → AllByRecursion (λ k. (k == h) ≡ false) hosts → port_at ports h ≡ Some p
@@ -271,9 +260,7 @@ sends_next Runs ports now hosts before after i k different ends s lt read =
           let W : List Control → Type 0 = λ cs. WiresStandFor new (put_all x.link cs) in
           let site : SiteIs (record k { wires = new }) (has_frames ports x) =
           with_frames k new x (due_at ports x.host) n.here (subst W (sym due) wires) in
-          let told : later ≡ after ++ frames_emitted ports x =
-          noted ∙ (ap (λ h. after ++ entries_for h (puts_entries Controller x.link (frames_out one.port.side))) n.here.host
-          ∙ ap (λ cs. after ++ entries_for x.host (puts_entries Controller x.link cs)) (sym due)) in
+          let told : later ≡ after ++ frames_emitted ports x = grind arith in
           let longer = n.goes (record k { wires = new }) later site told in
           let names : sent_to (hosts_in longer.walked.done) ports ≡ with_port x.host sent_port now_ends =
           ap (λ xs. sent_to (hosts_in xs) ports) longer.done_is
@@ -347,14 +334,7 @@ pub place_found : (i h : ℕ) (ks : List HostSite) (sites : List Site) (k : Host
     → i < length ks → k ≡ get_or ks i k → k.host ≡ h → StandsAt i h sites
 place_found i h ks sites k a p lt read host =
     let t = there i ks p.front p.back k (subst (SitesAre ks) p.is a) p.place lt read in
-    record {
-      front = p.front;
-      site = t.site;
-      back = t.rest;
-      is = p.is ∙ ap (λ xs. p.front ++ xs) t.is;
-      place = p.place;
-      host = sym t.here.host ∙ host;
-    }
+    grind arith
 
 -- so it is wherever it was looked for
 pub place_is : (i h : ℕ) (ks : List HostSite) (sites : List Site) (k : HostSite) → SitesAre ks sites
@@ -364,14 +344,7 @@ place_is i h ks sites k a lt read host =
     let many : length ks ≡ length sites = as_many ks sites a in
     let long : length (take i sites) ≡ i = length-take-le i sites (omega (arith, many, lt)) in
     let t = there i ks (take i sites) (drop i sites) k (subst (SitesAre ks) (sym parts) a) long lt read in
-    record {
-      front = take i sites;
-      site = t.site;
-      back = t.rest;
-      is = sym parts ∙ ap (λ xs. take i sites ++ xs) t.is;
-      place = long;
-      host = sym t.here.host ∙ host;
-    }
+    grind arith
 
 -- or not
 pub passes_by : (i h : ℕ) (ks : List HostSite) (sites : List Site) (k : HostSite) → SitesAre ks sites → PassedBy i h sites

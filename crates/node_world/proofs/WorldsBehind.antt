@@ -1,25 +1,24 @@
 -- What may stand below a header of nodes is what the laws of worlds of nodes ask for.
-use Rattle.std.proofs.Common.{◌≡◌, ℕ, ◌<◌, ◌==◌, false, List, [], ◌∷◌, sym, arith, Bool, true, ◌++◌, refl, subst, ◌≢◌, zero, suc, ◌+◌, ◌≤◌, ap₂, ◌∙◌, length}
-use Rattle.std.proofs.Common.{ap, append_assoc}
-use Rattle.std.specs.Prelude.{Some, None, ◌||◌, cond, Option, not, ◌&&◌, if◌then◌else◌}
+use Rattle.std.proofs.Common.{◌≡◌, ℕ, ◌<◌, ◌==◌, false, List, [], ◌∷◌, sym, arith, Bool, true, ◌++◌, refl, subst, ◌≢◌, zero, suc, ◌+◌, ◌≤◌, ◌∙◌, length, ap}
+use Rattle.std.proofs.Common.{append_assoc}
+use Rattle.std.specs.Prelude.{Some, None, ◌||◌, Option, not, ◌&&◌, if◌then◌else◌}
 use Rattle.std.specs.List.{AllByRecursion, list_any, filter, range_with_len}
 use Rattle.std.specs.List.Sorted.{IsStrictlySortedBy}
 use Rattle.std.specs.declared.cmp.Ordering.TheVariants.{Less}
 use Rattle.std.specs.Ordering.{nat_cmp}
-use Rattle.std.proofs.lemmas.Bool.{ne_eqb, true≢false, eq-eqb, eqb-true}
+use Rattle.std.proofs.lemmas.Bool.{ne_eqb, true≢false, eq-eqb}
 use Rattle.std.proofs.lemmas.Cmp.{ranked}
 use Rattle.std.proofs.lemmas.List.Elements.{recursion_from_All}
 use Rattle.std.proofs.lemmas.Map.Keys.{sorted_head, sorted_tail, sorted_from_strictly_increasing}
 use Rattle.std.specs.Option.{option_map, option_map_or}
 use Rattle.std.proofs.lemmas.List.{length-map}
-use Rattle.node_world.proofs.Words.{AreDifferent, AreTimely, End, Entry, FewBehind, FollowsNodes, Header, IsHost, IsNodeHeader, IsNodeOf, IsPlayable}
-use Rattle.node_world.proofs.Words.{IsPlayedLine, IsSentByHost, IsSoundMemory, Line, MayGoOn, MayPlay, Memory, NodeHistory, NoneIsMisread, Running, Side, Site}
-use Rattle.node_world.proofs.Words.{after-append, after_planned, boot_found, boot_writes, boot_written, boots, count_of, current, ends_in_order, ends_take_all}
-use Rattle.node_world.proofs.Words.{fails_within, frames_at, has, host_cut, is_clear, is_running, loses_power_at, mask_of, memory_at, new_world, node_at}
-use Rattle.node_world.proofs.Words.{node_of, nodes_behind, site_at, started_state, state_of, with_memory, with_node, with_site}
+use Rattle.node_world.proofs.Words.{AreTimely, End, Entry, FewBehind, FollowsNodes, Header, IsHost, IsNodeHeader, IsNodeOf, IsPlayable, IsPlayedLine}
+use Rattle.node_world.proofs.Words.{IsSentByHost, IsSoundMemory, Line, MayGoOn, MayPlay, Memory, NodeHistory, NoneIsMisread, Running, Side, Site, after-append}
+use Rattle.node_world.proofs.Words.{after_planned, boot_found, boot_writes, boot_written, boots, count_of, current, ends_in_order, ends_take_all, fails_within}
+use Rattle.node_world.proofs.Words.{frames_at, has, host_cut, is_clear, is_running, loses_power_at, mask_of, memory_at, new_world, node_at, node_of}
+use Rattle.node_world.proofs.Words.{nodes_behind, site_at, started_state, state_of, with_memory, with_node, with_site}
 use Rattle.trace_model.specs.Lines.{MayFollow}
 use Rattle.trace_model.specs.declared.line.Line.TheVariants as line
-use Rattle.node_laws.specs.kept.Hosts.{AreHosts}
 use Rattle.node_machine.specs.world.World.{NodeWorld}
 use Rattle.node_machine.specs.world.NodeHistories.{occurrences_in, steps_from, world_after}
 use Rattle.node_laws.specs.telling.Telling.{hosts_in}
@@ -61,39 +60,10 @@ each_line P Q one [] a = tt
 each_line P Q one (l ∷ lines) a = (one l a.0, each_line P Q one lines a.1)
 
 pub playable : (header : Header) (l : Line) → MayFollow header l → IsPlayable l
-playable header (line.Send e pid message) is = (is.pipe, is.some)
-playable header (line.Reset e None) is = tt
-playable header (line.Reset e (Some w)) is = let low = is.1.0 in (omega (arith, low), is.1.1)
-playable header (line.Deliver e count) is = tt
-playable header (line.Lose e) is = tt
-playable header (line.Damage e places) is = tt
-playable header (line.Tick times) is = tt
-playable header (line.Busy e) is = tt
-playable header (line.Ready e) is = tt
-playable header (line.Boot node) is = tt
-playable header (line.Cut node) is = tt
-playable header (line.Activate host sync power) is = tt
-playable header (line.Arm node nth fill) is = tt
-playable header (line.Init e identity pipes) is = tt
-playable header (line.Tables node) is = tt
-playable header (line.Settle rounds) is = tt
+playable header l is = grind arith
 
 pub sent_by_host : (header : Header) → IsNodeHeader header → (l : Line) → MayFollow header l → IsSentByHost l
-sent_by_host header nodes (line.Send e pid message) is = is.sender nodes.nodes
-sent_by_host header nodes (line.Reset e window) is = tt
-sent_by_host header nodes (line.Deliver e count) is = tt
-sent_by_host header nodes (line.Lose e) is = tt
-sent_by_host header nodes (line.Damage e places) is = tt
-sent_by_host header nodes (line.Tick times) is = tt
-sent_by_host header nodes (line.Busy e) is = tt
-sent_by_host header nodes (line.Ready e) is = tt
-sent_by_host header nodes (line.Boot node) is = tt
-sent_by_host header nodes (line.Cut node) is = tt
-sent_by_host header nodes (line.Activate host sync power) is = tt
-sent_by_host header nodes (line.Arm node nth fill) is = tt
-sent_by_host header nodes (line.Init e identity pipes) is = tt
-sent_by_host header nodes (line.Tables node) is = tt
-sent_by_host header nodes (line.Settle rounds) is = tt
+sent_by_host header nodes l is = grind arith
 
 -- What is asked of a world behind lines holds there.
 
@@ -144,8 +114,7 @@ site_there n (s ∷ sites) here a = go (s.host == n) refl (site_there n sites)
     go : (b : Bool) → (s.host == n) ≡ b
         → (list_any (λ k. k == n) (hosts_in sites) ≡ true → AllByRecursion (λ (s : Site). IsSoundMemory s.memory) sites
         → (x : Site) × (site_at sites n ≡ Some x) × IsSoundMemory x.memory) → (x : Site) × (site_at (s ∷ sites) n ≡ Some x) × IsSoundMemory x.memory
-    go true q later = (s, rw q refl, a.0)
-    go false q later = let found = later (rw q at here) a.1 in (found.0, rw q found.1, found.2)
+    go b q later = grind arith
 
 sound_memory : (hosts : List ℕ) (w : NodeWorld) → hosts_in w.sites ≡ hosts → IsSoundMemory w.memory
     → AllByRecursion (λ (s : Site). IsSoundMemory s.memory) w.sites → (n : ℕ) → IsNodeOf hosts n → IsSoundMemory (memory_at w n)
@@ -256,13 +225,7 @@ found (suc n) a top (x ∷ xs) test e is r small =
     go : (b : Bool) → (x == a) ≡ b
         → (IsRisingFrom (a + 1) xs → ((h : ℕ) → a + 1 ≤ h → test h ≡ list_any (λ k. k == h) xs) → filter test (range_with_len (a + 1) n) ≡ xs)
         → (IsRisingFrom (a + 1) (x ∷ xs) → filter test (range_with_len (a + 1) n) ≡ x ∷ xs) → filter test (range_with_len a (suc n)) ≡ x ∷ xs
-    go true q later last =
-        let same : x ≡ a = eqb-true x a q in
-        let here : test a ≡ true = is a (omega arith) ∙ rw q refl in
-        let rest : filter test (range_with_len (a + 1) n) ≡ xs =
-        later (subst (λ k. IsRisingFrom (k + 1) xs) same r.1)
-        (λ h low. is h (omega (arith, low)) ∙ (let other : (x == h) ≡ false = ne_eqb x h (λ z. omega (arith, z, low, same)) in rw other refl)) in
-        rw here (ap₂ (λ y ys. y ∷ ys) (sym same) rest)
+    go true q later last = grind arith
     go false q later last =
         let more : a ≢ x = λ z. true≢false (sym (eq-eqb x a (sym z)) ∙ q) in
         let none : test a ≡ false = is a (omega arith) ∙ rw q (none_below (x + 1) a xs (omega (arith, from)) r.1) in
@@ -271,16 +234,14 @@ found (suc n) a top (x ∷ xs) test e is r small =
 -- ## Masks
 
 filter_same : (p q : ℕ → Bool) → ((n : ℕ) → p n ≡ q n) → (ns : List ℕ) → filter p ns ≡ filter q ns
-filter_same p q same [] = refl
-filter_same p q same (n ∷ ns) = ap₂ (λ b rest. cond b (n ∷ rest) rest) (same n) (filter_same p q same ns)
+filter_same p q same ns = grind arith
 
 one_of_hosts : (n : ℕ) (hosts : List ℕ) → AllByRecursion IsHost hosts → list_any (λ k. k == n) hosts ≡ true → IsHost n
 one_of_hosts n [] a q = absurd (true≢false (sym q))
 one_of_hosts n (h ∷ hosts) a q = go (h == n) refl (one_of_hosts n hosts a.1)
   where
     go : (b : Bool) → (h == n) ≡ b → (list_any (λ k. k == n) hosts ≡ true → IsHost n) → IsHost n
-    go true e later = subst IsHost (eqb-true h n e) a.0
-    go false e later = later (rw e at q)
+    go b e later = grind arith
 
 small : (hosts : List ℕ) → AllByRecursion IsHost hosts → AllByRecursion (λ x. x < 8) hosts
 small [] a = tt
@@ -315,12 +276,7 @@ site_with n f same (x ∷ sites) s q = go (x.host == n) refl (site_with n f same
   where
     go : (b : Bool) → (x.host == n) ≡ b → (site_at sites n ≡ Some s → site_at (with_site n f sites) n ≡ Some (f s))
         → site_at (with_site n f (x ∷ sites)) n ≡ Some (f s)
-    go true e later =
-        let is : Some x ≡ Some s = rw e at q in
-        let one : x ≡ s = cc in
-        let here : ((f x).host == n) ≡ true = ap (λ k. k == n) (same x) ∙ e in
-        rw (e, here) (ap (λ y. Some (f y)) one)
-    go false e later = rw e (rw e (later (rw e at q)))
+    go b e later = grind arith
 
 -- ## Boots
 
@@ -375,8 +331,7 @@ counted_anew : (content : List ℕ) → count_of (started_state (state_of conten
 counted_anew content = go (current content)
   where
     go : (o : Option Side) → count_of (started_state (state_in content o)) ≡ count_of (state_in content o)
-    go None = refl
-    go (Some side) = refl
+    go o = grind arith
 
 -- the memory of a node at rest
 module _ (w : NodeWorld) (n : ℕ) (there : (n == 0) ≡ false → (s : Site) × (site_at w.sites n ≡ Some s)) where
@@ -458,8 +413,7 @@ takings_play (e ∷ ends) w =
     all-append IsPlayable (taking_in w e) (takings_in v ends) (one (is_running w (node_of e) && not (is_clear (frames_at w e)))) (takings_play ends v)
   where
     one : (b : Bool) → ArePlayable (if b then line.Deliver e None ∷ [] else [])
-    one true = (tt, tt)
-    one false = tt
+    one b = grind arith
 
 sure_first : (xs ys : List Line) (w : NodeWorld) → NoneIsMisread w (xs ++ ys) → NoneIsMisread w xs
 sure_first [] ys w sure = tt

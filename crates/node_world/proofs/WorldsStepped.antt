@@ -2,7 +2,7 @@
 -- and each end takes what stands on its wire, and a line has time pass a hundred times at most, or one end take frames.
 use Rattle.std.proofs.Common.{◌≡◌, inr, ℕ, suc, ◌+◌, ◌<◌, ◌==◌, true, false, Bool, List, [], ◌∷◌, ◌++◌, get_or, map, refl, ap, sym, subst, ◌∙◌, arith, zero}
 use Rattle.std.proofs.Common.{◌*◌, ◌≤◌, cond, length}
-use Rattle.std.specs.Prelude.{Option, Some, None, Result, Ok, Err, IfOk, OnOk, replicate, if◌then◌else◌, is_some, unwrap_or}
+use Rattle.std.specs.Prelude.{Option, Some, None, Result, Ok, Err, IfOk, OnOk, replicate, is_some, unwrap_or}
 use Rattle.std.specs.List.{AllByRecursion, list_any, fold}
 use Rattle.std.proofs.lemmas.Result.{on_ok_weaker}
 use Rattle.node_world.proofs.Words.{Activates, AreFewWithParts, AreTimely, Arms, AtController, Boots, End, Entry, FewBehind, FewOnEach, Gives, Happening}
@@ -14,10 +14,10 @@ use Rattle.node_world.proofs.Words.{lines_may_be_played, lines_played, lines_sai
 use Rattle.node_world.proofs.Words.{nodes_behind, refusal_in, round_behind, rounds_played, site_at, taken_of, world_round, world_step}
 use Rattle.gate_admin.specs.View.{hosts_where}
 use Rattle.history.specs.Histories.{noted}
-use Rattle.history.specs.Follows.{host_of, outcome_of, first_verdict}
+use Rattle.history.specs.Follows.{first_verdict}
 use Rattle.node_machine.specs.world.World.{NodeWorld as Machine, new_memory}
-use Rattle.node_machine.specs.world.Lines.{noted_below, goes_on, happens_by}
-use Rattle.lines_told.specs.lines.Below.{bare_link_behind, entries_below, told_below}
+use Rattle.node_machine.specs.world.Lines.{goes_on, happens_by}
+use Rattle.lines_told.specs.lines.Below.{told_below}
 use Rattle.lines_told.specs.lines.Plays.{told_of_play, lines_of_play, AreFewPlays}
 use Rattle.lines_told.proofs.lines.Told.{for_with, no_more_rounds, no_more_said, one_round, one_said, played_round, played_said, sure_with_round}
 use Rattle.lines_told.proofs.lines.Told.{sure_with_said, told_round, round_behind_goes}
@@ -311,15 +311,6 @@ few_at_all plays few = let said = few.said in record { said = omega (arith, said
 
 -- What is kept of a world of nodes stands for the world behind one line or one round more, and where lines count as rounds.
 
--- what is told below a header of nodes
-pub told_of_nodes : (header : Header) (lines : List Line) (said : Line) → IsNodeHeader header
-    → told_below header lines said ≡ entries_below (noted_below (line_step (nodes_behind header lines) said).1)
-told_of_nodes header lines said is =
-    ap
-    (λ (b : Bool). if b then entries_below (noted_below (line_step (nodes_behind header lines) said).1)
-    else noted (outcome_of (host_of header) (bare_link_behind header lines) said))
-    is.nodes
-
 -- how many lines were stepped, and how many rounds were gone through, is the same for all plays of which it stands
 pub steps_few : (k : NodeWorld) (said : Line) → HasRoomForNodeLine k said → (header : Header) (plays : List Play) → IsNodeWorldBehind k header plays
     → lines_said plays < 320000
@@ -335,8 +326,7 @@ pub lines_are : (k : NodeWorld) (header : Header) (plays : List Play) → IsNode
 lines_are k header plays s = lines_may_be_played header (inr s.is_header) (hosts_stay_behind header) plays s.plays_are
 
 pub none_is_misread : (w : Machine) (said : Line) (o : Option Misread) → o ≡ None → IsMisreadIn w said o → misread_in w said ≡ None
-none_is_misread w said None q h = h
-none_is_misread w said (Some other) q h = absurd (let z : Some other ≡ None = q in cc)
+none_is_misread w said o q h = grind arith
 
 module _ (old new : NodeWorld) (header : Header) (plays : List Play) (s : IsNodeWorldBehind old header plays) where
   abbrev w : Machine
@@ -450,12 +440,7 @@ module _ {E : Type 0} (result : Result (Option Misread) E) (old new : NodeWorld)
 
   pub entries_answered : IfOk result (λ other. other ≡ None → WasPlayed)
       → IfOk result (λ other. other ≡ None → nodes_entries new ≡ told_below header (lines_played header plays) said)
-  entries_answered played = go result played
-    where
-      go : (r : Result (Option Misread) E) → IfOk r (λ other. other ≡ None → WasPlayed)
-          → IfOk r (λ other. other ≡ None → nodes_entries new ≡ told_below header (lines_played header plays) said)
-      go (Err e) p = tt
-      go (Ok other) p = λ none. (p none).told ∙ sym (told_of_nodes header (lines_played header plays) said s.is_header)
+  entries_answered played = grind arith
 
 module _ {T E : Type 0} (result : Result T E) (old new : NodeWorld) (header : Header) (plays : List Play) (s : IsNodeWorldBehind old header plays)
     (before : List Entry) where
@@ -512,10 +497,7 @@ found_behind k header plays n s node m is =
 -- the memory of the controller
 pub controller_kept : (k : NodeWorld) (header : Header) (plays : List Play) (n : ℕ) → IsNodeWorldBehind k header plays → (n == 0) ≡ true → (m : Memory)
     → m ≡ memory_kept k.controller → m ≡ memory_at (nodes_behind header (lines_played header plays)) n
-controller_kept k header plays n s off m kept =
-    let w : Machine = nodes_behind header (lines_played header plays) in
-    let is : m ≡ w.memory = kept ∙ kept_is k.controller w.memory w.controller _ s.stands.controller in
-    rw off is
+controller_kept k header plays n s off m kept = grind arith
 
 -- a host at its place
 pub stands_there : (k : NodeWorld) (header : Header) (plays : List Play) (i n : ℕ) → IsNodeWorldBehind k header plays

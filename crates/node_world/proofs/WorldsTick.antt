@@ -54,8 +54,7 @@ all_still (k ∷ ks) (s ∷ sites) q a = (one, all_still ks sites q.1 a.1)
         record { host = a.0.host; wires = same_stand (still_wires s.link q.0) a.0.wires; place = rw (← still_far s.link) at a.0.place }
 
 off_place : (k : Power) (m : Memory) (near far : ℕ → NumberedEnd) → IsNodePlace k m None near → IsNodePlace k m None far
-off_place (On n) m near far p = p
-off_place (Off x) m near far p = p
+off_place k m near far p = grind arith
 
 pub ticks_off : (k : Power) (ks : List HostSite) (w : NodeWorld) (entries : List Entry) → w.controller ≡ None → AreTimely w → MayGoOn w
     → WorldIs k ks w → WorldBecomes k ks entries entries (controller_ticks w)
@@ -225,11 +224,7 @@ was_there [] h t q = absurd (cc q)
 was_there (s ∷ sites) h t q = go (s.host == h) refl (was_there sites h t)
   where
     go : (b : Bool) → (s.host == h) ≡ b → (site_at (map older sites) h ≡ Some t → Was sites h t) → Was (s ∷ sites) h t
-    go true e later =
-        let is : Some (older s) ≡ Some t = rw e at q in
-        let one : older s ≡ t = cc in
-        record { site = s; found = rw e refl; is = one }
-    go false e later = let w = later (rw e at q) in record { site = w.site; found = rw e w.found; is = w.is }
+    go b e later = grind arith
 
 pub older_timely : (w : NodeWorld) → AreTimely w → AreTimely (older_world w)
 older_timely w timely h t q =
@@ -384,11 +379,7 @@ near_of sites h = (link_to sites h).controller
 
 near_first : (s t : Site) (xs ys : List Site) (h : ℕ) → LeavesNear s t → (link_to ys h).controller ≡ (link_to xs h).controller
     → (link_to (t ∷ ys) h).controller ≡ (link_to (s ∷ xs) h).controller
-near_first s t xs ys h a later = go (s.host == h) refl
-  where
-    go : (b : Bool) → (s.host == h) ≡ b → (link_to (t ∷ ys) h).controller ≡ (link_to (s ∷ xs) h).controller
-    go true e = let z : (t.host == h) ≡ true = ap (λ n. n == h) a.host ∙ e in rw (e, z) a.near
-    go false e = let z : (t.host == h) ≡ false = ap (λ n. n == h) a.host ∙ e in rw (e, z) later
+near_first s t xs ys h a later = grind arith
 
 near_left : (sites : List Site) (h : ℕ) → near_of (hosts_tick sites).0 h ≡ near_of sites h
 near_left [] h = refl

@@ -378,7 +378,8 @@ module _ (c : List ℕ) (state : State) (ahead : List ℕ) (ended : Bool) (says 
 
   pub closed_so_far : Closed ≡ gate_of state.version state.many (left state) ahead → Says c state
   closed_so_far is =
-      closed_says c side state ahead p says.size used few inside known (closed_gate state.version state.many (length gate_bytes) gate_bytes (sym gate_now ∙ sym is))
+      closed_says c side state ahead p says.size used few inside known
+      (closed_gate state.version state.many (length gate_bytes) gate_bytes (sym gate_now ∙ sym is))
 
   pub ended_so_far : Closed ≡ gate_of state.version state.many (left state) ahead → SaysSoFar c state ahead true
   ended_so_far is = record { size = says.size; in_use = says.in_use; passed = says.passed; at_end = λ _. closed_so_far is }
@@ -398,7 +399,8 @@ module _ (c : List ℕ) (state : State) (ahead : List ℕ) (ended : Bool) (says 
 
   module _ (len : ℕ) (is : Record len ≡ gate_of state.version state.many (left state) ahead) (short : len ≤ 61)
       (fits : 2 + index_len state.version + len < left state) where
-    right : (is_opened_gate (slice_index gate_bytes 0) ≡ true) × (is_record state.version state.many (length gate_bytes) gate_bytes ≡ true) × (slice_index gate_bytes 1 ≡ len)
+    right : (is_opened_gate (slice_index gate_bytes 0) ≡ true) × (is_record state.version state.many (length gate_bytes) gate_bytes ≡ true) ×
+        (slice_index gate_bytes 1 ≡ len)
     right = record_gate state.version state.many (length gate_bytes) len gate_bytes (sym gate_now ∙ sym is)
 
     len_within : 2 + index_len state.version + len ≤ length ahead

@@ -1,17 +1,15 @@
 -- A node that runs alone: its steps, the frames that it sends, and what comes of what comes to it.
 use Rattle.std.proofs.Common.{◌≡◌, ℕ, List, [], ◌∷◌, ◌++◌, refl, ap, ◌∙◌, ◌≤◌, Bool, true, false, cond, length, map, sym, subst, ◌+◌, ◌-◌, ◌⊎◌, ◌==◌, zero, suc}
 use Rattle.std.proofs.Common.{take, drop, inl, inr, arith, ◌*◌, append_assoc, append-nil, not}
-use Rattle.std.specs.Prelude.{map, Some, None, is_none, ◌==◌, Option, option_map, is_some, ◌&&◌, ◌+◌, min, nat_le, Result, Ok, Err}
+use Rattle.std.specs.Prelude.{map, Some, None, is_none, ◌==◌, Option, option_map, is_some, ◌&&◌, ◌+◌, min, Result}
 use Rattle.std.specs.List.{AllByRecursion, flat_map}
 use Rattle.std.proofs.lemmas.Grind.{flat_map-append}
 use Rattle.std.proofs.lemmas.List.{length-map}
-use Rattle.std.specs.Option.{option_map_or}
-use Rattle.std.proofs.lemmas.Bool.{true≢false, and_right, and_parts, cond_both}
+use Rattle.std.proofs.lemmas.Bool.{true≢false, and_right}
 use Rattle.swp_base.specs.declared.control_frames.Control.{Control}
 use Rattle.swp_base.specs.declared.control_frames.Control.TheVariants.{Act as ActFrame}
 use Rattle.swp_base.specs.declared.link_terms.FrameFault.{FrameFault}
 use Rattle.swp_base.specs.InMemory.{Memory}
-use Rattle.swp_base.specs.declared.control_frames.Act.{Act}
 use Rattle.swp_lpdu.specs.Controls.{lpdu_of, control_of}
 use Rattle.swp_lpdu.specs.declared.LpduFault.{LpduFault}
 use Rattle.trace_model.specs.declared.entry.Entry.{Entry}
@@ -28,11 +26,9 @@ use Rattle.one_end.specs.Alone.{RunsAlone, TakesAlone}
 use Rattle.one_end.proofs.Running.{over, StepsAlone, stepped_ready}
 use Rattle.journal_laws.specs.Planned.{after_planned}
 use Rattle.link_laws.specs.machine.Machine.{LinkInput, frames_out, new_link_end, reset_refusal, LinkEnd, ActDue, among, next_frame, frame_fetched, sent_all}
-use Rattle.link_laws.specs.machine.Machine.{nearer, Role, report, lpdu_input, is_open, act_out, act_answer}
-use Rattle.link_laws.proofs.places.Joined.{fetched_idle}
+use Rattle.link_laws.specs.machine.Machine.{nearer, report, lpdu_input}
 use Rattle.link_laws.specs.machine.Laws.{fetches, after_fetches, most_fetches}
-use Rattle.link_laws.specs.machine.Machine.Role.{Bare, Clf, Uicc}
-use Rattle.link_laws.specs.machine.Machine.LinkInput.{Take, TakeUnknown, TakeBroken, Tick, Reset, Start, Stop, FromNode, Fetch}
+use Rattle.link_laws.specs.machine.Machine.LinkInput.{Tick, Reset, Start, Stop}
 use Rattle.node_machine.specs.Parts.{Running, Port, Work, Desk, Core}
 use Rattle.node_machine.specs.Node.{NodeInput, steps, with_error}
 use Rattle.node_machine.specs.world.World.{runs_on}
@@ -40,19 +36,13 @@ use Rattle.node_machine.specs.Carrying.{port_at, with_port, changed_if}
 use Rattle.node_machine.specs.Node.NodeInput.{AtEnd, TimePasses}
 use Rattle.node_core.specs.declared.node.Node.{Node}
 use Rattle.node_core.specs.Bringing.{Brings, Foretells, WereMade, plan_left}
-use Rattle.node_core.specs.Running.{SendsOneByOne, RunsAs, BeginsStep, HasStepped, IsAllSent, between, ran_so, one_more_error, becomes_active_by}
+use Rattle.node_core.specs.Running.{SendsOneByOne, RunsAs, BeginsStep, HasStepped, IsAllSent, between, ran_so, one_more_error}
 use Rattle.node_core.specs.declared.inputs.NodeInput.{NodeInput as ToNode}
 use Rattle.node_core.specs.declared.inputs.NodeInput.TheVariants.{At, Tick as ToTick}
 use Rattle.node_core.specs.Inputs.{input_of_node, makes_active, MayComeToNode, refusal_by}
 use Rattle.node_core.proofs.Between.{all_one_by_one, kept_alike}
-use Rattle.shdlc_core.specs.Machine.{frame_due, fetched, all_frames}
-use Rattle.swp_act.specs.declared.ActEvent.TheVariants.{Tick as ActTick, Start as ActStart}
-use Rattle.swp_act.specs.declared.ActOut.{ActOut}
-use Rattle.swp_act.specs.declared.Phase.{Phase}
-use Rattle.swp_act.specs.declared.Phase.TheVariants.{Inactive, Awaiting, Active}
-use Rattle.swp_act.specs.Activation.{out_ticked, no_act_out, sends}
+use Rattle.shdlc_core.specs.Machine.{all_frames}
 use Rattle.link_end.specs.Reports.{reset_refused}
-use Rattle.link_end.specs.Roles.{MayStart}
 use Rattle.node_ends.specs.Ends.{has_sent, frame_at, MayStartAt}
 use Rattle.node_ends.specs.Inputs.{frame_said, reset_refusal_at}
 use Rattle.node_ends.specs.declared.inputs.LinkInput.TheVariants as comes
@@ -71,12 +61,7 @@ emits_written form number e (c ∷ frames) = ap (λ z. entry_written form number
 -- ---- a step of a node that its memory goes along with is a step of it alone
 
 arrival_unwritten : (l : Lone) (c : LoneCause) → AllByRecursion IsUnwritten (lone_arrival l c)
-arrival_unwritten l (FrameComes bytes) = ((λ form number. refl), tt)
-arrival_unwritten l (FrameIsRefused fault) = tt
-arrival_unwritten l TickComes = tt
-arrival_unwritten l (ResetComes window) = tt
-arrival_unwritten l (StartComes value) = tt
-arrival_unwritten l StopComes = tt
+arrival_unwritten l c = grind arith
 
 -- what is written for a step
 step_written : (form : EndForm) (l : Lone) (es : List Entry) (w : Work) → AllByRecursion IsUnwritten es
@@ -97,10 +82,7 @@ does_step form l n c i runs comes =
 
 -- no frame goes out of a new end
 new_silent : (number : ℕ) → frames_out (new_link_end (role_alone number)) ≡ []
-new_silent number = go (number == 0) where
-  go : (b : Bool) → frames_out (new_link_end (cond b (role_alone 0) (role_alone 1))) ≡ []
-  go true = refl
-  go false = refl
+new_silent number = grind arith
 
 pub gone_silent : (l : Lone) (w : Work) → w.cut ≡ true → frames_behind l w ≡ []
 gone_silent l w cut = rw cut (new_silent l.number)
@@ -134,10 +116,7 @@ module _ {N : Type 0} (writes : N → ℕ → List ℕ → Bool → N → Type 0
         ∙ ap (λ ws. (record (lone_behind_step l i b.after) { memory = after_planned ws m }, frames_written form l.number (frames_behind l b.after))) b.written);
   } where
     runs_none : (w : Work) → w.cut ≡ is_none (runs_on w)
-    runs_none w = go w.cut where
-      go : (t : Bool) → t ≡ is_none {T = Running} (cond t None (Some (record { core = w.core; desks = map (λ (p : Port). p.desk) w.ports })))
-      go true = refl
-      go false = refl
+    runs_none w = grind arith
 
 -- ---- the frames of an end go out one by one
 
@@ -145,8 +124,7 @@ few_fetched : (n : ℕ) (e : LinkEnd) → length (fetches n e) ≤ n
 few_fetched zero e = omega arith
 few_fetched (suc n) e = go (few_fetched n (frame_fetched e)) (next_frame e) refl where
   go : length (fetches n (frame_fetched e)) ≤ n → (o : Option Control) → next_frame e ≡ o → length (fetches (suc n) e) ≤ suc n
-  go later None q = rw q (omega arith)
-  go later (Some c) q = rw q (omega (arith, later))
+  go later o q = grind arith
 
 -- at most seventeen go out
 pub few_out : (e : LinkEnd) → SendsOneByOne e → length (frames_out e) ≤ 17
@@ -171,18 +149,11 @@ no_acts_out e q = go e.acts refl where
       (sym (ap (λ z. among 0 z fs) w) ∙ q))
 
 next_none : (n : ℕ) (e : LinkEnd) → 1 ≤ n → fetches n e ≡ [] → next_frame e ≡ None
-next_none zero e some q = absurd (omega (arith, some))
-next_none (suc n) e some q = go (next_frame e) refl where
-  go : (o : Option Control) → next_frame e ≡ o → next_frame e ≡ None
-  go None r = r
-  go (Some c) r = absurd (let z : c ∷ fetches n (frame_fetched e) ≡ [] = rw r at q in cc z)
+next_none n e some q = grind arith
 
 -- an end from which no frame can be fetched stays as it is
 idle_end : (e : LinkEnd) → e.acts ≡ [] → next_frame e ≡ None → frame_fetched e ≡ e
-idle_end e acts none =
-    let due : frame_due e.shdlc ≡ None = (let z : next_frame e ≡ frame_due e.shdlc = rw acts refl in sym z ∙ none) in
-    let now : frame_fetched e ≡ record e { shdlc = fetched e.shdlc } = rw acts refl in
-    now ∙ ap (λ s. record e { shdlc = s }) (fetched_idle e.shdlc due)
+idle_end e acts none = grind arith
 
 idle_stays : (n : ℕ) (e : LinkEnd) → frame_fetched e ≡ e → after_fetches n e ≡ e
 idle_stays zero e same = refl
@@ -197,16 +168,7 @@ none_goes e s q =
 
 next_some : (n : ℕ) (e : LinkEnd) (c : Control) (fs : List Control) → fetches n e ≡ c ∷ fs
     → (next_frame e ≡ Some c) × (fetches (n - 1) (frame_fetched e) ≡ fs)
-next_some zero e c fs q = absurd (cc q)
-next_some (suc n) e c fs q = go (next_frame e) refl where
-  go : (o : Option Control) → next_frame e ≡ o → (next_frame e ≡ Some c) × (fetches (suc n - 1) (frame_fetched e) ≡ fs)
-  go None r = absurd (let z : [] ≡ c ∷ fs = rw r at q in cc z)
-  go (Some d) r =
-      let z : d ∷ fetches n (frame_fetched e) ≡ c ∷ fs = rw r at q in
-      let same : d ≡ c = cc in
-      let rest : fetches n (frame_fetched e) ≡ fs = cc in
-      let k : n ≡ suc n - 1 = omega arith in
-      (r ∙ ap (λ x. Some x) same, subst (λ m. fetches m (frame_fetched e) ≡ fs) k rest)
+next_some n e c fs q = grind arith
 
 -- where none is due behind n fetches one more changes nothing
 idle_behind : (n : ℕ) (x : LinkEnd) → next_frame (after_fetches n x) ≡ None → frame_fetched (after_fetches n x) ≡ after_fetches n x
@@ -218,8 +180,7 @@ idle_behind (suc n) x none same = go (idle_behind n (frame_fetched x) none same)
 
   go : Later → (o : Option Control) → next_frame x ≡ o
       → (fetches (suc (suc n)) x ≡ fetches (suc n) x) × (after_fetches (suc (suc n)) x ≡ after_fetches (suc n) x)
-  go later None r = (rw r refl, later.1)
-  go later (Some c) r = (rw r (ap (λ fs. c ∷ fs) later.0), later.1)
+  go later o r = grind arith
 
 fetched_acts : (e : LinkEnd) → (length (frame_fetched e).acts + 1 ≡ length e.acts) ⊎ (length (frame_fetched e).acts ≡ length e.acts)
 fetched_acts e = go e.acts refl where
@@ -337,8 +298,7 @@ one_sent {Runs} {form} {number} {i} {before} {now} {next} {lpdu} {l} {frames} h 
 -- frames are left
 pub left_then : (Runs : Lone → List Control → Type 0) (l : Lone) (o : Option (List ℕ)) (frames : List Control) → HasSentFirst Runs l o frames
     → (k : Lone) × (left : List Control) × Runs k left
-left_then Runs l o [] s = (l, [], s.1)
-left_then Runs l o (c ∷ frames) s = (l, frames, s.1)
+left_then Runs l o frames s = grind arith
 
 -- ---- the steps of a node that runs alone
 
@@ -380,11 +340,7 @@ module _ {N : Type 0} {n : Node N} {l : Lone} (a : RunsAlone n l []) where
       ∙ ap (λ e. option_map reset_refused (reset_refusal e)) (sym same_side) ∙ ap (option_map reset_refused) q
 
   pub may_start : MayStartAt 1 (port_at (a.port ∷ []) 2)
-  may_start = subst (MayStartAt 1) (sym (found_there a.port a.host)) (go a.port.side.role) where
-    go : (r : Role) → MayStart r (ActStart 1)
-    go Bare = tt
-    go (Clf s) = refl
-    go (Uicc s) = tt
+  may_start = grind arith
 
   pub may_step : (input : ToNode) → MayComeToNode input (a.port ∷ [])
       → (core : Core) × (ports : List Port) × RunsAs n core ports × IsAllSent ports × MayComeToNode input ports
@@ -478,8 +434,7 @@ counts_refused {N} {n} {new} writes old_nv new_nv l fault a runs same = record {
   more d = record d { errors = min 65535 (d.errors + 1) }
 
   desks : with_error l.link (a.port.desk ∷ []) ≡ p.desk ∷ []
-  desks =
-      ap (λ k. with_error k (a.port.desk ∷ [])) a.link_is ∙ ap (λ k. changed_if (k == 2) more a.port.desk ∷ []) a.host
+  desks = grind arith
 
   does_so : EndForm → Memory → Option Running → Lone × List ℕ
   does_so form m o =
@@ -523,51 +478,18 @@ one_behind p x w ports host = go v.ports refl (keeps x).ends where
 -- ## A step
 
 side_found : (l : Lone) (w : Work) (p : Port) → w.cut ≡ false → w.ports ≡ p ∷ [] → p.desk.host ≡ 2 → l.link ≡ 2 → side_behind l w ≡ p.side
-side_found l w p live ports host link =
-    rw live
-    (ap (λ ps. option_map_or (λ (q : Port). q.side) (port_at ps l.link) l.side) ports
-    ∙ (ap (λ k. option_map_or (λ (q : Port). q.side) (port_at (p ∷ []) k) l.side) link
-    ∙ ap (λ o. option_map_or (λ (q : Port). q.side) o l.side) (found_there p host)))
+side_found l w p live ports host link = grind arith
 
 runs_found : (w : Work) (p : Port) → w.cut ≡ false → w.ports ≡ p ∷ [] → runs_on w ≡ Some (record { core = w.core; desks = p.desk ∷ [] })
 runs_found w p live ports = rw live (ap (λ ps. Some (record { core = w.core; desks = map (λ (q : Port). q.desk) ps })) ports)
 
 -- a reset is asked for only by what makes the end active
 became_by : (l : Lone) (c : LoneCause) (i : LinkInput) → lone_input c ≡ Some i → asks_reset l c ≡ true → (report l.side i).became_active ≡ true
-became_by l c i comes asks =
-    let f : Option LinkInput → Bool = λ o. option_map_or (λ i. (report l.side i).became_active) o false in
-    ap f (sym comes) ∙ (and_parts (l.number == 0 && is_some l.node) (f (lone_input c)) asks).1
-
--- a tick makes no end active
-tick_quiet : (p : Phase) (o : Option Act) → (out_ticked p o).became_active ≡ false
-tick_quiet Inactive o = refl
-tick_quiet (Awaiting tries ticks) o =
-    cond_both (nat_le 10 (ticks + 1)) _ no_act_out (λ (x : ActOut). x.became_active ≡ false)
-    (λ _. cond_both (nat_le 3 tries) _ (sends o) (λ (x : ActOut). x.became_active ≡ false) (λ _. refl) (λ _. refl)) (λ _. refl)
-tick_quiet Active o = refl
-
-answer_quiet : (r : Role) → (act_answer r ActTick).became_active ≡ false
-answer_quiet Bare = refl
-answer_quiet (Clf s) = tick_quiet s.phase s.last
-answer_quiet (Uicc s) = tick_quiet s.phase s.last
-
-pub never_active : (e : LinkEnd) → (report e Tick).became_active ≡ false
-never_active e = go (is_open e.role) where
-  go : (b : Bool) → (act_out e.role (cond b None (Some ActTick))).became_active ≡ false
-  go true = refl
-  go false = answer_quiet e.role
+became_by l c i comes asks = grind arith
 
 -- an end becomes active by this as a step says
 made_active : (i : LinkInput) (p : Port) → p.desk.host ≡ 2 → makes_active (node_input 2 i) (p ∷ []) ≡ (report p.side i).became_active
-made_active Tick p host = sym (never_active p.side)
-made_active (Take c) p host = ap (becomes_active_by (Take c)) (found_there p host)
-made_active TakeUnknown p host = ap (becomes_active_by TakeUnknown) (found_there p host)
-made_active (TakeBroken fault) p host = ap (becomes_active_by (TakeBroken fault)) (found_there p host)
-made_active (Reset window) p host = ap (becomes_active_by (Reset window)) (found_there p host)
-made_active (Start value) p host = ap (becomes_active_by (Start value)) (found_there p host)
-made_active Stop p host = ap (becomes_active_by Stop) (found_there p host)
-made_active (FromNode t) p host = ap (becomes_active_by (FromNode t)) (found_there p host)
-made_active Fetch p host = ap (becomes_active_by Fetch) (found_there p host)
+made_active i p host = grind arith
 
 -- The end that becomes active in a step takes a reset behind it.
 abbrev pub IsReadyBehind : {N : Type 0} → Node N → Type 0
@@ -578,15 +500,7 @@ IsReadyBehind n =
 ready_by : {N : Type 0} {n : Node N} → IsReadyBehind n → (i : LinkInput) (w : Work) (p : Port) → BeginsStep n [] true [] w
     → port_at w.ports 2 ≡ Some p → (report p.side i).became_active ≡ true
     → (q : Port) × (port_at (steps (node_input 2 i) w).ports 2 ≡ Some q) × (reset_refusal (sent_all q.side) ≡ None)
-ready_by law Tick w p b at became = absurd (true≢false (sym became ∙ never_active p.side))
-ready_by law (Take c) w p b at became = law w (Take c) p b at became
-ready_by law TakeUnknown w p b at became = law w TakeUnknown p b at became
-ready_by law (TakeBroken fault) w p b at became = law w (TakeBroken fault) p b at became
-ready_by law (Reset window) w p b at became = law w (Reset window) p b at became
-ready_by law (Start value) w p b at became = law w (Start value) p b at became
-ready_by law Stop w p b at became = law w Stop p b at became
-ready_by law (FromNode t) w p b at became = law w (FromNode t) p b at became
-ready_by law Fetch w p b at became = law w Fetch p b at became
+ready_by law i w p b at became = grind arith
 
 pub steps_alone : {N : Type 0} (writes : N → ℕ → List ℕ → Bool → N → Type 0) {n new : Node N} {l : Lone} {c : LoneCause} {input : ToNode}
     (t : TakesAlone n l c input) {old_nv new_nv : N} (stopped : Bool) → new.number ≡ n.number → stopped ≡ not new.store.journal.live → IsReadyBehind n
@@ -656,8 +570,7 @@ steps_alone {N} writes {n} {new} {l} {c} {input} t {old_nv} {new_nv} stopped own
         let x : Work = record w { plan = None } in
         let p : Port = lone_port l.side (session_with l i) a.port.desk in
         let begun = begins_step a i (lone_arrival l c) in
-        let unplanned : BeginsStep n [] true [] x =
-        record { runs = begun.runs; sent = begun.sent; none_ended = begun.none_ended; power = refl; noted_are = begun.noted_are } in
+        let unplanned : BeginsStep n [] true [] x = grind arith in
         let r = ready_by law i x p unplanned (found_there p a.host) (became_by l c i t.comes asks) in
         let found : port_at (steps (node_input 2 i) x).ports 2 ≡ Some (one live).port =
         ap (λ ps. port_at ps 2) (same_ports live ∙ (one live).ports_are) ∙ found_there (one live).port (one live).host in
@@ -683,22 +596,15 @@ asks_so {n = n} {l} {c} {input} {active} t told = ap (λ b. n.number == 0 && b) 
       ∙ (ap (λ x. makes_active x (p ∷ [])) t.is ∙ made_active t.what p a.host)
 
   with_power : (b : Bool) → ((b && true) && f t.what) ≡ (b && f t.what)
-  with_power true = refl
-  with_power false = refl
+  with_power b = grind arith
 
   says : asks_reset l c ≡ (n.number == 0 && f t.what)
-  says =
-      ap (λ o. l.number == 0 && is_some l.node && option_map_or f o false) t.comes
-      ∙ (ap (λ o. l.number == 0 && is_some o && f t.what) a.node_is
-      ∙ (ap (λ k. (k == 0 && true) && f t.what) a.number_is ∙ with_power (n.number == 0)))
+  says = grind arith
 
 -- ## What comes as a frame
 
 pub frame_at_end : {x : Result Control LpduFault} (bytes : List ℕ) → x ≡ control_of bytes → AtEnd 2 (frame_said x) ≡ node_input 2 (lpdu_input bytes)
-frame_at_end {x} bytes is = ap (λ y. AtEnd 2 (frame_said y)) is ∙ go (control_of bytes) refl where
-  go : (x : Result Control LpduFault) → control_of bytes ≡ x → AtEnd 2 (frame_said (control_of bytes)) ≡ node_input 2 (lpdu_input bytes)
-  go (Ok c) q = rw q refl
-  go (Err fault) q = rw q refl
+frame_at_end bytes is = grind arith
 
 -- ## What comes makes a step
 
@@ -722,7 +628,4 @@ module _ {N : Type 0} {n : Node N} {l : Lone} (a : RunsAlone n l []) where
 
 -- how a step ran says whether the node has its power
 pub ran_alike : (live done : Bool) → ran_so live ≡ ran_so done → live ≡ done
-ran_alike true true q = refl
-ran_alike false false q = refl
-ran_alike true false q = absurd (cc q)
-ran_alike false true q = absurd (cc q)
+ran_alike live done q = grind arith

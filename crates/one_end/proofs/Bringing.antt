@@ -1,37 +1,25 @@
 -- What a byte brought.
-use Rattle.std.proofs.Common.{◌≡◌, ◌∙◌, ℕ, List, ◌∷◌, Bool, true, false, [], ◌++◌, refl, ap}
-use Rattle.std.specs.Prelude.{◌&&◌, not, filter}
+use Rattle.std.proofs.Common.{◌≡◌, ◌∙◌, ℕ, List, ◌∷◌, true, [], ◌++◌, refl, ap, arith}
+use Rattle.std.specs.Prelude.{filter}
 use Rattle.std.specs.List.{flat_map}
 use Rattle.byte_link.specs.declared.unit.Unit.{Unit}
 use Rattle.byte_link.specs.declared.unit.Unit.TheVariants as unit
 use Rattle.byte_link.specs.Reading.{unit_given, units_given, says_something}
 use Rattle.byte_link.specs.Written.{units_behind}
-use Rattle.swp_frame.specs.declared.fed.Fed.{Fed}
 use Rattle.swp_frame.specs.declared.fed.Fed.TheVariants as fed
-use Rattle.lone_laws.specs.alone.Lone.LoneCause.{FrameComes, TickComes, StartComes, StopComes}
-use Rattle.lone_laws.specs.alone.Ends.{comes_if, verdict_brings, unit_brings, bytes_bring}
+use Rattle.lone_laws.specs.alone.Lone.LoneCause.{FrameComes}
+use Rattle.lone_laws.specs.alone.Ends.{unit_brings, bytes_bring}
 use Rattle.lone_laws.specs.alone.Ends.EndForm.{OnBytes}
 use Rattle.one_end.specs.declared.reading.Brought.{Brought}
-use Rattle.one_end.specs.Reading.{causes_brought, unless_fed, is_nothing_brought}
+use Rattle.one_end.specs.Reading.{causes_brought, is_nothing_brought}
 
 -- where it brought nothing, nothing comes to the node
 pub nothing_brought : (b : Brought) → is_nothing_brought b ≡ true → causes_brought b ≡ []
-nothing_brought b is = go b.starts b.fed b.stops b.ticks is where
-  go : (starts : Bool) (came : Fed) (stops ticks : Bool) → unless_fed came (not starts && not stops && not ticks) ≡ true
-      → comes_if starts (StartComes 1) ++ verdict_brings came ++ comes_if stops StopComes ++ comes_if ticks TickComes ≡ []
-  go false fed.Nothing false false is = refl
-  go true fed.Nothing stops ticks is = absurd (cc)
-  go false fed.Nothing true ticks is = absurd (cc)
-  go false fed.Nothing false true is = absurd (cc)
-  go starts (fed.Frame lpdu) stops ticks is = absurd (cc)
-  go starts (fed.Refused fault) stops ticks is = absurd (cc)
+nothing_brought b is = grind arith
 
 brought_by : (u : Unit) (units : List Unit) → unit_brings u ++ flat_map unit_brings (filter says_something units)
     ≡ flat_map unit_brings (filter says_something (u ∷ units))
-brought_by unit.Nothing units = refl
-brought_by unit.Tick units = refl
-brought_by (unit.Frame lpdu) units = refl
-brought_by (unit.Refused fault) units = refl
+brought_by u units = grind arith
 
 -- bytes of a byte link bring what their units bring
 pub units_bring : (number : ℕ) (bytes older : List ℕ) → bytes_bring OnBytes number older bytes ≡ flat_map unit_brings (units_behind older bytes)

@@ -1,8 +1,7 @@
 -- A run over any memory is a run of a node alone, over a memory that keeps its bytes and of which one write fails as planned.
-use Rattle.std.proofs.Common.{◌≡◌, ◌+◌, ◌-◌, ◌<◌, ◌%◌, ℕ, zero, suc, Bool, true, false, cond, List, [], ◌∷◌, ◌++◌, length, get_or, refl}
-use Rattle.std.proofs.Common.{slice_index, sym, ap, ◌∙◌, subst, arith, append-nil}
+use Rattle.std.proofs.Common.{◌≡◌, ◌+◌, ◌<◌, ◌%◌, ℕ, zero, suc, Bool, true, false, cond, List, [], ◌∷◌, ◌++◌, length, get_or, refl, slice_index, sym, ap, ◌∙◌}
+use Rattle.std.proofs.Common.{subst, arith, append-nil}
 use Rattle.std.specs.Prelude.{Option, Some, None, is_none}
-use Rattle.std.proofs.lemmas.Bool.{ne_eqb}
 use Rattle.std.proofs.lemmas.Bool.Decides.{nat_tests}
 use Rattle.std.proofs.lemmas.Nat.{mod-mul-add}
 use Rattle.std.proofs.lemmas.List.FromFn.{fill_by_all}
@@ -57,9 +56,7 @@ abbrev plan_of : ℕ → List ℕ → Option Plan
 plan_of nth fill = Some (record { nth = nth; fill = fill })
 
 nearer_by : (n k : ℕ) (fill : List ℕ) → plan_after (plan_of (suc n + suc k) fill) ≡ plan_of (n + suc k) fill
-nearer_by n k fill =
-    ap (λ b. cond b None (plan_of (suc n + suc k - 1) fill)) (ne_eqb (suc n + suc k) 1 (λ is. absurd (omega arith)))
-    ∙ ap (λ x. plan_of x fill) (omega arith)
+nearer_by n k fill = grind arith
 
 -- writes in front of the one that fails go through
 spared : (n k : ℕ) (fill : List ℕ) → fails_within n (plan_of (n + suc k) fill) ≡ false
@@ -169,8 +166,7 @@ module _ {N : Type 0} (writes : N → ℕ → List ℕ → Bool → N → Type 0
           memory = m;
           content_is = refl;
           wrote = sym (ap (λ l. end_written form l bytes) same) ∙ run.wrote m h.foretells;
-          now = ap (λ l. (lone_after l (end_causes form l bytes)).memory.content) (sym same)
-              ∙ (ap (λ (x : Memory). x.content) (run.behind m h.foretells) ∙ h.ends);
+          now = grind arith;
           power = ap (λ l. is_none (lone_after l (end_causes form l bytes)).node) (sym same) ∙ run.runs m h.foretells;
         }
 

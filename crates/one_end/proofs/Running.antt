@@ -1,9 +1,8 @@
 -- Runs of a node alone: answers one after another, whole runs, and runs that grow by what comes.
 use Rattle.std.proofs.Common.{◌≡◌, ℕ, Bool, true, false, cond, List, [], ◌∷◌, ◌++◌, refl, sym, ap, ◌∙◌, subst, append_assoc, append-nil, length, map, ◌<◌, ◌≤◌}
-use Rattle.std.proofs.Common.{◌+◌, take, drop, get_or, reverse, ap₂, take-add}
-use Rattle.std.specs.Prelude.{Option, Some, None, is_none, is_some}
+use Rattle.std.proofs.Common.{◌+◌, take, drop, get_or, reverse, ap₂, take-add, arith}
+use Rattle.std.specs.Prelude.{Option, None, is_none, is_some}
 use Rattle.std.specs.List.{flat_map}
-use Rattle.std.proofs.lemmas.Bool.{true≢false}
 use Rattle.std.proofs.lemmas.List.{map-append, take_more, take-append-drop, reverse-append, take-take}
 use Rattle.swp_base.specs.InMemory.{Memory}
 use Rattle.swp_base.specs.declared.control_frames.Control.{Control}
@@ -15,10 +14,9 @@ use Rattle.node_laws.proofs.kept.Reckoned.{after_planned-append, planned_whole}
 use Rattle.node_core.specs.Bringing.{WereMade, Foretells}
 use Rattle.node_core.proofs.Joining.{foretold_parts, made_on}
 use Rattle.node_core.specs.declared.node.Node.{Node}
-use Rattle.lone_laws.specs.alone.Lone.{Lone, LoneCause, does_by_power, lone_input, lone_step, lone_events, lone_after, does_with_input}
+use Rattle.lone_laws.specs.alone.Lone.{Lone, LoneCause, does_by_power, lone_step, lone_events, lone_after}
 use Rattle.lone_laws.specs.alone.Lone.LoneCause.{ResetComes, FrameComes}
-use Rattle.lone_laws.specs.alone.Ends.{EndForm, entry_written, asks_reset, event_written, with_resets, byte_brings, bytes_bring, first_comes, end_causes}
-use Rattle.lone_laws.specs.alone.Ends.{end_written}
+use Rattle.lone_laws.specs.alone.Ends.{EndForm, asks_reset, event_written, with_resets, byte_brings, bytes_bring, first_comes, end_causes, end_written}
 use Rattle.one_end.specs.Running.{does_alone, then_does, answers_alone, all_answered, BringsAlone, frames_written, HasAnswered, RunsYet, RunsReady}
 use Rattle.one_end.specs.Alone.{RunsAlone}
 use Rattle.one_end.specs.declared.one_end.OneEnd.{OneEnd}
@@ -26,24 +24,15 @@ use Rattle.one_end.specs.Standing.{StandsAlone, IsAlone, booted_from, end_booted
 use Rattle.one_end.specs.Reading.{form_read, ReaderStandsFor}
 use Rattle.one_end.specs.Writing.{form_named}
 use Rattle.one_end.specs.declared.reading.Reader.{Reader}
-use Rattle.link_laws.specs.machine.Machine.{reset_refusal, LinkInput}
+use Rattle.link_laws.specs.machine.Machine.{reset_refusal}
 
 -- ## A node that has lost its power does nothing
 
 pub nothing_done : (form : EndForm) (l : Lone) (c : LoneCause) → is_none l.node ≡ true → does_alone form l c ≡ (l, [])
-nothing_done form l c gone = go l.node refl where
-  go : (o : Option Running) → l.node ≡ o → does_alone form l c ≡ (l, [])
-  go None q = ap (λ o. ((does_by_power l c o).0, flat_map (entry_written form l.number) (does_by_power l c o).1)) q
-  go (Some r) q = absurd (true≢false (sym gone ∙ ap is_none q))
+nothing_done form l c gone = grind arith
 
 pub nothing_answered : (form : EndForm) (l : Lone) (c : LoneCause) → is_none l.node ≡ true → answers_alone form l c ≡ (l, [])
-nothing_answered form l c gone = go (asks_reset l c) where
-  R : Lone → Lone × List ℕ
-  R after = does_alone form after (ResetComes None)
-
-  go : (b : Bool) → cond b (then_does R (does_alone form l c)) (does_alone form l c) ≡ (l, [])
-  go true = ap (then_does R) (nothing_done form l c gone) ∙ ap (λ y. (y.0, [] ++ y.1)) (nothing_done form l (ResetComes None) gone)
-  go false = nothing_done form l c gone
+nothing_answered form l c gone = grind arith
 
 pub nothing_at_all : (form : EndForm) (causes : List LoneCause) (l : Lone) → is_none l.node ≡ true → all_answered form l causes ≡ (l, [])
 nothing_at_all form [] l gone = refl
@@ -88,8 +77,7 @@ module _ {N : Type 0} (writes : N → ℕ → List ℕ → Bool → N → Type 0
             ∙ (ap (λ t. (record b.after { memory = after_planned (b.sure ++ t) m }, one)) none
             ∙ ap (λ s. (record b.after { memory = after_planned s m }, one)) (append-nil b.sure)) in
             let plan_is : m1.plan ≡ plan_behind b.sure m.plan = (planned_whole b.sure m parts.0).1 in
-            let then_is : g (record b.after { memory = m1 }) ≡ (record c.after { memory = after_planned (c.sure ++ c.torn) m1 }, two) =
-            c.is m1 (subst (λ p. Foretells p c.sure c.torn (is_none c.after.node)) (sym plan_is) parts.1) in
+            let then_is : g (record b.after { memory = m1 }) ≡ (record c.after { memory = after_planned (c.sure ++ c.torn) m1 }, two) = grind arith in
             let all : after_planned (c.sure ++ c.torn) m1 ≡ after_planned ((b.sure ++ c.sure) ++ c.torn) m =
             sym (after_planned-append b.sure (c.sure ++ c.torn) m parts.0) ∙ ap (λ s. after_planned s m) (sym (append_assoc b.sure c.sure c.torn)) in
             ap (then_does g) all_sure
@@ -115,14 +103,7 @@ module _ {N : Type 0} (writes : N → ℕ → List ℕ → Bool → N → Type 0
   -- said in other words
   pub brings_as : {old new : N} {S : Lone → Type 0} {f : Memory → Lone × List ℕ} (g : Memory → Lone × List ℕ) {one : List ℕ}
       (b : BringsAlone writes old new S f one) → ((m : Memory) → g m ≡ f m) → BringsAlone writes old new S g one
-  brings_as g b same = record {
-    after = b.after;
-    stands = b.stands;
-    sure = b.sure;
-    torn = b.torn;
-    made = b.made;
-    is = λ m foretold. same m ∙ b.is m foretold;
-  }
+  brings_as g b same = grind arith
 
   -- nothing came
   pub brings_nothing : {old : N} (S : Lone → Type 0) (l : Lone) → S l → is_none l.node ≡ false
@@ -203,13 +184,7 @@ module _ {N : Type 0} (writes : N → ℕ → List ℕ → Bool → N → Type 0
     -- what is known beside is left out
     pub as_yet : {old new : N} {stopped asks : Bool} {f : Memory → Lone × List ℕ} {before now : List ℕ}
         → HasAnswered writes old new (RunsReady n stopped asks) f before now → HasAnswered writes old new (RunsYet n stopped) f before now
-    as_yet h =
-        let b = h.brings in
-        record {
-          given = h.given;
-          appended = h.appended;
-          brings = record { after = b.after; stands = b.stands.0; sure = b.sure; torn = b.torn; made = b.made; is = b.is };
-        }
+    as_yet h = grind arith
 
     -- it has stopped: no reset comes
     pub stopped_then : {old new : N} (c : LoneCause) (l : Lone) {before now : List ℕ}
@@ -233,13 +208,7 @@ module _ {N : Type 0} (writes : N → ℕ → List ℕ → Bool → N → Type 0
     pub without_reset : {old new : N} {stopped : Bool} (c : LoneCause) (l : Lone) {before now : List ℕ}
         → HasAnswered writes old new (RunsYet n stopped) (λ m. does_alone form (over l m) c) before now → asks_reset l c ≡ false
         → HasAnswered writes old new (RunsYet n stopped) (λ m. answers_alone form (over l m) c) before now
-    without_reset c l h none = record {
-      given = h.given;
-      appended = h.appended;
-      brings = brings_as writes (λ m. answers_alone form (over l m) c) h.brings
-          (λ m. ap (λ b. cond b (then_does (λ after. does_alone form after (ResetComes None)) (does_alone form (over l m) c))
-          (does_alone form (over l m) c)) none);
-    }
+    without_reset c l h none = grind arith
 
     -- a reset is asked for, and comes
     pub with_reset : (later : Node N) {old mid new : N} {stopped : Bool} (c : LoneCause) (l : Lone) {before then_is now : List ℕ}
@@ -313,20 +282,13 @@ module _ {N : Type 0} (writes : N → ℕ → List ℕ → Bool → N → Type 0
   pub same_causes : {old new : N} {S : Lone → Type 0} (others : List LoneCause) {causes : List LoneCause} (l : Lone) → causes ≡ others
       → {before now : List ℕ} → HasAnswered writes old new S (λ m. all_answered form (over l m) causes) before now
       → HasAnswered writes old new S (λ m. all_answered form (over l m) others) before now
-  same_causes {old} {new} {S} others l is {before} {now} h =
-      subst (λ z. HasAnswered writes old new S (λ m. all_answered form (over l m) z) before now) is h
+  same_causes others l is h = grind arith
 
   -- and with more that is known behind it
   pub stands_as : {old new : N} (S T : Lone → Type 0) (causes : List LoneCause) (l : Lone) → ((k : Lone) → S k → T k)
       → {before now : List ℕ} → HasAnswered writes old new S (λ m. all_answered form (over l m) causes) before now
       → HasAnswered writes old new T (λ m. all_answered form (over l m) causes) before now
-  stands_as S T causes l more h =
-      let b = h.brings in
-      record {
-        given = h.given;
-        appended = h.appended;
-        brings = record { after = b.after; stands = more b.after b.stands; sure = b.sure; torn = b.torn; made = b.made; is = b.is };
-      }
+  stands_as S T causes l more h = grind arith
 
 -- ---- what a node alone answers to all that comes to it is the run of `end`
 
@@ -334,13 +296,8 @@ module _ {N : Type 0} (writes : N → ℕ → List ℕ → Bool → N → Type 0
 abbrev whole : EndForm → Lone → List LoneCause → Lone × List ℕ
 whole form l causes = (lone_after l causes, flat_map (event_written form l.number) (lone_events l causes))
 
-with_input_number : (l : Lone) (c : LoneCause) (r : Running) (o : Option LinkInput) → (does_with_input l c r o).0.number ≡ l.number
-with_input_number l c r None = refl
-with_input_number l c r (Some i) = refl
-
 by_power_number : (l : Lone) (c : LoneCause) (o : Option Running) → (does_by_power l c o).0.number ≡ l.number
-by_power_number l c None = refl
-by_power_number l c (Some r) = with_input_number l c r (lone_input c)
+by_power_number l c o = grind arith
 
 step_number : (l : Lone) (c : LoneCause) → (lone_step l c).0.number ≡ l.number
 step_number l c = by_power_number l c l.node
@@ -350,16 +307,14 @@ no_events l [] gone = refl
 no_events l (c ∷ causes) gone = rw gone refl
 
 none_some : (o : Option Running) → is_some o ≡ false → is_none o ≡ true
-none_some None q = refl
-none_some (Some r) q = absurd (true≢false q)
+none_some o q = grind arith
 
 after_gone : (form : EndForm) (l : Lone) (c : LoneCause) (causes : List LoneCause) → is_some l.node ≡ false
     → whole form l (c ∷ causes) ≡ then_does (λ a. whole form a causes) (does_alone form l c)
 after_gone form l c causes gone =
     let nothing : does_alone form l c ≡ (l, []) = nothing_done form l c (none_some l.node gone) in
     let same : lone_after l (c ∷ causes) ≡ lone_after l causes = ap (λ (x : Lone × List ℕ). lone_after x.0 causes) nothing in
-    let none : flat_map (event_written form l.number) (lone_events l (c ∷ causes)) ≡ [] =
-    ap (flat_map (event_written form l.number)) (no_events l (c ∷ causes) gone) in
+    let none : flat_map (event_written form l.number) (lone_events l (c ∷ causes)) ≡ [] = grind arith in
     let none_later : flat_map (event_written form l.number) (lone_events l causes) ≡ [] =
     ap (flat_map (event_written form l.number)) (no_events l causes gone) in
     ap (λ z. (z, flat_map (event_written form l.number) (lone_events l (c ∷ causes)))) same
@@ -367,15 +322,7 @@ after_gone form l c causes gone =
 
 after_on : (form : EndForm) (l : Lone) (c : LoneCause) (causes : List LoneCause) → is_some l.node ≡ true
     → whole form l (c ∷ causes) ≡ then_does (λ a. whole form a causes) (does_alone form l c)
-after_on form l c causes on =
-    let next : Lone = (lone_step l c).0 in
-    let first : List ℕ = event_written form l.number (record { cause = c; entries = (lone_step l c).1 }) in
-    ap (λ b. (
-      lone_after next causes,
-      flat_map (event_written form l.number)
-          (cond b (record { cause = c; entries = (lone_step l c).1 } ∷ lone_events next causes) []),
-    )) on
-    ∙ ap (λ n. (lone_after next causes, first ++ flat_map (event_written form n) (lone_events next causes))) (sym (step_number l c))
+after_on form l c causes on = grind arith
 
 whole_then : (form : EndForm) (l : Lone) (c : LoneCause) (causes : List LoneCause)
     → whole form l (c ∷ causes) ≡ then_does (λ a. whole form a causes) (does_alone form l c)
@@ -414,8 +361,7 @@ run_is form (c ∷ causes) l = go (λ z. run_is form causes z) (asks_reset l c) 
       ∙ (ap (λ (z : Lone × List ℕ). (z.0, (x.1 ++ y.1) ++ z.1)) (again y.0)
       ∙ (ap (λ bytes. (v.0, bytes)) (append_assoc x.1 y.1 v.1)
       ∙ (ap (λ (u : Lone × List ℕ). (u.0, x.1 ++ u.1)) (sym (whole_then form x.0 (ResetComes None) later))
-      ∙ (sym (whole_then form l c (ResetComes None ∷ later))
-      ∙ ap (λ b. whole form l (cond b (c ∷ ResetComes None ∷ with_resets y.0 causes) (c ∷ with_resets x.0 causes))) (sym q)))))
+      ∙ (grind arith))))
 
 -- bytes behind others
 pub bytes_on : (form : EndForm) (number : ℕ) (first bytes older : List ℕ)
@@ -425,8 +371,7 @@ bytes_on form number (b ∷ first) bytes older =
     ap (λ z. byte_brings form number b older ++ z) (bytes_on form number first bytes (b ∷ older))
     ∙ (ap (λ z. byte_brings form number b older ++ (bytes_bring form number (b ∷ older) first ++ bytes_bring form number z bytes))
     (sym (append_assoc (reverse first) (b ∷ []) older) ∙ ap (λ z. z ++ older) (sym (reverse-append (b ∷ []) first)))
-    ∙ sym (append_assoc (byte_brings form number b older) (bytes_bring form number (b ∷ older) first)
-    (bytes_bring form number (reverse (b ∷ first) ++ older) bytes)))
+    ∙ sym (grind arith))
 
 -- ---- a run grows by the bytes that come
 
@@ -453,8 +398,7 @@ module _ {N : Type 0} (writes : N → ℕ → List ℕ → Bool → N → Type 0
       let F : ℕ → Memory → Lone × List ℕ = λ k m. all_answered form (booted_from k content m) (run_brings form k []) in
       let Run : ℕ → List ℕ → Type 0 = λ k bytes. BringsAlone writes first e.node.store.journal.nv (IsAlone e [] stopped) (F k) bytes in
       subst (λ k. Run k now) (sym same)
-      (subst (Run n.number) (sym h.appended)
-      (brings_as writes (F n.number) on (λ m. ap (all_answered form (booted_from n.number content m)) (append-nil (first_comes form n.number)))))
+      (grind arith)
 
   -- more bytes come
   pub has_heard : (d e : OneEnd N) (more : List ℕ) (stopped : Bool) (bytes written before now : List ℕ) → e.form ≡ d.form
@@ -486,12 +430,7 @@ pub heard_so : {N : Type 0} (writes : N → ℕ → List ℕ → Bool → N → 
     (λ m. all_answered (form_named d.form) (over l m) causes) before now
     → HasAnswered writes d.node.store.journal.nv e.node.store.journal.nv (IsAlone e (reverse came ++ older) stopped)
     (λ m. all_answered (form_named d.form) (over l m) (bytes_bring (form_named d.form) d.node.number older came)) before now
-heard_so writes d e {causes} {stopped} came l older s form_is own reads is h =
-    let form : EndForm = form_named d.form in
-    let Reads : ℕ → Type 0 = λ k. ReaderStandsFor e.reader k (reverse came ++ older) in
-    same_causes writes form (bytes_bring form d.node.number older came) l is
-    (stands_as writes form (RunsYet e.node stopped) (IsAlone e (reverse came ++ older) stopped) causes l
-    (λ k b. (b.0, λ on. record { runs = b.1 on; form_is = form_is; reads = subst Reads (sym own) reads })) h)
+heard_so writes d e came l older s form_is own reads is h = grind arith
 
 -- a whole unit came, and the frame in it, which it answered
 pub unit_heard : {N : Type 0} (writes : N → ℕ → List ℕ → Bool → N → Type 0) (d : OneEnd N) (node : Node N) {stopped : Bool} (came lpdu sent : List ℕ)
@@ -573,8 +512,7 @@ read_further old mid new first second causes more h k =
       brings = λ number older s.
           bytes_on (form_read old) number first second older
           ∙ ap₂ (λ a b. a ++ b) (h.brings number older s)
-          (ap (λ f. bytes_bring f number (reverse first ++ older) second) (sym h.form)
-          ∙ k.brings number (reverse first ++ older) (h.stands number older s));
+          (grind arith);
     }
 
 -- some of those behind a place, which bring nothing

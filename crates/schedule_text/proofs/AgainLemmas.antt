@@ -6,7 +6,6 @@ use Rattle.std.specs.Char.{is_ascii_digit}
 use Rattle.std.specs.Str.{all_ascii_digits}
 use Rattle.std.specs.Str.Parse.{digits_value}
 use Rattle.std.specs.Fmt.{decimal}
-use Rattle.std.proofs.lemmas.Bool.{ltb-true, ltb-false}
 use Rattle.std.proofs.lemmas.Bool.Decides.{nat_tests}
 use Rattle.std.proofs.lemmas.Fmt.{decimal_nonempty, first_decimal, digits_decimal, digits_value-decimal}
 use Rattle.std.proofs.lemmas.Str.Parse.{IsNumeralModel, numerals_by_value}
@@ -26,8 +25,7 @@ abbrev pub IsWord : List ℕ → Type 0
 IsWord word = (0 < length word) × (list_all is_letter word ≡ true)
 
 letter_no_space : (b : Bool) → not b ≡ true → b ≡ false
-letter_no_space true h = cc
-letter_no_space false h = refl
+letter_no_space b h = grind arith
 
 no_spaces : (word : List ℕ) → list_all is_letter word ≡ true → All (λ b. is_space b ≡ false) word
 no_spaces word h = λ k d within. letter_no_space _ (AllPass-from_list_all is_letter word h k d within)
@@ -42,14 +40,11 @@ words-spaced (w ∷ v ∷ ws) h =
     ∙ kept w (slice_split is_space (spaced (v ∷ ws))) h.0.0 ∙ ap (λ vs. w ∷ vs) (words-spaced (v ∷ ws) h.1)
 
 pub by_size : (P : Type 0) (k n : ℕ) (t : Bool) → nat_lt k n ≡ t → (k < n → P) → (n ≤ k → P) → P
-by_size P k n true e below above = below (ltb-true _ _ e)
-by_size P k n false e below above = above (ltb-false _ _ e)
+by_size P k n t e below above = grind arith
 
 -- a hexadecimal digit is a letter
 hex_letter : (k : ℕ) → is_letter (slice_index upper_digits k) ≡ true
-hex_letter k =
-    by_size (is_letter (slice_index upper_digits k) ≡ true) k 16 (nat_lt k 16) refl (λ h. AllPass-from_list_all is_letter upper_digits refl k 0 h)
-    (λ h. subst (λ b. is_letter b ≡ true) (sym (get_or-eq_default upper_digits 0 h)) refl)
+hex_letter k = grind arith
 
 hex_letters : (xs : List ℕ) → list_all is_letter (encode_upper xs) ≡ true
 unfolding encode_with
@@ -78,8 +73,7 @@ unfolding encode_with
 byte_digits b = refl
 
 side_again : (at_host : Bool) → side_value (cond at_host 104 99) ≡ Some at_host
-side_again true = refl
-side_again false = refl
+side_again at_host = grind arith
 
 -- an end is read again
 end_of_digits : (high low : ℕ) (e : End) → byte_value (high ∷ low ∷ []) ≡ Some e.link → end_value (high ∷ low ∷ cond e.at_host 104 99 ∷ []) ≡ Some e
@@ -91,8 +85,7 @@ end_again e h =
     ∙ end_of_digits _ _ e (sym (ap byte_value (byte_digits e.link)) ∙ byte_again e.link h)
 
 side_letter : (at_host : Bool) → is_letter (cond at_host 104 99) ≡ true
-side_letter true = refl
-side_letter false = refl
+side_letter at_host = grind arith
 
 end_letters : (e : End) → IsWord (slice_index upper_digits (e.link / 16) ∷ slice_index upper_digits (e.link % 16) ∷ cond e.at_host 104 99 ∷ [])
 end_letters e = (omega arith, rw (hex_letter (e.link / 16), hex_letter (e.link % 16), side_letter e.at_host) refl)
@@ -129,8 +122,7 @@ digit_letters (c ∷ cs) h = go (is_ascii_digit c) refl h (digit_letters cs)
   where
     go : (t : Bool) → is_ascii_digit c ≡ t → (t && all_ascii_digits cs) ≡ true → (all_ascii_digits cs ≡ true → list_all is_letter cs ≡ true)
         → (is_letter c && list_all is_letter cs) ≡ true
-    go true e h k = let letter : is_letter c ≡ true = grind (arith, nat_tests) in rw letter (k h)
-    go false e h k = cc
+    go t e h k = grind arith
 
 pub number_word : (n : ℕ) → n < 2 ^ 64 → IsWord (decimal n)
 number_word n h = (decimal_nonempty n h, digit_letters (decimal n) (number_digits n h))

@@ -1,7 +1,6 @@
 -- Lines that are read at once are what their rows say.
-use Rattle.std.proofs.Common.{◌≡◌, ℕ, List, [], ◌∷◌, false, refl, sym, ap, ◌∙◌, subst, arith, Option, Some, None, Ok, codes, is_some}
-use Rattle.std.proofs.Common.{◌==◌, ◌≤◌, ◌-◌, true, Bool, length, take, drop, get_or}
-use Rattle.std.proofs.lemmas.Bool.{eqb-true}
+use Rattle.std.proofs.Common.{◌≡◌, ℕ, List, [], ◌∷◌, false, refl, sym, ap, ◌∙◌, arith, Option, Some, None, Ok, codes, is_some, ◌≤◌, ◌-◌, true, Bool, length}
+use Rattle.std.proofs.Common.{take, drop, get_or}
 use Rattle.std.proofs.lemmas.List.{take_all}
 use Rattle.std.proofs.lemmas.List.Sums.{list_all-from_AllPass}
 use Rattle.std.specs.Option.{option_map, option_and_then}
@@ -13,7 +12,7 @@ use Rattle.trace_model.specs.declared.line.Line.TheVariants as line
 use Rattle.schedule_text.specs.declared.forms.Kind.TheVariants as kind
 use Rattle.schedule_text.specs.declared.read.Read.TheVariants as read
 use Rattle.schedule_text.specs.Values.{number_in, byte_value, bytes_value, side_value, end_value}
-use Rattle.schedule_text.specs.Forms.{row_for, send_row, deliver_row, lose_row, damage_row, tick_row, reset_row, busy_row, ready_row}
+use Rattle.schedule_text.specs.Forms.{row_for}
 use Rattle.schedule_text.specs.Lines.{by_row}
 use Rattle.schedule_text.specs.AtOnce.{EndAndWord}
 use Rattle.schedule_text.specs.Words.{words, spaced}
@@ -22,87 +21,49 @@ use Rattle.schedule_text.proofs.AgainLemmas.{IsWord, words-spaced}
 use Rattle.schedule_text.proofs.HexLemmas.{no_high, no_low, byte_of_others}
 use Rattle.schedule_text.proofs.LinesLemmas.{ok_of}
 use Rattle.schedule_text.proofs.RowsLemmas.{Fits}
-use Rattle.schedule_text.proofs.ReadAgainLemmas.{again, again_bare}
 
 -- three words that fit their kinds
 pub sends : (header : Header) (ws : List (List ℕ)) (a b c : List ℕ) → ws ≡ a ∷ b ∷ c ∷ [] → (at : Fits header.hci header.hosts.items 0 kind.Sender a)
     → (pid : Fits header.hci header.hosts.items 0 (kind.Byte 112) b) → (message : Fits header.hci header.hosts.items 0 (kind.Bytes 1 4500) c)
     → Ok (read.Line (line.Send at.0 pid.0 message.0)) ≡ by_row (Some header) (row_for (codes "send") ws) ws
-sends header ws a b c is at pid message =
-    let P : List (List ℕ) → Type 0 = λ l. Ok (read.Line (line.Send at.0 pid.0 message.0)) ≡ by_row (Some header) (row_for (codes "send") l) l in
-    subst P (sym is)
-    (sym (again header.hci header.hosts.items send_row (a ∷ b ∷ c ∷ []) _
-    (record { least = omega arith; most = omega arith; words = (at, (pid, (message, tt))) })
-    (rw (at.1, pid.1, message.1) refl)))
+sends header ws a b c is at pid message = grind arith
 
 -- one word that fits its kind
 pub delivers : (header : Header) (ws : List (List ℕ)) (a : List ℕ) → ws ≡ a ∷ [] → (at : Fits header.hci header.hosts.items 0 kind.End a)
     → Ok (read.Line (line.Deliver at.0 None)) ≡ by_row (Some header) (row_for (codes "deliver") ws) ws
-delivers header ws a is at =
-    let P : List (List ℕ) → Type 0 = λ l. Ok (read.Line (line.Deliver at.0 None)) ≡ by_row (Some header) (row_for (codes "deliver") l) l in
-    subst P (sym is)
-    (sym (again header.hci header.hosts.items deliver_row (a ∷ []) _ (record { least = omega arith; most = omega arith; words = (at, tt) }) (rw at.1 refl)))
+delivers header ws a is at = grind arith
 
 pub loses : (header : Header) (ws : List (List ℕ)) (a : List ℕ) → ws ≡ a ∷ [] → (at : Fits header.hci header.hosts.items 0 kind.End a)
     → Ok (read.Line (line.Lose at.0)) ≡ by_row (Some header) (row_for (codes "lose") ws) ws
-loses header ws a is at =
-    let P : List (List ℕ) → Type 0 = λ l. Ok (read.Line (line.Lose at.0)) ≡ by_row (Some header) (row_for (codes "lose") l) l in
-    subst P (sym is)
-    (sym (again header.hci header.hosts.items lose_row (a ∷ []) _ (record { least = omega arith; most = omega arith; words = (at, tt) }) (rw at.1 refl)))
+loses header ws a is at = grind arith
 
 pub resets : (header : Header) (ws : List (List ℕ)) (a : List ℕ) → ws ≡ a ∷ [] → (at : Fits header.hci header.hosts.items 0 kind.End a)
     → Ok (read.Line (line.Reset at.0 None)) ≡ by_row (Some header) (row_for (codes "reset") ws) ws
-resets header ws a is at =
-    let P : List (List ℕ) → Type 0 = λ l. Ok (read.Line (line.Reset at.0 None)) ≡ by_row (Some header) (row_for (codes "reset") l) l in
-    subst P (sym is)
-    (sym (again header.hci header.hosts.items reset_row (a ∷ []) _ (record { least = omega arith; most = omega arith; words = (at, tt) }) (rw at.1 refl)))
+resets header ws a is at = grind arith
 
 -- the same where there are no nodes
 pub busies : (header : Header) (ws : List (List ℕ)) (a : List ℕ) → ws ≡ a ∷ [] → header.hci ≡ false → (at : Fits header.hci header.hosts.items 0 kind.End a)
     → Ok (read.Line (line.Busy at.0)) ≡ by_row (Some header) (row_for (codes "busy") ws) ws
-busies header ws a is bare at =
-    let P : List (List ℕ) → Type 0 = λ l. Ok (read.Line (line.Busy at.0)) ≡ by_row (Some header) (row_for (codes "busy") l) l in
-    subst P (sym is)
-    (sym (again_bare header busy_row (a ∷ []) _ bare (record { least = omega arith; most = omega arith; words = (at, tt) }) (rw at.1 refl)))
+busies header ws a is bare at = grind arith
 
 pub readies : (header : Header) (ws : List (List ℕ)) (a : List ℕ) → ws ≡ a ∷ [] → header.hci ≡ false → (at : Fits header.hci header.hosts.items 0 kind.End a)
     → Ok (read.Line (line.Ready at.0)) ≡ by_row (Some header) (row_for (codes "ready") ws) ws
-readies header ws a is bare at =
-    let P : List (List ℕ) → Type 0 = λ l. Ok (read.Line (line.Ready at.0)) ≡ by_row (Some header) (row_for (codes "ready") l) l in
-    subst P (sym is)
-    (sym (again_bare header ready_row (a ∷ []) _ bare (record { least = omega arith; most = omega arith; words = (at, tt) }) (rw at.1 refl)))
+readies header ws a is bare at = grind arith
 
 -- an end and a number from 1 to 4
 pub resets_with : (header : Header) (ws : List (List ℕ)) (at : End) (b : List ℕ) → EndAndWord header.hosts.items ws at b → (n : ℕ) → number_in 1 4 b ≡ Some n
     → Ok (read.Line (line.Reset at (Some n))) ≡ by_row (Some header) (row_for (codes "reset") ws) ws
-resets_with header ws at b found n number =
-    let P : List (List ℕ) → Type 0 = λ l. Ok (read.Line (line.Reset at (Some n))) ≡ by_row (Some header) (row_for (codes "reset") l) l in
-    let is_end = found.1.1 in
-    subst P (sym found.1.0)
-    (sym (again header.hci header.hosts.items reset_row (found.0 ∷ b ∷ []) _
-    (record { least = omega arith; most = omega arith; words = ((at, is_end.0, is_end.1), ((n, number), tt)) })
-    (rw (is_end.0, number) refl)))
+resets_with header ws at b found n number = grind arith
 
 -- an end and one place of a bit
 pub damages : (header : Header) (ws : List (List ℕ)) (at : End) (b : List ℕ) → EndAndWord header.hosts.items ws at b → (p : ℕ) → number_in 0 399 b ≡ Some p
     → Ok (read.Line (line.Damage at (record { items = p ∷ [] }))) ≡ by_row (Some header) (row_for (codes "damage") ws) ws
-damages header ws at b found p number =
-    let P : List (List ℕ) → Type 0 =
-    λ l. Ok (read.Line (line.Damage at (record { items = p ∷ [] }))) ≡ by_row (Some header) (row_for (codes "damage") l) l in
-    let is_end = found.1.1 in
-    subst P (sym found.1.0)
-    (sym (again header.hci header.hosts.items damage_row (found.0 ∷ b ∷ []) _
-    (record { least = omega arith; most = omega arith; words = ((at, is_end.0, is_end.1), ((p, number), tt)) })
-    (rw (is_end.0, number) refl)))
+damages header ws at b found p number = grind arith
 
 -- a number from 1 to 100
 pub ticks : (header : Header) (ws : List (List ℕ)) (a : List ℕ) → ws ≡ a ∷ [] → (n : ℕ) → number_in 1 100 a ≡ Some n
     → Ok (read.Line (line.Tick (Some n))) ≡ by_row (Some header) (row_for (codes "tick") ws) ws
-ticks header ws a is n number =
-    let P : List (List ℕ) → Type 0 = λ l. Ok (read.Line (line.Tick (Some n))) ≡ by_row (Some header) (row_for (codes "tick") l) l in
-    subst P (sym is)
-    (sym (again header.hci header.hosts.items tick_row (a ∷ []) _ (record { least = omega arith; most = omega arith; words = ((n, number), tt) })
-    (rw number refl)))
+ticks header ws a is n number = grind arith
 
 -- a message is half as long as its digits
 pub message_sizes : (digits bytes : List ℕ) → bytes_value digits ≡ Some bytes → 2 ≤ length digits → length digits ≤ 9000
@@ -113,11 +74,7 @@ message_sizes digits bytes h some few =
 
 -- a hexadecimal digit is a letter
 digit_is_letter : (c : ℕ) → is_hex_digit c ≡ true → is_letter c ≡ true
-digit_is_letter c h = go (c == 32) refl
-  where
-    go : (t : Bool) → (c == 32) ≡ t → is_letter c ≡ true
-    go true e = let no : is_hex_digit 32 ≡ true = subst (λ n. is_hex_digit n ≡ true) (eqb-true c 32 e) h in cc no
-    go false e = rw e refl
+digit_is_letter c h = grind arith
 
 -- so are two
 byte_letters : (a b n : ℕ) → byte_value (a ∷ b ∷ []) ≡ Some n → (is_letter a ≡ true) × (is_letter b ≡ true)
@@ -130,11 +87,7 @@ byte_letters a b n h = go (hex_digit_value a) refl (hex_digit_value b) refl
 
 -- and the letter of a side
 side_is_letter : (c : ℕ) (at_host : Bool) → side_value c ≡ Some at_host → is_letter c ≡ true
-side_is_letter c at_host h = go (c == 32) refl
-  where
-    go : (t : Bool) → (c == 32) ≡ t → is_letter c ≡ true
-    go true e = let no : side_value 32 ≡ Some at_host = subst (λ n. side_value n ≡ Some at_host) (eqb-true c 32 e) h in cc no
-    go false e = rw e refl
+side_is_letter c at_host h = grind arith
 
 -- an end is one word
 pub end_is_word : (word : List ℕ) (at : End) → end_value word ≡ Some at → IsWord word

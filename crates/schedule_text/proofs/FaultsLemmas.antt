@@ -1,6 +1,6 @@
 -- When each fault comes.
 use Rattle.std.proofs.Common.{◌≡◌, ◌≢◌, ℕ, ◌+◌, Bool, true, false, not, cond, List, [], ◌∷◌, refl, sym, ◌∙◌, subst, Option, Some, None, Result, Ok, Err, inl}
-use Rattle.std.proofs.Common.{inr, codes, ◌↔◌, IfOk, IsTrue}
+use Rattle.std.proofs.Common.{inr, codes, ◌↔◌, IfOk, IsTrue, arith}
 use Rattle.std.specs.Option.{option_map, option_or}
 use Rattle.trace_model.specs.declared.line.Header.{Header}
 use Rattle.schedule_text.specs.declared.fault.LineFault.{LineFault}
@@ -9,12 +9,11 @@ use Rattle.schedule_text.specs.declared.read.Read.{Read}
 use Rattle.schedule_text.specs.declared.read.Read.TheVariants as read
 use Rattle.schedule_text.specs.declared.forms.Kind.{Kind}
 use Rattle.schedule_text.specs.declared.forms.Kind.TheVariants as kind
-use Rattle.schedule_text.specs.Forms.{FormRow, rows, row_for, has_third, nodes_row, header_row}
-use Rattle.schedule_text.specs.Forms.{send_row, deliver_row, lose_row, damage_row, tick_row, reset_row, busy_row, ready_row}
-use Rattle.schedule_text.specs.Forms.{boot_row, cut_row, activate_row, arm_row, init_row, tables_row, settle_row}
+use Rattle.schedule_text.specs.Forms.{FormRow, rows, row_for, has_third, nodes_row, header_row, send_row, deliver_row, lose_row, damage_row, tick_row}
+use Rattle.schedule_text.specs.Forms.{reset_row, busy_row, ready_row, boot_row, cut_row, activate_row, arm_row, init_row, tables_row, settle_row}
 use Rattle.schedule_text.specs.Rules.{Slot, slots, rising, digits_fault, first_digits_fault, first_host_fault, is_well_formed, words_fault}
 use Rattle.schedule_text.specs.Lines.{read_of, may_stand, has_nodes, hosts_of, unless_fault, by_row, is_comment}
-use Rattle.schedule_text.specs.Answers.{IsReadOrNoMemory, IsBareForm, IsNodeForm, IsOutOfOrder}
+use Rattle.schedule_text.specs.Answers.{IsReadOrNoMemory, IsOutOfOrder}
 use Rattle.schedule_text.proofs.RowsLemmas.{row_cases}
 
 -- a fault of the words behind the first
@@ -30,35 +29,18 @@ abbrev AreLater : Option LineFault → Type 0
 AreLater None = Unit {0}
 AreLater (Some f) = IsLater f
 
-later_cond : (t : Bool) (f : LineFault) → IsLater f → AreLater (cond t None (Some f))
-later_cond true f h = tt
-later_cond false f h = h
-
 later_or : (a b : Option LineFault) → AreLater a → AreLater b → AreLater (option_or a b)
-later_or None b h k = k
-later_or (Some f) b h k = h
+later_or a b h k = grind arith
 
 later_digits : (at from : ℕ) (k : Kind) (word : List ℕ) → AreLater (digits_fault at from k word)
-later_digits at from kind.Version word = tt
-later_digits at from kind.Bare word = tt
-later_digits at from kind.End word = tt
-later_digits at from kind.Sender word = tt
-later_digits at from kind.Nodes word = tt
-later_digits at from kind.Host word = later_cond _ (fault.Hex at) tt
-later_digits at from kind.Node word = later_cond _ (fault.Hex at) tt
-later_digits at from kind.NewHost word = later_cond _ (fault.Hex at) tt
-later_digits at from (kind.Byte below) word = later_cond _ (fault.Hex at) tt
-later_digits at from (kind.Bytes low high) word = later_cond _ (fault.Hex at) tt
-later_digits at from (kind.Number low high) word = later_cond _ (fault.Number at) tt
-later_digits at from (kind.Rising high) word = later_cond _ (fault.Number at) tt
+later_digits at from k word = grind arith
 
 later_first : (at from : ℕ) (ss : List Slot) → AreLater (first_digits_fault at from ss)
 later_first at from [] = tt
 later_first at from (s ∷ ss) = later_or _ _ (later_digits at from s.kind s.word) (later_first (at + 1) (rising from s.kind s.word) ss)
 
 later_host : (o : Option ℕ) → AreLater (option_map fault.Host o)
-later_host None = tt
-later_host (Some h) = tt
+later_host o = grind arith
 
 later_words : (hci : Bool) (hosts : List ℕ) (row : FormRow) (ws : List (List ℕ)) → AreLater (words_fault hci hosts row ws)
 later_words hci hosts row ws = go (is_well_formed hci row ws)
@@ -70,9 +52,7 @@ later_words hci hosts row ws = go (is_well_formed hci row ws)
     go false = tt
 
 later_said : (o : Option LineFault) (said : Option Read) (f : LineFault) → AreLater o → unless_fault o said ≡ Err f → IsLater f
-later_said (Some g) said f h e = let same : g ≡ f = cc in subst IsLater same h
-later_said None (Some r) f h e = cc
-later_said None None f h e = let same : fault.Word ≡ f = cc in subst IsLater same tt
+later_said o said f h e = grind arith
 
 -- no row makes a line too long
 pub not_too_long : (header : Option Header) (o : Option FormRow) (ws : List (List ℕ)) → by_row header o ws ≡ Err fault.TooLong → ⊥
@@ -101,60 +81,11 @@ allowed : (header : Option Header) (row : FormRow) (ws : List (List ℕ)) → ma
 allowed header row ws stands h = let not = not_standing header row ws h in cc
 
 not_bare : (hci : Bool) → not hci ≡ false → IsTrue hci
-not_bare true h = refl
-not_bare false h = cc
+not_bare hci h = grind arith
 
 first_order : (first : List ℕ) (ws : List (List ℕ)) → first ≢ codes "swp" → by_row None (row_for first ws) ws ≡ Err fault.Order
 first_order first ws other =
-    row_cases (λ o. by_row None o ws ≡ Err fault.Order) rows first ws (
-      λ e. absurd (other e),
-      (
-        λ e. absurd (other e),
-        (
-          λ e. refl,
-          (
-            λ e. refl,
-            (
-              λ e. refl,
-              (
-                λ e. refl,
-                (
-                  λ e. refl,
-                  (
-                    λ e. refl,
-                    (
-                      λ e. refl,
-                      (
-                        λ e. refl,
-                        (
-                          λ e. refl,
-                          (
-                            λ e. refl,
-                            (
-                              λ e. refl,
-                              (
-                                λ e. refl,
-                                (
-                                  λ e. refl,
-                                  (
-                                    λ e. refl,
-                                    (λ e. refl, tt),
-                                  ),
-                                ),
-                              ),
-                            ),
-                          ),
-                        ),
-                      ),
-                    ),
-                  ),
-                ),
-              ),
-            ),
-          ),
-        ),
-      ),
-    ) (λ e. refl)
+    row_cases (λ o. by_row None o ws ≡ Err fault.Order) rows first ws (grind arith) (λ e. refl)
 
 bare_forbidden : (header : Header) (row : FormRow) (ws : List (List ℕ)) → may_stand row.place (Some header) ≡ not header.hci
     → by_row (Some header) (Some row) ws ≡ Err fault.Order → IsTrue header.hci
@@ -217,31 +148,9 @@ later_order header first ws =
       ),
     ) (λ e h. cc)
 
-bare_order : (header : Header) (first : List ℕ) (ws : List (List ℕ)) → IsTrue header.hci → IsBareForm first
-    → by_row (Some header) (row_for first ws) ws ≡ Err fault.Order
-bare_order header first ws hci (inl e) = subst (λ w. by_row (Some header) (row_for w ws) ws ≡ Err fault.Order) (sym e) (rw hci refl)
-bare_order header first ws hci (inr e) = subst (λ w. by_row (Some header) (row_for w ws) ws ≡ Err fault.Order) (sym e) (rw hci refl)
-
-nodes_order : (header : Header) (first : List ℕ) (ws : List (List ℕ)) → header.hci ≡ false → IsNodeForm first
-    → by_row (Some header) (row_for first ws) ws ≡ Err fault.Order
-nodes_order header first ws bare (inl e) = subst (λ w. by_row (Some header) (row_for w ws) ws ≡ Err fault.Order) (sym e) (rw bare refl)
-nodes_order header first ws bare (inr (inl e)) = subst (λ w. by_row (Some header) (row_for w ws) ws ≡ Err fault.Order) (sym e) (rw bare refl)
-nodes_order header first ws bare (inr (inr (inl e))) = subst (λ w. by_row (Some header) (row_for w ws) ws ≡ Err fault.Order) (sym e) (rw bare refl)
-nodes_order header first ws bare (inr (inr (inr (inl e)))) = subst (λ w. by_row (Some header) (row_for w ws) ws ≡ Err fault.Order) (sym e) (rw bare refl)
-nodes_order header first ws bare (inr (inr (inr (inr (inl e))))) = subst (λ w. by_row (Some header) (row_for w ws) ws ≡ Err fault.Order) (sym e) (rw bare refl)
-nodes_order header first ws bare (inr (inr (inr (inr (inr e))))) = subst (λ w. by_row (Some header) (row_for w ws) ws ≡ Err fault.Order) (sym e) (rw bare refl)
-
--- a header behind the first line
-second_header : (header : Header) (ws : List (List ℕ)) (t : Bool) → by_row (Some header) (cond t (Some nodes_row) (Some header_row)) ws ≡ Err fault.Order
-second_header header ws true = refl
-second_header header ws false = refl
-
 order_later : (header : Header) (first : List ℕ) (ws : List (List ℕ)) → IsOutOfOrder (Some header) (first ∷ ws)
     → by_row (Some header) (row_for first ws) ws ≡ Err fault.Order
-order_later header first ws (inl e) =
-    subst (λ w. by_row (Some header) (row_for w ws) ws ≡ Err fault.Order) (sym e) (second_header header ws (has_third (codes "hci") ws))
-order_later header first ws (inr (inl h)) = bare_order header first ws h.0 h.1
-order_later header first ws (inr (inr h)) = nodes_order header first ws h.0 h.1
+order_later header first ws a = grind arith
 
 first_header : (ws : List (List ℕ)) (t : Bool) → by_row None (cond t (Some nodes_row) (Some header_row)) ws ≡ Err fault.Order → ⊥
 first_header ws true h = allowed None nodes_row ws refl h
@@ -259,19 +168,13 @@ order_iff (Some header) first ws letter = (later_order header first ws, order_la
 
 -- want of memory is no fault
 pub same_fault : (answer said : Result Read LineFault) (f : LineFault) → IsReadOrNoMemory answer said → (answer ≡ Err f) ↔ (said ≡ Err f)
-same_fault answer said f (inl e) = (λ h. sym e ∙ h, λ h. e ∙ h)
-same_fault answer (Ok r) f (inr m) = (λ h. cc (m.0), λ h. cc)
-same_fault answer (Err g) f (inr m) = absurd m.1
+same_fault answer said f a = grind arith
 
 -- nor is a line skipped for it
 pub same_skip : (answer said : Result Read LineFault) → IsReadOrNoMemory answer said → answer ≡ Ok read.Skip → said ≡ Ok read.Skip
-same_skip answer said (inl e) h = sym e ∙ h
-same_skip answer said (inr m) h = cc (m.0)
+same_skip answer said a h = grind arith
 
 -- what holds of what is read holds of what is answered, if it holds of want of memory
 pub answer_fits : (P : Read → Type 0) (answer said : Result Read LineFault) → IsReadOrNoMemory answer said → ((r : Read) → said ≡ Ok r → P r)
     → P read.NoMemory → IfOk answer P
-answer_fits P (Ok r) said (inl e) h m = h r (sym e)
-answer_fits P (Err f) said (inl e) h m = tt
-answer_fits P (Ok r) said (inr e) h m = let same : read.NoMemory ≡ r = cc (e.0) in subst P same m
-answer_fits P (Err f) said (inr e) h m = tt
+answer_fits P answer said a h m = grind arith

@@ -1,5 +1,5 @@
 -- The table of the program is that of the definition.
-use Rattle.std.proofs.Common.{◌≡◌, ◌&&◌, ℕ, Bool, true, false, cond, List, [], ◌∷◌, refl, Some, map, find}
+use Rattle.std.proofs.Common.{◌≡◌, ◌&&◌, ℕ, Bool, cond, List, [], ◌∷◌, refl, Some, map, find, arith}
 use Rattle.std.specs.Option.{option_map}
 use Rattle.std.specs.Str.{bytes_eq}
 use Rattle.schedule_text.specs.declared.forms.Form.{Form}
@@ -15,5 +15,4 @@ row-find (form ∷ forms) first ws = go (bytes_eq form.first.now first && has_th
         → option_map row_of_form (find (λ f. bytes_eq f.first.now first && has_third f.third.now ws) forms) ≡ row_in (map row_of_form forms) first ws
         → option_map row_of_form (cond t (Some form) (find (λ f. bytes_eq f.first.now first && has_third f.third.now ws) forms))
         ≡ cond t (Some (row_of_form form)) (row_in (map row_of_form forms) first ws)
-    go true h = refl
-    go false h = h
+    go t h = grind arith

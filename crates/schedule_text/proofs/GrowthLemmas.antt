@@ -20,24 +20,12 @@ behind start text = record { mark = start.mark; before = start.before ++ text }
 pub holds_from : (start : Start) (text : List ℕ) (t : Text) → HoldsText start text t → HoldsText (behind start text) [] t
 holds_from start text t h =
     let e : start.before ++ text ≡ (start.before ++ text) ++ [] = sym (append-nil (start.before ++ text)) in
-    record {
-      whole = λ s. h.whole s ∙ e;
-      mark_is = h.mark_is;
-      marked = h.marked;
-      within = subst (λ x. start.mark ≤ length x) e h.within;
-      kept = h.kept ∙ ap (λ x. take start.mark x) e;
-    }
+    grind arith
 
 pub holds_back : (start : Start) (text more : List ℕ) (t : Text) → HoldsText (behind start text) more t → HoldsText start (text ++ more) t
 holds_back start text more t h =
     let e : (start.before ++ text) ++ more ≡ start.before ++ (text ++ more) = append_assoc start.before text more in
-    record {
-      whole = λ s. h.whole s ∙ e;
-      mark_is = h.mark_is;
-      marked = h.marked;
-      within = subst (λ x. start.mark ≤ length x) e h.within;
-      kept = h.kept ∙ ap (λ x. take start.mark x) e;
-    }
+    grind arith
 
 -- more text behind what is held
 pub holds_more : (start : Start) (text more : List ℕ) (t later : Text) → HoldsText start text t → later.mark ≡ t.mark

@@ -1,15 +1,12 @@
 -- Which words are pairs of hexadecimal digits, and how many.
-use Rattle.std.proofs.Common.{◌≡◌, ◌==◌, ◌+◌, ◌*◌, ◌%◌, ◌/◌, ◌<◌, ◌≤◌, IfSome, ℕ, Bool, true, false, cond, List, [], ◌∷◌}
-use Rattle.std.proofs.Common.{length, slice_index, refl, sym, ◌∙◌, ap, ap₂, arith}
-use Rattle.std.proofs.Common.{Option, Some, None, Result, Ok, Err, eqb-true}
-use Rattle.std.proofs.lemmas.Bool.{eqb-false}
+use Rattle.std.proofs.Common.{◌≡◌, ◌+◌, ◌*◌, ◌%◌, ◌/◌, ◌<◌, ◌≤◌, IfSome, ℕ, true, List, [], ◌∷◌, length, slice_index, refl, sym, ◌∙◌, ap, ap₂, arith, Option}
+use Rattle.std.proofs.Common.{Some, None, Result, Ok, Err}
 use Rattle.std.specs.Result.{result_ok}
 use Rattle.std.specs.List.{list_all}
 use Rattle.std.specs.Option.{option_map, option_and_then}
 use Rattle.std.proofs.lemmas.List.Sums.{AllPass-from_list_all, list_all-from_AllPass}
 use Rattle.hex.specs.Hex.{decode_of, decode_pairs, digit_or_error, hex_digit_value, is_hex_digit, ◌>>=◌}
 use Rattle.hex.specs.declared.error.FromHexError.{FromHexError}
-use Rattle.hex.specs.declared.error.FromHexError.TheVariants.{OddLength, InvalidStringLength}
 use Rattle.hex.proofs.HexLemmas.{decode_of-ok, decode_of-digits}
 use Rattle.schedule_text.specs.Values.{byte_value, bytes_value}
 
@@ -39,9 +36,7 @@ both_read high low x y = (digit_or_error high 0 x >>= (λ h. digit_or_error low 
 
 both_digits : (high low : ℕ) (x y : Option ℕ)
     → option_map (λ bytes. slice_index bytes 0) (result_ok (both_read high low x y)) ≡ option_and_then (λ h. option_map (λ l. h * 16 + l) y) x
-both_digits high low None y = refl
-both_digits high low (Some h) None = refl
-both_digits high low (Some h) (Some l) = refl
+both_digits high low x y = grind arith
 
 byte_of_two : (high low : ℕ) (x y : Option ℕ) → hex_digit_value high ≡ x → hex_digit_value low ≡ y
     → byte_value (high ∷ low ∷ []) ≡ option_and_then (λ h. option_map (λ l. h * 16 + l) y) x
@@ -58,17 +53,8 @@ no_low high low h e f = sym (byte_of_two high low (Some h) None e f)
 pub two_digits : (high low h l : ℕ) → hex_digit_value high ≡ Some h → hex_digit_value low ≡ Some l → Some (h * 16 + l) ≡ byte_value (high ∷ low ∷ [])
 two_digits high low h l e f = sym (byte_of_two high low (Some h) (Some l) e f)
 
--- other words stand for no byte
-no_byte : (odd short : Bool) (r : Result (List ℕ) FromHexError) → (odd ≡ false → short ≡ true → ⊥)
-    → option_map (λ bytes. slice_index bytes 0) (result_ok (cond odd (Err OddLength) (cond short r (Err InvalidStringLength)))) ≡ None
-no_byte true short r h = refl
-no_byte false true r h = absurd (h refl refl)
-no_byte false false r h = refl
-
 pub byte_of_others : (word : List ℕ) → (length word ≡ 2 → ⊥) → byte_value word ≡ None
-byte_of_others word other =
-    no_byte (length word % 2 == 1) (length word / 2 == 1) (decode_pairs 0 word)
-    (λ even half. other (let e = eqb-false (length word % 2) 1 even in let h = eqb-true (length word / 2) 1 half in omega (arith, e, h)))
+byte_of_others word other = grind arith
 
 -- a word of more digits than 64 bytes have, where a word stands for no more
 pub too_long : (word : List ℕ) → 64 < length word / 2 → IfSome (bytes_value word) (λ bytes. length bytes ≤ 64) → None ≡ bytes_value word

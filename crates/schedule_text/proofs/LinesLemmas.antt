@@ -22,9 +22,8 @@ use Rattle.schedule_text.specs.declared.read.Read.{Read}
 use Rattle.schedule_text.specs.declared.read.Read.TheVariants as read
 use Rattle.schedule_text.specs.Words.{words}
 use Rattle.schedule_text.specs.Values.{byte_value, bytes_value, sized_value, two_bytes, number_in}
-use Rattle.schedule_text.specs.Forms.{FormRow, rows, row_for, nodes_row, header_row}
-use Rattle.schedule_text.specs.Forms.{send_row, deliver_row, lose_row, damage_row, tick_row, reset_row, busy_row, ready_row}
-use Rattle.schedule_text.specs.Forms.{boot_row, cut_row, activate_row, arm_row, init_row, tables_row, settle_row}
+use Rattle.schedule_text.specs.Forms.{FormRow, rows, row_for, nodes_row, header_row, send_row, deliver_row, lose_row, damage_row, tick_row, reset_row}
+use Rattle.schedule_text.specs.Forms.{busy_row, ready_row, boot_row, cut_row, activate_row, arm_row, init_row, tables_row, settle_row}
 use Rattle.schedule_text.specs.Rules.{slots, rising, words_fault}
 use Rattle.schedule_text.specs.Lines.{◌>>=◌, number_at, each_word, read_of, unless_fault, by_row, by_words, is_comment, line_of}
 use Rattle.schedule_text.specs.Answers.{CanBeRead, IsInGrammar}
@@ -42,12 +41,10 @@ contains_found [] q h = cc
 contains_found (x ∷ xs) q h = found_at (x == q) x q xs refl (contains_found xs q) h
 
 implied : (a b : Bool) → (not a || b) ≡ true → IsTrue a → IsTrue b
-implied true b h t = h
-implied false b h t = cc
+implied a b h t = grind arith
 
 pub ok_of : (r : Result (List ℕ) FromHexError) (bytes : List ℕ) → result_ok r ≡ Some bytes → r ≡ Ok bytes
-ok_of (Ok bs) bytes h = cc
-ok_of (Err e) bytes h = cc
+ok_of r bytes h = grind arith
 
 -- what digits stand for are bytes
 are_bytes : (word bytes : List ℕ) → bytes_value word ≡ Some bytes → All (λ b. b < 256) bytes
@@ -55,14 +52,9 @@ are_bytes word bytes h =
     let small = (decode_of-ok word bytes (ok_of (decode_of word) bytes h)).3 in
     λ k d within. subst (λ b. b < 256) (get_or_default bytes k 0 d within) (small k)
 
-number_bounds : (high : ℕ) (word : List ℕ) (o : Option ℕ) → number_in 1 high word ≡ o → IfSome o (λ n. (1 ≤ n) × (n ≤ high))
-number_bounds high word None e = tt
-number_bounds high word (Some n) e = let range = number-range 1 high n word e in (range.1, range.2)
-
 -- a number that may be absent is in its range
 number_ranges : (high : ℕ) (o : Option (List ℕ)) → IfSome (o >>= number_in 1 high) (λ n. (1 ≤ n) × (n ≤ high))
-number_ranges high None = tt
-number_ranges high (Some word) = number_bounds high word (number_in 1 high word) refl
+number_ranges high o = grind arith
 
 -- what the words of a line say that have no fault
 abbrev pub Says : Header → FormRow → List (List ℕ) → Type 0
@@ -225,8 +217,7 @@ pipes_read hci hosts from (w ∷ ws) h =
     )
 
 sender_hosts : (hci at_host : Bool) → hci ≡ true → (not hci || at_host) ≡ true → IsTrue at_host
-sender_hosts true at_host nodes h = h
-sender_hosts false at_host nodes h = cc
+sender_hosts hci at_host nodes h = grind arith
 
 pub says_init : (header : Header) (ws : List (List ℕ)) → header.hci ≡ true → Says header init_row ws
 says_init header (a ∷ b ∷ ws) nodes right =
@@ -342,9 +333,7 @@ IsWhole (Some header) (read.Line said) = MayFollow header said
 IsWhole header r = ⊥
 
 unless_ok : (f : Option LineFault) (said : Option Read) (r : Read) → unless_fault f said ≡ Ok r → (f ≡ None) × (said ≡ Some r)
-unless_ok (Some f) said r h = cc
-unless_ok None (Some r') r h = (refl, cc)
-unless_ok None None r h = cc
+unless_ok f said r h = grind arith
 
 same_read : (a b : Read) → Some a ≡ Some b → a ≡ b
 same_read a b h = cc
@@ -389,49 +378,7 @@ row_whole None first ws r =
       λ e h. whole_nodes_header ws r h,
       (
         λ e h. whole_header ws r h,
-        (
-          λ e h. cc,
-          (
-            λ e h. cc,
-            (
-              λ e h. cc,
-              (
-                λ e h. cc,
-                (
-                  λ e h. cc,
-                  (
-                    λ e h. cc,
-                    (
-                      λ e h. cc,
-                      (
-                        λ e h. cc,
-                        (
-                          λ e h. cc,
-                          (
-                            λ e h. cc,
-                            (
-                              λ e h. cc,
-                              (
-                                λ e h. cc,
-                                (
-                                  λ e h. cc,
-                                  (
-                                    λ e h. cc,
-                                    (λ e h. cc, tt),
-                                  ),
-                                ),
-                              ),
-                            ),
-                          ),
-                        ),
-                      ),
-                    ),
-                  ),
-                ),
-              ),
-            ),
-          ),
-        ),
+        (grind arith),
       ),
     ) (λ e h. cc)
 row_whole (Some header) first ws r =
@@ -496,20 +443,17 @@ pub row_fits : (header : Option Header) (first : List ℕ) (ws : List (List ℕ)
 row_fits header first ws r h = fits_whole header r (row_whole header first ws r h)
 
 no_skip : (header : Option Header) → IsWhole header read.Skip → ⊥
-no_skip None h = h
-no_skip (Some header) h = h
+no_skip header h = grind arith
 
 -- a line of a form isn't skipped
 pub never_skipped : (header : Option Header) (first : List ℕ) (ws : List (List ℕ)) → by_row header (row_for first ws) ws ≡ Ok read.Skip → ⊥
 never_skipped header first ws h = no_skip header (row_whole header first ws read.Skip h)
 
 pub memory_fits : (header : Option Header) → IsInGrammar header read.NoMemory
-memory_fits None = tt
-memory_fits (Some header) = tt
+memory_fits header = grind arith
 
 skip_fits : (header : Option Header) → IsInGrammar header read.Skip
-skip_fits None = tt
-skip_fits (Some header) = tt
+skip_fits header = grind arith
 
 words_fit : (header : Option Header) (ws : List (List ℕ)) (r : Read) → by_words header ws ≡ Ok r → IsInGrammar header r
 words_fit header [] r h = subst (IsInGrammar header) (ok_is _ _ h) (skip_fits header)
@@ -592,13 +536,7 @@ ready hci hosts first ws =
                               λ e r. tt,
                               (
                                 λ e. ready_arm hci hosts ws,
-                                (
-                                  λ e r. r.most,
-                                  (
-                                    λ e r. tt,
-                                    (λ e r. tt, tt),
-                                  ),
-                                ),
+                                (grind arith),
                               ),
                             ),
                           ),

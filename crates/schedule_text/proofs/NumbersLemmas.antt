@@ -1,7 +1,6 @@
 -- The number that decimal digits write, digit by digit.
-use Rattle.std.proofs.Common.{◌≡◌, ◌&&◌, ℕ, suc, ◌+◌, ◌-◌, ◌*◌, ◌<◌, ◌≤◌, Bool, true, false, cond, nat_le, List, [], ◌∷◌, length, get_or, drop, refl, ◌∙◌, ap}
-use Rattle.std.proofs.Common.{arith, Option, Some, None, drop-cons, add-one}
-use Rattle.std.proofs.lemmas.Bool.Decides.{nat_tests}
+use Rattle.std.proofs.Common.{◌≡◌, ◌&&◌, ℕ, suc, ◌+◌, ◌-◌, ◌*◌, ◌<◌, ◌≤◌, Bool, true, false, cond, nat_le, List, [], ◌∷◌, length, get_or, drop, ap, arith}
+use Rattle.std.proofs.Common.{Option, Some, None, drop-cons, add-one}
 use Rattle.std.specs.Char.{digit_value, is_ascii_digit}
 use Rattle.std.specs.Str.{all_ascii_digits}
 use Rattle.std.specs.Str.Parse.{digits_value_after}
@@ -11,14 +10,8 @@ use Rattle.schedule_text.specs.Values.{option_if}
 abbrev pub onward : ℕ → List ℕ → Option ℕ
 onward n word = cond (all_ascii_digits word) (Some (digits_value_after 10 n word)) None
 
--- a digit's value
-digit_is : (c : ℕ) → is_ascii_digit c ≡ true → digit_value c ≡ c - 48
-digit_is c h = grind (arith, nat_tests)
-
 onward_digit : (n c : ℕ) (cs : List ℕ) → is_ascii_digit c ≡ true → onward n (c ∷ cs) ≡ onward (n * 10 + (c - 48)) cs
-onward_digit n c cs h =
-    ap (λ b. cond (b && all_ascii_digits cs) (Some (digits_value_after 10 n (c ∷ cs))) None) h
-    ∙ ap (λ d. cond (all_ascii_digits cs) (Some (digits_value_after 10 (n * 10 + d) cs)) None) (digit_is c h)
+onward_digit n c cs h = grind arith
 
 onward_other : (n c : ℕ) (cs : List ℕ) → is_ascii_digit c ≡ false → onward n (c ∷ cs) ≡ None
 onward_other n c cs h = ap (λ b. cond (b && all_ascii_digits cs) (Some (digits_value_after 10 n (c ∷ cs))) None) h
@@ -38,8 +31,7 @@ value_grows n [] = omega arith
 value_grows n (c ∷ cs) = omega (arith, value_grows (n * 10 + digit_value c) cs)
 
 above : (t : Bool) (v high : ℕ) → high < v → option_if (λ k. nat_le k high) (cond t (Some v) None) ≡ None
-above true v high h = grind (arith, nat_tests)
-above false v high h = refl
+above t v high h = grind arith
 
 -- so a number that is too large stays so
 pub onward_above : (n high : ℕ) (cs : List ℕ) → high < n → option_if (λ k. nat_le k high) (onward n cs) ≡ None

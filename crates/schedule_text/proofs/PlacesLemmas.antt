@@ -1,9 +1,9 @@
 -- Places of bits, word by word.
-use Rattle.std.proofs.Common.{◌≡◌, ◌&&◌, ℕ, zero, suc, ◌+◌, ◌<◌, ◌≤◌, Bool, true, false, cond, nat_le, List, [], ◌∷◌, ◌++◌, length, slice_index, refl, sym, ap}
-use Rattle.std.proofs.Common.{subst, arith, Option, Some, None, All, append_assoc, append-nil}
+use Rattle.std.proofs.Common.{◌≡◌, ◌&&◌, ℕ, zero, suc, ◌+◌, ◌<◌, ◌≤◌, Bool, nat_le, List, [], ◌∷◌, ◌++◌, length, slice_index, refl, sym, ap, subst, arith}
+use Rattle.std.proofs.Common.{Option, Some, None, All, append_assoc, append-nil}
 use Rattle.std.specs.List.Sorted.{IsStrictlyIncreasing}
 use Rattle.std.specs.Option.{option_map, option_map_or}
-use Rattle.std.proofs.lemmas.Bool.{leb-true, le-leb, and_parts}
+use Rattle.std.proofs.lemmas.Bool.{le-leb}
 use Rattle.schedule_text.specs.declared.forms.Kind.TheVariants as kind
 use Rattle.schedule_text.specs.Values.{number_value, number_in, option_if}
 use Rattle.schedule_text.specs.Rules.{slots}
@@ -34,13 +34,7 @@ RiseFrom from [] = Unit {0}
 RiseFrom from (p ∷ ps) = (from ≤ p) × (p ≤ 399) × RiseFrom (p + 1) ps
 
 in_range : (low high n : ℕ) (o : Option ℕ) → option_if (λ k. nat_le low k && nat_le k high) o ≡ Some n → (o ≡ Some n) × (low ≤ n) × (n ≤ high)
-in_range low high n None h = cc
-in_range low high n (Some k) h = go (nat_le low k && nat_le k high) refl h
-  where
-    go : (t : Bool) → (nat_le low k && nat_le k high) ≡ t → cond t (Some k) None ≡ Some n → (Some k ≡ Some n) × (low ≤ n) × (n ≤ high)
-    go true e h = let same : k ≡ n = cc in let parts =
-        and_parts _ _ e in (h, subst (λ m. low ≤ m) same (leb-true _ _ parts.0), subst (λ m. m ≤ high) same (leb-true _ _ parts.1))
-    go false e h = cc
+in_range low high n o h = grind arith
 
 -- a number that is read is in its range
 pub number-range : (low high n : ℕ) (word : List ℕ) → number_in low high word ≡ Some n → (number_value word ≡ Some n) × (low ≤ n) × (n ≤ high)

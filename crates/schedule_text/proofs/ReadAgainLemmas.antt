@@ -1,8 +1,7 @@
 -- What is written of a line or a header is read again as it: one lemma for each kind of word, and a line for each form.
-use Rattle.std.proofs.Common.{◌≡◌, ◌==◌, ◌||◌, ℕ, zero, suc, ◌+◌, ◌*◌, ◌/◌, ◌%◌, ◌^◌, ◌<◌, ◌≤◌, Bool, true, false, not, cond}
-use Rattle.std.proofs.Common.{inl, inr, eqb-true, List, [], ◌∷◌, ◌++◌, length, get_or, slice_get}
-use Rattle.std.proofs.Common.{slice_index, map, refl, sym, ◌∙◌, ap, subst, arith, Option, Some, None, Ok, Err, IsTrue, IfSome, Contains, All, codes}
-use Rattle.std.proofs.Common.{length-append}
+use Rattle.std.proofs.Common.{◌≡◌, ◌==◌, ◌||◌, ℕ, zero, suc, ◌+◌, ◌*◌, ◌/◌, ◌%◌, ◌^◌, ◌<◌, ◌≤◌, Bool, true, false, not, cond, inl, inr, eqb-true, List, []}
+use Rattle.std.proofs.Common.{◌∷◌, ◌++◌, length, get_or, slice_get, slice_index, map, refl, sym, ◌∙◌, ap, subst, arith, Option, Some, None, Ok, Err, IsTrue}
+use Rattle.std.proofs.Common.{IfSome, Contains, All, codes, length-append}
 use Rattle.std.specs.List.{list_any, AllByRecursion}
 use Rattle.std.specs.List.Sorted.{IsStrictlyIncreasing}
 use Rattle.std.specs.Option.{option_map, option_map_or}
@@ -22,8 +21,8 @@ use Rattle.schedule_text.specs.declared.read.Read.{Read}
 use Rattle.schedule_text.specs.declared.read.Read.TheVariants as read
 use Rattle.schedule_text.specs.Words.{spaced}
 use Rattle.schedule_text.specs.Values.{byte_value, bytes_value, sized_value, two_bytes, two_bytes_value, number_value, number_in, end_value}
-use Rattle.schedule_text.specs.Forms.{FormRow, nodes_row, boot_row, cut_row, activate_row, arm_row, init_row, tables_row, settle_row}
-use Rattle.schedule_text.specs.Forms.{header_row, send_row, deliver_row, lose_row, damage_row, tick_row, reset_row, busy_row, ready_row}
+use Rattle.schedule_text.specs.Forms.{FormRow, nodes_row, boot_row, cut_row, activate_row, init_row, tables_row, send_row, deliver_row, lose_row, damage_row}
+use Rattle.schedule_text.specs.Forms.{tick_row, reset_row, busy_row, ready_row}
 use Rattle.schedule_text.specs.Rules.{slots, words_fault}
 use Rattle.schedule_text.specs.Lines.{◌>>=◌, read_of, bit_places, each_word, unless_fault, by_words, line_of}
 use Rattle.schedule_text.specs.Entries.{byte_text, two_bytes_text, end_text, number_words, header_words, line_words, line_text}
@@ -40,16 +39,14 @@ found (x ∷ xs) q zero h e = rw (eq-eqb x q e) refl
 found (x ∷ xs) q (suc k) h e = go (x == q) (found xs q k (omega arith) e)
   where
     go : (t : Bool) → list_any (λ x. x == q) xs ≡ true → (t || list_any (λ x. x == q) xs) ≡ true
-    go true h = refl
-    go false h = h
+    go t h = grind arith
 
 pub found_in : (xs : List ℕ) (q : ℕ) → Contains xs q → IsKnown xs q
 found_in xs q h = found xs q h.0 h.1 (get_or_default xs h.0 0 q h.1 ∙ h.2)
 
 -- the hosts of a header are small numbers
 pub header_hosts : (header : Header) → MayBegin header → All IsHost header.hosts.items
-header_hosts header (inl h) = h.hosts
-header_hosts header (inr h) = h.hosts
+header_hosts header a = grind arith
 
 host_fits : (hosts : List ℕ) (n : ℕ) → All IsHost hosts → Contains hosts n → n ≤ 7
 host_fits hosts n all h = let host = all h.0 n h.1 in let small : get_or hosts h.0 n ≤ 7 = host.1 in omega (arith, small, h.2)
@@ -66,8 +63,7 @@ link_fits : (header : Header) (e : End) → MayBegin header → Contains header.
 link_fits header e known h = let small = host_fits header.hosts.items e.link (header_hosts header known) h in omega (arith, small)
 
 sender_again : (hci at_host : Bool) → (IsTrue hci → IsTrue at_host) → (not hci || at_host) ≡ true
-sender_again true at_host h = h refl
-sender_again false at_host h = refl
+sender_again hci at_host h = grind arith
 
 -- an end that is written fits
 end_fits : (header : Header) (e : End) → MayBegin header → Contains header.hosts.items e.link → Fits header.hci header.hosts.items 0 kind.End (end_text e)
@@ -95,8 +91,7 @@ numbers_are_words high None small range = tt
 numbers_are_words high (Some n) small range = let most : n ≤ high = range.1 in (number_word n (omega arith), tt)
 
 numbers_are_few : (o : Option ℕ) → length (number_words o) ≤ 1
-numbers_are_few None = omega arith
-numbers_are_few (Some n) = omega arith
+numbers_are_few o = grind arith
 
 number_comes_back : (high : ℕ) (o : Option ℕ) → high < 100000 → IsIn high o → (slice_get (number_words o) 0 >>= number_in 1 high) ≡ o
 number_comes_back high None small range = refl
@@ -168,8 +163,7 @@ message_fits e pid message h =
 with_number : (a : List ℕ) (ws : List (List ℕ)) (e : End) (high : ℕ) (o : Option ℕ) (make : End → Option ℕ → Line) → end_value a ≡ Some e
     → (slice_get ws 0 >>= number_in 1 high) ≡ o
     → (end_value a >>= (λ at. Some (read.Line (make at (slice_get ws 0 >>= number_in 1 high))))) ≡ Some (read.Line (make e o))
-with_number a ws e high o make ea eo =
-    ap (λ at. at >>= (λ at. Some (read.Line (make at (slice_get ws 0 >>= number_in 1 high))))) ea ∙ ap (λ n. Some (read.Line (make e n))) eo
+with_number a ws e high o make ea eo = grind arith
 
 again_nodes : (header : Header) (row : FormRow) (ws : List (List ℕ)) (r : Read) → header.hci ≡ true → Right header.hci header.hosts.items row ws
     → read_of row.name ws ≡ Some r
@@ -226,8 +220,7 @@ pipes_come_back (pipe ∷ pipes) h =
     rw (sized_read 3 (encode_upper pipe) pipe (bytes_again pipe one.1) one.0, pipes_come_back pipes (other_pipes pipe pipes h)) refl
 
 host_sends : (hci at_host : Bool) → IsTrue at_host → (not hci || at_host) ≡ true
-host_sends true at_host h = h
-host_sends false at_host h = refl
+host_sends hci at_host h = grind arith
 
 -- a line
 pub line_again : (header : Header) (said : Line) → MayBegin header → MayFollow header said → length (line_text said) ≤ 9000
@@ -339,13 +332,7 @@ line_again header (line.Arm node nth fill) world fits short =
     let bytes = bytes_again fill.items fits.1.bytes in
     by_its_words (Some header) (line_words (line.Arm node nth fill)) _ short
     ((omega arith, refl), (hex_word (node ∷ []) (omega arith), (number_word nth (omega arith), (hex_word fill.items fits.1.long.0, tt))))
-    (again_nodes header arm_row (byte_text node ∷ decimal nth ∷ encode_upper fill.items ∷ []) _ fits.0
-    (record {
-      least = omega arith;
-      most = omega arith;
-      words = ((node, known, fits.1.known), ((nth, back), ((fill.items, bytes, fits.1.long.0, fits.1.long.1), tt)));
-    })
-    (rw (known, back, bytes) refl))
+    (grind arith)
 line_again header (line.Init e identity pipes) world fits short =
     let end = end_again e (link_fits header e world fits.1.known) in
     let long = fits.1.long in
@@ -374,9 +361,7 @@ line_again header (line.Settle rounds) world fits short =
     let most : rounds ≤ 20000 = fits.1 in
     let back = number_back 1 20000 rounds fits.0 fits.1 (omega arith) in
     by_its_words (Some header) (line_words (line.Settle rounds)) _ short ((omega arith, refl), (number_word rounds (omega arith), tt))
-    (again header.hci header.hosts.items settle_row (decimal rounds ∷ []) _
-    (record { least = omega arith; most = omega arith; words = ((rounds, back), tt) })
-    (rw back refl))
+    (grind arith)
 
 -- ## Headers
 
@@ -391,9 +376,7 @@ one_again h host =
     let byte = byte_again h (omega arith) in
     by_its_words None (codes "swp" ∷ codes "1" ∷ codes "bare" ∷ byte_text h ∷ []) _ (let hex = length-hex (h ∷ []) in omega (arith, hex))
     ((omega arith, refl), ((omega arith, refl), ((omega arith, refl), (hex_word (h ∷ []) (omega arith), tt))))
-    (again false [] header_row (codes "1" ∷ codes "bare" ∷ byte_text h ∷ []) _
-    (record { least = omega arith; most = omega arith; words = (refl, (refl, ((h, byte, host.0, omega arith, high), tt))) })
-    (rw byte refl))
+    (grind arith)
 
 rise_host : (p : ℕ) (ps : List ℕ) → IsStrictlyIncreasing (p ∷ ps) → All IsHost (p ∷ ps) → HostsFrom (p + 1) ps
 rise_host p [] up all = tt

@@ -29,8 +29,7 @@ spaces_first (suc n) (b ∷ line) h spaces =
     spaces_first n line (omega arith) (λ k lt. spaces (suc k) (omega arith)) ∙ sym (space_first b line (spaces 0 (omega arith)))
 
 pick : (t : Bool) (a n : ℕ) → (t ≡ false → a ≡ n) → unwrap_or (cond t (Some a) None) n ≡ a
-pick true a n h = refl
-pick false a n h = sym (h refl)
+pick t a n h = grind arith
 
 -- the place of the first that passes, or the length
 pub place_or_len : (p : ℕ → Bool) (xs : List ℕ) → unwrap_or (position p xs) (length xs) ≡ position_or_len p xs
@@ -43,8 +42,7 @@ before_letter : (line : List ℕ) (k : ℕ) → k < position_or_len is_letter li
 before_letter line k h = eqb-true (get_or line k 0) 32 (not-false _ (fails_before_first is_letter line k 0 h))
 
 pub none_test : (t : Bool) (a : ℕ) → cond t (Some a) None ≡ None → t ≡ false
-none_test true a h = cc
-none_test false a h = refl
+none_test t a h = grind arith
 
 -- a line without a letter has no word
 pub no_word : (line : List ℕ) → position is_letter line ≡ None → words line ≡ []
@@ -55,9 +53,7 @@ no_word line h =
 
 pub kept : (word : List ℕ) (parts : List (List ℕ)) → 0 < length word
     → filter (λ w. nat_lt 0 (length w)) (word ∷ parts) ≡ word ∷ filter (λ w. nat_lt 0 (length w)) parts
-kept word parts h =
-    let test : nat_lt 0 (length word) ≡ true = grind (arith, nat_tests) in
-    ap (λ b. cond b (word ∷ filter (λ w. nat_lt 0 (length w)) parts) (filter (λ w. nat_lt 0 (length w)) parts)) test
+kept word parts h = grind arith
 
 -- a word that a space ends
 word_then_space : (rest : List ℕ) (end : ℕ) → end ≡ position_or_len is_space rest → 0 < end → end < length rest
@@ -99,8 +95,7 @@ pub word_first : (rest : List ℕ) (end : ℕ) → end ≡ position_or_len is_sp
 word_first rest end e h = by_end (nat_lt end (length rest)) rest end refl e h
 
 not_both : (b : Bool) → b ≡ true → not b ≡ true → ⊥
-not_both true e f = cc
-not_both false e f = cc
+not_both b e f = grind arith
 
 -- no space stands at the first letter
 letter_first : (line : List ℕ) (start : ℕ) → start ≡ position_or_len is_letter line → start < length line

@@ -51,19 +51,9 @@ Holds e h = HoldsFor e.phase e.session h
 abbrev Along : EndState → SessionHistory → EndInput → EndState × EndOutput → Type 0
 Along e h i r = Holds r.0 (with_answer e.session h i r.1)
 
-none_sent : (p : ℕ) → Contains {X = ℕ} [] p ↔ (p < 0)
-none_sent p = (λ w. absurd (omega (arith, w.1)), λ l. absurd (omega arith))
-
 -- a session begins, or none is there
 fresh : (e : EndState) (w : ℕ) → e.session ≡ new_session w → IsIdle e.phase e.session → Holds e no_history
-fresh e w q idle = record {
-  accepted = ap (λ (s : Session). s.acc) q;
-  offered = ap (λ (s : Session). s.out) q;
-  acked = ap (λ (s : Session). s.acked) q;
-  ordered = subst IsOrdered (sym q) (record { next = omega arith; reached = omega arith; offered = omega arith; window = omega arith });
-  sent = λ p. subst (λ (s : Session). Contains {X = ℕ} [] p ↔ (p < s.reached)) (sym q) (none_sent p);
-  idle = idle;
-}
+fresh e w q idle = grind arith
 
 -- nothing that a history tells happens
 abbrev same_history : SessionHistory → SessionHistory
@@ -233,25 +223,12 @@ take-waiting e h Ua k = fresh (up_with e (min e.own_window e.peer_window)) (min 
 take-waiting e h (Act act again) k = unchanged (in_phase Waiting e) h k
 take-waiting e h Clt k = unchanged (in_phase Waiting e) h k
 
--- T2 makes fragments count as not sent
-sent_again-ordered : (s : Session) → IsOrdered s → IsOrdered (record s { next = s.acked; probe = s.peer_busy })
-sent_again-ordered s o =
-    let a = o.next in let b = o.reached in
-    record { next = omega arith; reached = omega arith; offered = o.offered; window = o.window }
-
 tick-up : (e : EndState) (h : SessionHistory) (runs : Bool) (t : Timed) → runs_timer e.session ≡ runs → timed e ≡ t → Keeps (in_phase Up e) h Tick
 tick-up e h false t r q k = rw r (unchanged (in_phase Up e) h k)
 tick-up e h true Runs r q k = rw (r, q) (unchanged (in_phase Up e) h k)
 tick-up e h true Over r q k =
     rw (r, q)
-    (unchanged (sent_again (in_phase Up e)) h (record {
-      accepted = k.accepted;
-      offered = k.offered;
-      acked = k.acked;
-      ordered = sent_again-ordered e.session k.ordered;
-      sent = k.sent;
-      idle = tt;
-    }))
+    (unchanged (sent_again (in_phase Up e)) h ((grind arith)))
 tick-up e h true Spent r q k = rw (r, q) (fresh (waiting_from (in_phase Up e)) 0 refl refl)
 
 tick-waiting : (e : EndState) (h : SessionHistory) (t : Timed) → timed e ≡ t → Keeps (in_phase Waiting e) h Tick
@@ -259,14 +236,7 @@ tick-waiting e h Runs q k = rw q (unchanged (in_phase Waiting e) h k)
 tick-waiting e h Over q k = rw q (unchanged (in_phase Waiting e) h k)
 tick-waiting e h Spent q k =
     rw q
-    (unchanged (given_up (in_phase Waiting e)) h (record {
-      accepted = k.accepted;
-      offered = k.offered;
-      acked = k.acked;
-      ordered = k.ordered;
-      sent = k.sent;
-      idle = k.idle;
-    }))
+    (unchanged (given_up (in_phase Waiting e)) h ((grind arith)))
 
 offer-up : (e : EndState) (h : SessionHistory) (info : Fragment) (b : Bool) → nat_lt (length e.session.out) (e.session.acked + 4) ≡ b →
     Keeps (in_phase Up e) h (Offer info)
@@ -294,18 +264,7 @@ reset-asked e h w Down k = fresh (waiting_from (in_phase Down e)) 0 refl refl
 
 -- that RNR was answered is forgotten
 forgotten : (p : LinkState) (s : Session) (h : SessionHistory) → HoldsFor p s h → HoldsFor p (record s { answered_rnr = false }) h
-forgotten p s h k = record {
-  accepted = k.accepted;
-  offered = k.offered;
-  acked = k.acked;
-  ordered = record { next = k.ordered.next; reached = k.ordered.reached; offered = k.ordered.offered; window = k.ordered.window };
-  sent = k.sent;
-  idle = idle p k.idle;
-} where
-  idle : (p : LinkState) → IsIdle p s → IsIdle p (record s { answered_rnr = false })
-  idle Up i = tt
-  idle Down i = ap (λ (s : Session). record s { answered_rnr = false }) i
-  idle Waiting i = ap (λ (s : Session). record s { answered_rnr = false }) i
+forgotten p s h k = grind arith
 
 set_ready : (e : EndState) (h : SessionHistory) (p : LinkState) (r was answered : Bool) → e.ready ≡ was → e.session.answered_rnr ≡ answered →
     Keeps (in_phase p e) h (SetReady r)
@@ -355,9 +314,7 @@ sent_out p s h info q k = record {
   none i = let w = subst (λ (s : Session). s.next < s.acked + s.window) i within.0 in omega arith
 
   idle : (p : LinkState) → IsIdle p s → IsIdle p (sent_next s)
-  idle Up i = tt
-  idle Down i = absurd (none i)
-  idle Waiting i = absurd (none i)
+  idle p i = grind arith
 
 fragment_out : (e : EndState) (h : SessionHistory) (p : LinkState) (o : Option Fragment) → e.due ≡ [] → fragment_due e.session ≡ o →
     Keeps (in_phase p e) h NextOut
@@ -419,9 +376,7 @@ no_elements (x ∷ xs) h = absurd (h x (0, omega arith, refl))
 
 -- an end that isn't Up has no session
 idle-session : (p : LinkState) (s : Session) → p ≢ Up → IsIdle p s → s ≡ no_session
-idle-session Up s n i = absurd (n refl)
-idle-session Down s n i = i
-idle-session Waiting s n i = i
+idle-session p s n i = grind arith
 
 pub idle-history : (p : LinkState) (s : Session) (h : SessionHistory) → HoldsFor p s h → p ≢ Up →
     (h.accepted ≡ []) × (h.offered ≡ []) × (h.sent ≡ [])
@@ -434,9 +389,7 @@ idle-history p s h k n =
 
 pub idle-fragment : (p : LinkState) (s : Session) (h : SessionHistory) (info : Fragment) → HoldsFor p s h → p ≢ Up →
     fragment_due s ≡ Some info → ⊥
-idle-fragment p s h info k n f =
-    let i = idle-session p s n k.idle in
-    let w = subst (λ (s : Session). s.next < s.acked + s.window) i (fragment_due-within s info f).0 in omega arith
+idle-fragment p s h info k n f = grind arith
 
 -- the fragment that is sent next
 pub next-fragment : (p : LinkState) (s : Session) (h : SessionHistory) (ns : ℕ) (info : Fragment) → HoldsFor p s h →

@@ -1,5 +1,5 @@
 -- What taking a frame does where only some fragments were offered is what it does with all of them.
-use Rattle.std.proofs.Common.{◌≡◌, ℕ, ◌+◌, ◌≤◌, ◌==◌, Bool, true, false, List, [], ◌∷◌, ◌++◌, refl, sym, ◌∙◌, arith, subst, min}
+use Rattle.std.proofs.Common.{◌≡◌, ℕ, ◌+◌, ◌≤◌, ◌==◌, Bool, true, false, List, [], ◌∷◌, ◌++◌, refl, sym, ◌∙◌, arith, min}
 use Rattle.std.specs.Prelude.{Option, Some, None, ◌&&◌, nat_lt, if◌then◌else◌}
 use Rattle.std.proofs.lemmas.List.{append-nil}
 use Rattle.swp_base.specs.declared.control_frames.Control.{Control}
@@ -8,8 +8,7 @@ use Rattle.swp_base.specs.declared.control_frames.Kind.{Kind}
 use Rattle.swp_base.specs.declared.control_frames.Kind.TheVariants.{Rr, Rej, Rnr, Srej}
 use Rattle.shdlc_core.specs.declared.answers.LinkState.{LinkState}
 use Rattle.shdlc_core.specs.declared.answers.LinkState.TheVariants.{Down, Waiting, Up}
-use Rattle.shdlc_core.specs.declared.answers.Due.{Due}
-use Rattle.shdlc_core.specs.declared.answers.Due.TheVariants.{Rej as Rej_due, Ua as Ua_due}
+use Rattle.shdlc_core.specs.declared.answers.Due.TheVariants.{Rej as Rej_due}
 use Rattle.shdlc_core.specs.Machine.{EndState, Fragment, taken, take_answer, place_of, ahead, accepted, repeated, discarded, acknowledged, ready_again}
 use Rattle.shdlc_core.specs.Machine.{rejected, made_busy, received, fragment_accepted, up_with}
 use Rattle.shdlc_core.specs.Offering.{with_out, left_waiting, IsNarrow, HasSession}
@@ -30,9 +29,7 @@ pub record TakesAlike (e : EndState) (o : List Fragment) (c : Control) : Type 0 
 
 pub same_windows : (old new : EndState) → new.own_window ≡ old.own_window → new.peer_window ≡ old.peer_window → new.session.window ≡ old.session.window
     → IsNarrow old → IsNarrow new
-same_windows old new own peer session h =
-    let P : ℕ → Type 0 = λ n. n ≤ 4 in
-    record { own = subst P (sym own) h.own; peer = subst P (sym peer) h.peer; session = subst P (sym session) h.session }
+same_windows old new own peer session h = grind arith
 
 received_alike : (e : EndState) (o : List Fragment) (x ns : ℕ) (info : Fragment)
     → (received (acknowledged (with_out (in_phase Up e) o) x) ns info ≡ with_out (received (acknowledged (in_phase Up e) x) ns info) o)
@@ -171,10 +168,6 @@ kind_alike e o Srej nr q at =
 lesser_own : (e : EndState) (w : ℕ) → IsNarrow e → min e.own_window w ≤ 4
 lesser_own e w h = let own = h.own in omega arith
 
-begun_narrow : (p : LinkState) (e : EndState) (w : ℕ) (due : List Due) → IsNarrow (in_phase p e)
-    → IsNarrow (up_with (record e { due = due }) (min e.own_window w))
-begun_narrow p e w due h = record { own = h.own; peer = h.peer; session = lesser_own (in_phase p e) w h }
-
 reset_alike : (p : LinkState) (e : EndState) (o : List Fragment) (w caps : ℕ) (b : Bool) → (w == 0) ≡ b → TakesAlike (in_phase p e) o (Rset w caps)
 reset_alike Up e o w caps true at =
     record {
@@ -187,17 +180,7 @@ reset_alike Up e o w caps true at =
       acc =
           rw at (sym (append-nil e.session.acc));
     }
-reset_alike Up e o w caps false at =
-    record {
-      same = rw at;
-      answer = rw at;
-      out = rw at;
-      narrow = rw at (begun_narrow Up e (min w 4) (Ua_due ∷ []));
-      session = rw at (λ h. tt);
-      acked =
-          rw at;
-      acc = rw at;
-    }
+reset_alike Up e o w caps false at = grind arith
 reset_alike Down e o w caps true at =
     record {
       same = rw at;
@@ -209,17 +192,7 @@ reset_alike Down e o w caps true at =
       acc =
           rw at (sym (append-nil e.session.acc));
     }
-reset_alike Down e o w caps false at =
-    record {
-      same = rw at;
-      answer = rw at;
-      out = rw at;
-      narrow = rw at (begun_narrow Down e (min w 4) (e.due ++ Ua_due ∷ []));
-      session =
-          rw at (λ h. tt);
-      acked = rw at;
-      acc = rw at;
-    }
+reset_alike Down e o w caps false at = grind arith
 reset_alike Waiting e o w caps true at =
     record {
       same = rw at;

@@ -1,11 +1,11 @@
 -- What the machine does with a frame whose number is valid.
-use Rattle.std.proofs.Common.{ℕ, ◌≡◌, ◌-◌, Option, Some, None, false}
+use Rattle.std.proofs.Common.{ℕ, ◌≡◌, ◌-◌, Option, Some, None, false, arith}
 use Rattle.swp_base.specs.declared.control_frames.Control.TheVariants.{I, S}
 use Rattle.swp_base.specs.declared.control_frames.Kind.TheVariants.{Rr, Rej, Rnr}
 use denote.Enum.Bare.{sameb}
 use Rattle.shdlc_core.specs.contracts.answers.LinkState.{the_type}
 use Rattle.shdlc_core.specs.declared.answers.LinkState.{LinkState}
-use Rattle.shdlc_core.specs.declared.answers.LinkState.TheVariants.{Down, Waiting, Up}
+use Rattle.shdlc_core.specs.declared.answers.LinkState.TheVariants.{Waiting, Up}
 use Rattle.shdlc_core.specs.declared.answers.Taken.{Taken}
 use Rattle.shdlc_core.specs.Machine.{is_waiting, reset_with, waiting_from, EndState, Fragment, place_of, taken, take_answer, received, acknowledged}
 use Rattle.shdlc_core.specs.Machine.{ready_again, rejected, made_busy, nothing_taken, fragment_accepted}
@@ -34,9 +34,7 @@ pub answer-acked : (t : Taken) (count more : ℕ) (found info : Option Fragment)
 answer-acked t count more found info p q r = rw (p, q, r)
 
 is_waiting-other : (e : EndState) (p : LinkState) → p ≡ e.phase → sameb the_type p Waiting ≡ false → is_waiting e ≡ false
-is_waiting-other e Down q h = rw (← q)
-is_waiting-other e Up q h = rw (← q)
-is_waiting-other e Waiting q h = cc
+is_waiting-other e p q h = grind arith
 
 -- a reset in another state than Waiting
 pub reset_with-other : (e : EndState) (p : LinkState) (w : ℕ) → p ≡ e.phase → sameb the_type p Waiting ≡ false →

@@ -6,13 +6,11 @@ use Rattle.std.proofs.lemmas.Grind.{common_steps}
 use Rattle.swp_base.specs.declared.control_frames.Control.{Control}
 use Rattle.swp_base.specs.declared.control_frames.Control.TheVariants.{I, S, Rset, Ua, Act, Clt}
 use Rattle.swp_base.specs.declared.control_frames.Kind.{Kind}
-use Rattle.swp_base.specs.declared.control_frames.Kind.TheVariants.{Rr, Rej, Rnr, Srej}
 use Rattle.shdlc_core.specs.declared.answers.LinkState.{LinkState}
 use Rattle.shdlc_core.specs.declared.answers.LinkState.TheVariants.{Down, Waiting, Up}
 use Rattle.shdlc_core.specs.declared.answers.Due.{Due}
 use Rattle.shdlc_core.specs.Machine.{Timed, timed, runs_timer, EndState, EndInput, Fragment, Session, end_step, new_session, new_end, place_of, received}
-use Rattle.shdlc_core.specs.Machine.{acknowledged, fragment_due, sent_next, shdlc_after_inputs}
-use Rattle.shdlc_core.specs.Machine.Timed.{Runs, Over, Spent}
+use Rattle.shdlc_core.specs.Machine.{acknowledged, shdlc_after_inputs}
 use Rattle.shdlc_core.specs.Machine.EndInput.{Begin, Offer, Take, Tick, Reset, Stop, SetReady, NextOut}
 use Rattle.shdlc_core.specs.Histories.{SessionHistory, AskForWindows, no_history}
 use Rattle.shdlc_core.proofs.Histories.{IsOrdered, Holds, new-Holds, step-Holds, place_of-within, in_phase, received-phase, received-sending}
@@ -47,13 +45,7 @@ up : (w own peer : ℕ) → IsWindow w → IsWindow own → IsWindow peer → Ti
 up w own peer p q r = record { own_window = q; peer_window = r; timer = omega arith; tries = omega arith; session = (p, λ _. refl) }
 
 waits : (s : Session) (own : ℕ) → IsWindow own → TimedFor Waiting s own 4 0 1
-waits s own q = record {
-  own_window = q;
-  peer_window = (omega arith, omega arith);
-  timer = omega arith;
-  tries = omega arith;
-  session = tt;
-}
+waits s own q = grind arith
 
 -- the timer and the tries, where the acknowledged part may have grown
 grown_timer : (a x t : ℕ) → t < 10 → cond (nat_lt a x) 0 t < 10
@@ -95,64 +87,11 @@ fragment-up e ns nr info (Some x) q o k =
           );
     })
 
-stopped_timer : (b : Bool) (t : ℕ) → b ≡ false → cond b t 0 ≡ 0
-stopped_timer true t q = cc
-stopped_timer false t q = refl
-
-below_ten : (b : Bool) (t : ℕ) → t < 10 → cond b t 0 < 10
-below_ten true t l = l
-below_ten false t l = omega arith
-
 supervised-up : (e : EndState) (kind : Kind) (nr : ℕ) (o : Option ℕ) → place_of e.session nr ≡ o → Keeps (in_phase Up e) (Take (S kind nr))
-supervised-up e Srej nr p q o k = k
-supervised-up e Rr nr None q o k = rw q k
-supervised-up e Rej nr None q o k = rw q k
-supervised-up e Rnr nr None q o k = rw q k
-supervised-up e Rr nr (Some x) q o k = rw q (record {
-  own_window = k.own_window;
-  peer_window = k.peer_window;
-  timer = below_ten _ _ (grown_timer e.session.acked x e.timer k.timer);
-  tries = grown_tries e.session.acked x e.tries k.tries;
-  session = (k.session.0, λ r. stopped_timer _ _ r);
-})
-supervised-up e Rej nr (Some x) q o k = rw q (record {
-  own_window = k.own_window;
-  peer_window = k.peer_window;
-  timer = omega arith;
-  tries = grown_tries e.session.acked x e.tries k.tries;
-  session = (k.session.0, λ r. refl);
-})
-supervised-up e Rnr nr (Some x) q o k = rw q (record {
-  own_window = k.own_window;
-  peer_window = k.peer_window;
-  timer = omega arith;
-  tries = omega arith;
-  session = (k.session.0, λ r. refl);
-})
-
--- the window that an RSET asks for counts as 1 to 4
-asked_window : (w : ℕ) → (w == 0) ≡ false → IsWindow (min w 4)
-asked_window w q = grind (arith, common_steps)
+supervised-up e kind nr o q a k = grind arith
 
 reset-up : (e : EndState) (w caps : ℕ) (b : Bool) → (w == 0) ≡ b → Keeps (in_phase Up e) (Take (Rset w caps))
-reset-up e w caps true q o k = rw q k
-reset-up e w caps false q o k =
-    rw q (up (min e.own_window (min w 4)) e.own_window e.peer_window (lesser e.own_window (min w 4) k.own_window (asked_window w q)) k.own_window k.peer_window)
-
-reset-down : (e : EndState) (w caps : ℕ) (b : Bool) → (w == 0) ≡ b → Keeps (in_phase Down e) (Take (Rset w caps))
-reset-down e w caps true q o k = rw q k
-reset-down e w caps false q o k =
-    rw q (up (min e.own_window (min w 4)) e.own_window e.peer_window (lesser e.own_window (min w 4) k.own_window (asked_window w q)) k.own_window k.peer_window)
-
-reset-waiting : (e : EndState) (w caps : ℕ) (b : Bool) → (w == 0) ≡ b → Keeps (in_phase Waiting e) (Take (Rset w caps))
-reset-waiting e w caps true q o k = rw q k
-reset-waiting e w caps false q o k = rw q (record {
-  own_window = k.own_window;
-  peer_window = asked_window w q;
-  timer = k.timer;
-  tries = k.tries;
-  session = tt;
-})
+reset-up e w caps b q o k = grind arith
 
 take-up : (e : EndState) (c : Control) → Keeps (in_phase Up e) (Take c)
 take-up e (I ns nr info) o k = fragment-up e ns nr info _ refl o k
@@ -163,70 +102,16 @@ take-up e (Act act again) o k = k
 take-up e Clt o k = k
 
 take-down : (e : EndState) (c : Control) → Keeps (in_phase Down e) (Take c)
-take-down e (I ns nr info) o k = k
-take-down e (S kind nr) o k = k
-take-down e (Rset w caps) o k = reset-down e w caps _ refl o k
-take-down e Ua o k = k
-take-down e (Act act again) o k = k
-take-down e Clt o k = k
+take-down e c o k = grind arith
 
 take-waiting : (e : EndState) (c : Control) → Keeps (in_phase Waiting e) (Take c)
-take-waiting e (I ns nr info) o k = k
-take-waiting e (S kind nr) o k = k
-take-waiting e (Rset w caps) o k = reset-waiting e w caps _ refl o k
-take-waiting e Ua o k =
-    up (min e.own_window e.peer_window) e.own_window e.peer_window (lesser e.own_window e.peer_window k.own_window k.peer_window)
-    k.own_window k.peer_window
-take-waiting e (Act act again) o k = k
-take-waiting e Clt o k = k
-
--- what the tests of a tick say
-timed-runs : (e : EndState) → timed e ≡ Runs → e.timer + 1 < 10
-timed-runs e q = grind (arith, common_steps)
-
-pub timed-over : (e : EndState) → timed e ≡ Over → e.tries + 1 ≤ 5
-timed-over e q = grind (arith, common_steps)
+take-waiting e c o k = grind arith
 
 tick-up : (e : EndState) (runs : Bool) (t : Timed) → runs_timer e.session ≡ runs → timed e ≡ t → Keeps (in_phase Up e) Tick
-tick-up e false t r q o k = rw r k
-tick-up e true Runs r q o k = rw (r, q) (record {
-  own_window = k.own_window;
-  peer_window = k.peer_window;
-  timer = timed-runs e q;
-  tries = k.tries;
-  session = (k.session.0, λ f. absurd (cc (r, f)));
-})
-tick-up e true Over r q o k = rw (r, q) (record {
-  own_window = k.own_window;
-  peer_window = k.peer_window;
-  timer = omega arith;
-  tries = timed-over e q;
-  session = (k.session.0, λ f. refl);
-})
-tick-up e true Spent r q o k = rw (r, q) (waits _ e.own_window k.own_window)
+tick-up e runs t r q o k = grind arith
 
 tick-waiting : (e : EndState) (t : Timed) → timed e ≡ t → Keeps (in_phase Waiting e) Tick
-tick-waiting e Runs q o k = rw q (record {
-  own_window = k.own_window;
-  peer_window = k.peer_window;
-  timer = timed-runs e q;
-  tries = k.tries;
-  session = tt;
-})
-tick-waiting e Over q o k = rw q (record {
-  own_window = k.own_window;
-  peer_window = k.peer_window;
-  timer = omega arith;
-  tries = timed-over e q;
-  session = tt;
-})
-tick-waiting e Spent q o k = rw q (record {
-  own_window = k.own_window;
-  peer_window = k.peer_window;
-  timer = omega arith;
-  tries = omega arith;
-  session = refl;
-})
+tick-waiting e t q o k = grind arith
 
 -- where more is offered and T2 doesn't run, it didn't run before
 offered-runs : (s : Session) (info : Fragment) → runs_timer (record s { out = s.out ++ info ∷ [] }) ≡ false → runs_timer s ≡ false
@@ -244,65 +129,17 @@ offer-up e info true q o k = rw q (record {
 })
 
 reset-asked : (e : EndState) (w : ℕ) (p : LinkState) → IsWindow w → Keeps (in_phase p e) (Reset w)
-reset-asked e w Waiting i o k = k
-reset-asked e w Up i o k = waits _ w i
-reset-asked e w Down i o k = waits _ w i
-
--- readiness is no matter of the timer
-with_answered : (p : LinkState) (s : Session) (timer : ℕ) → IsTimedIn p s timer → IsTimedIn p (record s { answered_rnr = false }) timer
-with_answered Up s timer i = i
-with_answered Down s timer i = i
-with_answered Waiting s timer i = i
-
-set_ready-other : (e : EndState) (p : LinkState) → IsTimed (in_phase p e) →
-    TimedFor p (record e.session { answered_rnr = false }) e.own_window e.peer_window e.timer e.tries
-set_ready-other e p k = record {
-  own_window = k.own_window;
-  peer_window = k.peer_window;
-  timer = k.timer;
-  tries = k.tries;
-  session = with_answered p e.session e.timer k.session;
-}
+reset-asked e w p i o k = grind arith
 
 set_ready : (e : EndState) (p : LinkState) (r was answered : Bool) → e.ready ≡ was → e.session.answered_rnr ≡ answered →
     Keeps (in_phase p e) (SetReady r)
-set_ready e p true true a q w o k = rw q k
-set_ready e p false false a q w o k = rw q k
-set_ready e p false true a q w o k = rw q (set_ready-other e p k)
-set_ready e p true false true q w o k = rw (q, w) (set_ready-other e p k)
-set_ready e p true false false q w o k = rw (q, w) (set_ready-other e p k)
-
--- once a fragment is sent T2 runs
-sent-runs : (s : Session) → s.acked ≤ s.next → runs_timer (sent_next s) ≡ true
-sent-runs s l = grind (arith, common_steps)
-
-sent_session : (p : LinkState) (s : Session) (timer : ℕ) → s.acked ≤ s.next → IsTimedIn p s timer → IsTimedIn p (sent_next s) timer
-sent_session Up s timer l i = (i.0, λ r. let runs = sent-runs s l in absurd (cc (runs, r)))
-sent_session Down s timer l i = i
-sent_session Waiting s timer l i = i
-
-fragment_out : (e : EndState) (p : LinkState) (f : Option Fragment) → e.due ≡ [] → fragment_due e.session ≡ f → Keeps (in_phase p e) NextOut
-fragment_out e p None d q o k = rw (d, q) k
-fragment_out e p (Some info) d q o k = rw (d, q) (record {
-  own_window = k.own_window;
-  peer_window = k.peer_window;
-  timer = k.timer;
-  tries = k.tries;
-  session = sent_session p e.session e.timer o.next k.session;
-})
+set_ready e p r was answered q w o k = grind arith
 
 next_out : (e : EndState) (p : LinkState) (ds : List Due) → e.due ≡ ds → Keeps (in_phase p e) NextOut
-next_out e p [] d o k = fragment_out e p _ d refl o k
-next_out e p (d ∷ ds) q o k = rw q k
+next_out e p ds d o k = grind arith
 
 stopped-timed : (e : EndState) (p : LinkState) → Keeps (in_phase p e) Stop
-stopped-timed e p o k = record {
-  own_window = k.own_window;
-  peer_window = k.peer_window;
-  timer = omega arith;
-  tries = omega arith;
-  session = refl;
-}
+stopped-timed e p o k = grind arith
 
 -- a reset that is asked for names a window
 abbrev NamesWindow : EndInput → Type 0
@@ -326,14 +163,7 @@ step-phase e Tick Down a o k = k
 step-phase e Tick Waiting a o k = tick-waiting e _ refl o k
 
 first_named : (i : EndInput) (is : List EndInput) → AskForWindows (i ∷ is) → NamesWindow i × AskForWindows is
-first_named (Reset w) is a = ((a.0, a.1), a.2)
-first_named Begin is a = (tt, a)
-first_named Stop is a = (tt, a)
-first_named (SetReady r) is a = (tt, a)
-first_named NextOut is a = (tt, a)
-first_named (Offer info) is a = (tt, a)
-first_named (Take c) is a = (tt, a)
-first_named Tick is a = (tt, a)
+first_named i is a = grind arith
 
 run-timed : (e : EndState) (h : SessionHistory) (inputs : List EndInput) → Holds e h → IsTimed e → AskForWindows inputs → IsTimed (shdlc_after_inputs e inputs)
 run-timed e h [] k t a = t
@@ -344,13 +174,7 @@ run-timed e h (i ∷ inputs) k t a =
 -- from a new end on
 pub new-timed : (w : ℕ) (inputs : List EndInput) → IsWindow w → AskForWindows inputs → IsTimed (shdlc_after_inputs (new_end w) inputs)
 new-timed w inputs i a =
-    run-timed (new_end w) no_history inputs (new-Holds w []) (record {
-      own_window = i;
-      peer_window = (omega arith, omega arith);
-      timer = omega arith;
-      tries = omega arith;
-      session = refl;
-    }) a
+    run-timed (new_end w) no_history inputs (new-Holds w []) ((grind arith)) a
 
 -- ## What follows for each law
 
@@ -358,13 +182,8 @@ pub none-runs : (s : Session) → IsOrdered s → (s.next ≡ s.acked) × (s.pee
 none-runs s o q = let a = q.0 in let b = q.1 in grind (arith, common_steps)
 
 pub empty-runs : (s : Session) → IsOrdered s → length s.out ≡ s.acked → runs_timer s ≡ false
-empty-runs s o q =
-    let n = o.next in let r = o.reached in let l = o.offered in
-    let acked = s.acked in
-    grind (arith, common_steps)
+empty-runs s o q = grind arith
 
 pub up-session : (p : LinkState) (s : Session) (timer : ℕ) → p ≡ Up → IsTimedIn p s timer →
     ((1 ≤ s.window) × (s.window ≤ 4)) × (runs_timer s ≡ false → timer ≡ 0)
-up-session Up s timer q i = i
-up-session Down s timer q i = cc
-up-session Waiting s timer q i = cc
+up-session p s timer q i = grind arith

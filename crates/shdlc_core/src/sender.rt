@@ -1,6 +1,7 @@
 //! The half of a session that sends: the fragments that aren't acknowledged, and where sending stands (ETSI TS 102 613,
 //! section 10).
-ghost use Rattle.std.specs.Prelude.{◌≡◌, ◌+◌, ◌<◌, ◌≤◌, ◌==◌, ◌++◌, ◌∷◌, [], length, drop, max, false, None, option_map, IfSome, OnSome, IfNone, ◌%◌, IsTrue, ◌↔◌};
+ghost use Rattle.std.specs.Prelude.{◌≡◌, ◌+◌, ◌<◌, ◌≤◌, ◌==◌, ◌++◌, ◌∷◌, [], length, drop, max, false, None, option_map, IfSome, OnSome, IfNone, ◌%◌};
+ghost use Rattle.std.specs.Prelude.{IsTrue, ◌↔◌};
 ghost use Rattle.shdlc_core.specs.Kept.{SendsFor, frame_shown};
 ghost use Rattle.shdlc_core.specs.Machine.{EndState, Session, place_of, expected, fragment_due, frame_due, sent_next, runs_timer, new_session};
 
@@ -141,6 +142,7 @@ impl Sender {
 
     /// Forgets the fragments that a number acknowledges which the other end expects next: how many. What was sent behind them stays
     /// sent. None where the number isn't valid; nothing changes then.
+    #[inline(always)]
     pub fn acknowledge(&mut self, nr: u8) -> Option<u8>
         ensures place { (s : Session) → SendsFor self.old s → option_map (λ n. s.acked + n) result ≡ place_of s nr }
         ensures stands { (s : Session) → SendsFor self.old s →

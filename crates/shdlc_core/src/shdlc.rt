@@ -302,6 +302,7 @@ impl Shdlc {
 
     // How many fragments a number newly acknowledges. Where there are any, T2 starts again and the tries are 0. None where it isn't
     // valid, and where the end isn't Up; nothing changes then.
+    #[inline(always)]
     fn acknowledge(&mut self, nr: u8) -> Option<u8>
         ensures up { (e : EndState) → ShdlcStandsFor self.old e → e.phase ≡ LinkState.Up →
             option_map (λ n. e.session.acked + n) result ≡ place_of e.session nr }

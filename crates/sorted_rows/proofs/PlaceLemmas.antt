@@ -14,8 +14,7 @@ use Rattle.std.proofs.lemmas.List.{set_split}
 use Rattle.std.proofs.lemmas.List.Edits.{length-insert}
 use Rattle.sorted_rows.specs.Rows.{AreRows, row_of, rows_before, rows_behind, with_row, without_row, IsPlace}
 use Rattle.sorted_rows.proofs.RowLemmas.{length-rows, rows_before-none, rows_behind-all, without_row-all, before-below, before-above, behind-below}
-use Rattle.sorted_rows.proofs.RowLemmas.{behind-above}
-use Rattle.sorted_rows.proofs.RowLemmas.{without-same, without-other, AreRows-with_row}
+use Rattle.sorted_rows.proofs.RowLemmas.{behind-above, without-same, without-other, AreRows-with_row}
 
 -- The keys of a list that rises from `low` on are from `low` on, and rise from row to row.
 key-from : {X : Type 0} (key : X → ℕ) (low high : ℕ) (rows : List X) (n : ℕ) (d : X) → AreRows key low high rows → n < length rows

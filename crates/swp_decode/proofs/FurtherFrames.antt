@@ -1,5 +1,5 @@
 -- Bits, lines and frames that come further, and the bits of many periods.
-use Rattle.std.proofs.Common.{◌≡◌, ℕ, suc, zero, ◌+◌, ◌-◌, ◌*◌, ◌/◌, ◌%◌, ◌^◌, ◌<◌, ◌≤◌, Bool, true, false, List, [], ◌∷◌, ◌++◌, Option, Some, None, unwrap_or}
+use Rattle.std.proofs.Common.{◌≡◌, ℕ, suc, zero, ◌+◌, ◌-◌, ◌*◌, ◌/◌, ◌%◌, ◌^◌, ◌<◌, ◌≤◌, Bool, true, false, List, [], ◌∷◌, ◌++◌, Option, Some, unwrap_or}
 use Rattle.std.proofs.Common.{length, take, drop, replicate, refl, sym, ap, ap₂, ◌∙◌, subst, arith, take-add, get_or, reverse, append_assoc, append-nil}
 use Rattle.std.proofs.Common.{length-append}
 use Rattle.std.proofs.lemmas.List.{length-take-le, take_more, reverse-append, length-reverse}
@@ -10,12 +10,11 @@ use Rattle.swp_crc.specs.Division.{spelled_number}
 use Rattle.swp_frame.specs.Signal.{Symbol, symbol_of, run_of, no_mark, mark_of, since_start, read_on, HasNoMark, break}
 use Rattle.swp_frame.specs.Words.{low_bits, places_of_marks, run_after, word_bits, IsWordBehind}
 use Rattle.swp_frame.specs.declared.word.Word.{Word}
-use Rattle.swp_frame.specs.Verdicts.{verdict_after, verdict}
-use Rattle.swp_frame.specs.declared.fed.Fed.TheVariants.{Nothing, Frame, Refused}
+use Rattle.swp_frame.specs.Verdicts.{verdict_after}
+use Rattle.swp_frame.specs.declared.fed.Fed.TheVariants.{Nothing}
 use Rattle.swp_frame.proofs.Places.{length-low_bits, low_bits-at, drop-low_bits, low_bits-add, low_bits-same, take-low_bits, mod-cut, EndsIn, all_ones}
 use Rattle.swp_frame.proofs.Places.{last_zero, run_at_end, marks_between, no_marks}
 use Rattle.swp_frame.proofs.FurtherBits.{run_of-read_on}
-use Rattle.swp_frame.specs.declared.fed.Fed.{Fed}
 use Rattle.swp_decode.specs.declared.line.Wire.{Wire}
 use Rattle.swp_decode.specs.Readings.{ReadSymbol, with_reading, readings_on, symbols, front_after, front_of, start_after, start_of, symbol_on, AreBits, signal}
 use Rattle.swp_decode.specs.Texts.{verdict_line}
@@ -23,9 +22,9 @@ use Rattle.swp_decode.specs.Decoded.{line_with, lines_on, line_at, lines_with, t
 use Rattle.swp_decode.specs.Kept.{NoMarkEnds, ReadsSignal, DecoderStandsFor}
 use Rattle.swp_decode.specs.declared.line.Wire.TheVariants.{S1, S2}
 use Rattle.swp_decode.specs.declared.decoder.Decoder.{Decoder}
-use Rattle.swp_decode.specs.Frames.{frame_in, frame_with, frame_given, frames_told, frames_with, record_frames}
+use Rattle.swp_decode.specs.Frames.{frame_with, frame_given, frames_told, frames_with, record_frames}
 use Rattle.swp_line.specs.declared.period.Period.{Period}
-use Rattle.swp_line.specs.declared.period.Period.TheVariants.{Bits, Suspended, ResumeAsked, Deactivated}
+use Rattle.swp_line.specs.declared.period.Period.TheVariants.{Bits}
 use Rattle.swp_line.specs.Periods.{period_at}
 
 pub symbols-readings_on : (place : ℕ) (bits : List Bool) (older : List ReadSymbol) → symbols (readings_on place bits older) ≡ read_on (symbols older) bits
@@ -47,18 +46,13 @@ start_of-readings_on place (bit ∷ bits) older quiet =
     start_of-readings_on (place + 1) bits (with_reading (Some (symbol_of bit)) place older) quiet.1
     ∙ ap (λ mark. start_after mark (front_of older) (start_of older)) quiet.0
 
-quiet_verdict : (since : Option (List Symbol)) → verdict_after no_mark since ≡ Nothing
-quiet_verdict None = refl
-quiet_verdict (Some since) = refl
-
 -- no line comes with bits that end no mark
 pub lines_on-quiet : (wire : Wire) (place : ℕ) (bits : List Bool) (older : List ReadSymbol) → HasNoMark (symbols older) bits
     → lines_on wire place bits older ≡ []
 lines_on-quiet wire place [] older quiet = refl
 lines_on-quiet wire place (bit ∷ bits) older quiet =
     let seen = symbols older in
-    let nothing : verdict_after (mark_of (symbol_of bit ∷ seen)) (since_start seen) ≡ Nothing =
-    ap (λ mark. verdict_after mark (since_start seen)) quiet.0 ∙ quiet_verdict (since_start seen) in
+    let nothing : verdict_after (mark_of (symbol_of bit ∷ seen)) (since_start seen) ≡ Nothing = grind arith in
     let rest = lines_on wire (place + 1) bits (with_reading (Some (symbol_of bit)) place older) in
     ap (λ fed. verdict_line wire (start_of older) fed ++ rest) nothing
     ∙ lines_on-quiet wire (place + 1) bits (with_reading (Some (symbol_of bit)) place older) quiet.1
@@ -180,12 +174,7 @@ quiet_further word from mid to order further within quiet none =
 
 -- no mark ends with none of its bits
 pub quiet_none : (word : Word) (at : ℕ) → NoMarkEnds word at at
-quiet_none word at =
-    let none : at - at ≡ 0 = omega arith in
-    ap (λ k. word.marks / 2 ^ (64 - at) % 2 ^ k) none ∙ whole (word.marks / 2 ^ (64 - at))
-  where
-    whole : (n : ℕ) → n % 2 ^ 0 ≡ 0
-    whole n = omega arith
+quiet_none word at = grind arith
 
 -- one bit more
 pub word_bits-more : (x last : ℕ) → last < 64 → take (last + 1) (low_bits 64 x) ≡ take last (low_bits 64 x) ++ bit x (63 - last) ∷ []
@@ -206,9 +195,7 @@ readings_more place x last older h =
 -- no line comes with a bit that ends no mark
 pub quiet_line : (wire : Wire) (bit : Bool) (older : List ReadSymbol) → mark_of (symbol_of bit ∷ symbols older) ≡ no_mark
     → line_with wire (Some (symbol_of bit)) older ≡ []
-quiet_line wire b older none =
-    ap (λ fed. verdict_line wire (start_of older) fed)
-    (ap (λ mark. verdict_after mark (since_start (symbols older))) none ∙ quiet_verdict (since_start (symbols older)))
+quiet_line wire bit older none = grind arith
 
 one_there : (x last : ℕ) → last < 64 → take (last + 1 - last) (drop last (low_bits 64 x)) ≡ bit x (63 - last) ∷ []
 unfolding low_bits
@@ -247,15 +234,10 @@ pub bits_there : (bytes : List ℕ) (bits : List Bool) (i : ℕ) → AreBits S1 
 bits_there bytes bits i are h = let there = symbol_there S1 bytes bits i are h in with_bit (period_at (get_or bytes i 0)) there.0 there.1
   where
     no_break : (bit : Bool) → Some break ≡ Some (symbol_of bit) → ⊥
-    no_break true e = absurd (cc)
-    no_break false e = absurd (cc)
+    no_break bit e = grind arith
 
     with_bit : (p : Option Period) (bit : Bool) → symbol_on S1 p ≡ Some (symbol_of bit) → (s1 : Bool) × ((s2 : Bool) × (p ≡ Some (Bits s1 s2)))
-    with_bit (Some (Bits s1 s2)) bit e = (s1, (s2, refl))
-    with_bit (Some Suspended) bit e = absurd (cc)
-    with_bit (Some ResumeAsked) bit e = absurd (cc)
-    with_bit (Some Deactivated) bit e = absurd (no_break bit e)
-    with_bit None bit e = absurd (no_break bit e)
+    with_bit p bit e = grind arith
 
 -- bytes that have bits, and more of them
 pub AreBits-append : (wire : Wire) (bytes more : List ℕ) (bits further : List Bool) → AreBits wire bytes bits → AreBits wire more further
@@ -533,15 +515,8 @@ bits_of_word wire bytes known given word is are = rw is are
 
 -- ---- where no line comes, no frame does
 
-silent_verdict : (wire : Wire) (start : ℕ) (fed : Fed) → verdict_line wire start fed ≡ [] → frame_in wire fed ≡ []
-silent_verdict wire start Nothing e = refl
-silent_verdict wire start (Refused fault) e = refl
-silent_verdict S1 start (Frame lpdu) e = absurd (cc)
-silent_verdict S2 start (Frame lpdu) e = absurd (cc)
-
 pub silent_frame : (wire : Wire) (symbol : Option Symbol) (older : List ReadSymbol) → line_with wire symbol older ≡ [] → frame_with wire symbol older ≡ []
-silent_frame wire None older e = refl
-silent_frame wire (Some symbol) older e = silent_verdict wire (start_of older) (verdict (symbol ∷ symbols older)) e
+silent_frame wire symbol older e = grind arith
 
 silent_frames : (bytes older : List ℕ) → lines_with older bytes ≡ [] → frames_with older bytes ≡ []
 silent_frames [] older e = refl

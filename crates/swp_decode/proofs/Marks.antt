@@ -32,10 +32,7 @@ next_place n read to few h is =
           ];
           within = omega (arith, e);
           below = subst (λ k. n < 2 ^ k) (sym left) below;
-          there = λ some. elim (cases_lt to 64) [
-            | inl lt ↦ lt
-            | inr over ↦ absurd (omega (arith, some, subst (λ k. n < 2 ^ k) (none_left over) below))
-          ];
+          there = grind arith;
         }
       where
         none_left : 64 ≤ to → m ≡ 0

@@ -1,6 +1,6 @@
 -- Which of sixteen bytes are periods with bits, and what bits they are.
-use Rattle.std.proofs.Common.{◌≡◌, ℕ, suc, ◌+◌, ◌%◌, ◌^◌, ◌<◌, Bool, true, false, ◌&&◌, ◌||◌, cond, eqb, eqb-true, List, [], ◌∷◌, ◌++◌, Option, Some, None, map}
-use Rattle.std.proofs.Common.{length, reverse, replicate, get_or, refl, sym, ap, ap₂, ◌∙◌, subst, arith, w8}
+use Rattle.std.proofs.Common.{◌≡◌, ℕ, suc, ◌+◌, ◌%◌, ◌^◌, ◌<◌, Bool, true, false, ◌&&◌, ◌||◌, cond, eqb, List, [], ◌∷◌, ◌++◌, Option, Some, None, map, length}
+use Rattle.std.proofs.Common.{reverse, replicate, get_or, refl, sym, ap, ap₂, ◌∙◌, subst, arith, w8}
 use Rattle.std.proofs.Math.Nat.{pow-suc}
 use Rattle.std.proofs.lemmas.List.{reverse-append, length-reverse, length-map, map-append}
 use Rattle.std.proofs.lemmas.Bool.{agree_below, agree_below_at}
@@ -85,10 +85,7 @@ places_small xs p sixteen = subst (λ n. spelled_number (map p xs) < 2 ^ n) (len
 
 either_more : (a b : Bool) (ps qs rs : List Bool) → (a && b) ≡ false → length ps ≡ length rs → length qs ≡ length rs
     → spelled_number ps + spelled_number qs ≡ spelled_number rs → spelled_number (a ∷ ps) + spelled_number (b ∷ qs) ≡ spelled_number ((a || b) ∷ rs)
-either_more true true ps qs rs apart long1 long2 sum = absurd (cc)
-either_more true false ps qs rs apart long1 long2 sum = omega (arith, ap (λ n. 2 ^ n) long1, sum)
-either_more false true ps qs rs apart long1 long2 sum = omega (arith, ap (λ n. 2 ^ n) long2, sum)
-either_more false false ps qs rs apart long1 long2 sum = sum
+either_more a b ps qs rs apart c d sum = grind arith
 
 pub either_places : (p q : ℕ → Bool) → ((x : ℕ) → (p x && q x) ≡ false) → (xs : List ℕ)
     → spelled_number (map p xs) + spelled_number (map q xs) ≡ spelled_number (map (λ x. p x || q x) xs)
@@ -128,15 +125,7 @@ is_some x = ((has_neither x || has_first x) || has_second x) || has_both x
 
 -- a byte is at most one of two
 apart : (x a b : ℕ) (p : ℕ → Bool) → p b ≡ false → (p x && eqb x b) ≡ false
-apart x a b p not_b = go (eqb x b) refl
-  where
-    and_none : (c : Bool) → (c && false) ≡ false
-    and_none true = refl
-    and_none false = refl
-
-    go : (same : Bool) → eqb x b ≡ same → (p x && eqb x b) ≡ false
-    go true is = ap₂ (λ c d. c && d) (ap p (eqb-true x b is) ∙ not_b) is
-    go false is = ap (λ d. p x && d) is ∙ and_none (p x)
+apart x a b p not_b = grind arith
 
 pub number_s1 : (xs : List ℕ) → spelled_number (map has_first xs) + spelled_number (map has_both xs) ≡ spelled_number (map is_s1 xs)
 number_s1 xs = either_places has_first has_both (λ x. apart x 0 0xFC has_first refl) xs
@@ -157,17 +146,7 @@ number_some xs =
 
 -- what holds of the four periods holds of a byte that is one of them
 for_some : (P : ℕ → Type 0) → P 0x40 → P 0x54 → P 0xC0 → P 0xFC → (x : ℕ) → is_some x ≡ true → P x
-for_some P neither first second both x some = go (has_neither x) refl (has_first x) refl (has_second x) refl (has_both x) refl
-  where
-    there : (a : ℕ) → P a → eqb x a ≡ true → P x
-    there a holds is = subst P (sym (eqb-true x a is)) holds
-
-    go : (a : Bool) → has_neither x ≡ a → (b : Bool) → has_first x ≡ b → (c : Bool) → has_second x ≡ c → (d : Bool) → has_both x ≡ d → P x
-    go true a b eb c ec d ed = there 0x40 neither a
-    go false a true eb c ec d ed = there 0x54 first eb
-    go false a false eb true ec d ed = there 0xC0 second ec
-    go false a false eb false ec true ed = there 0xFC both ed
-    go false a false eb false ec false ed = absurd (cc)
+for_some P neither first second both x some = grind arith
 
 symbol_s1 : (x : ℕ) → is_some x ≡ true → symbol_on S1 (period_at x) ≡ Some (symbol_of (is_s1 x))
 symbol_s1 = for_some (λ x. symbol_on S1 (period_at x) ≡ Some (symbol_of (is_s1 x))) refl refl refl refl

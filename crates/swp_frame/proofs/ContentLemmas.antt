@@ -1,8 +1,7 @@
 -- Bits kept as whole bytes and a rest.
-use Rattle.std.proofs.Common.{◌≡◌, ℕ, zero, suc, ◌+◌, ◌-◌, ◌*◌, ◌/◌, ◌%◌, ◌^◌, ◌≤◌, ◌<◌, Bool, true, false, List, [], ◌∷◌, ◌++◌, length, take, drop, get_or}
-use Rattle.std.proofs.Common.{refl, sym, ap, ap₂, w64, ◌∙◌, subst, arith, length-append, length-take, length-drop, append_assoc, take-append-drop}
+use Rattle.std.proofs.Common.{◌≡◌, ℕ, zero, suc, ◌+◌, ◌-◌, ◌*◌, ◌/◌, ◌%◌, ◌^◌, ◌≤◌, ◌<◌, Bool, List, [], ◌∷◌, ◌++◌, length, take, drop, get_or, refl, sym, ap}
+use Rattle.std.proofs.Common.{ap₂, w64, ◌∙◌, subst, arith, length-append, length-take, length-drop, append_assoc, take-append-drop}
 use mir.Val.{bool_byte}
-use Rattle.std.proofs.Math.ListN.{length-replicate}
 use Rattle.std.proofs.Math.Seq.{take-append_seam}
 use Rattle.std.proofs.lemmas.List.{length-take-le}
 use Rattle.std.proofs.lemmas.Nat.{div-mul-add, mod-mul-add, shl-shr}
@@ -14,7 +13,6 @@ use Rattle.swp_base.proofs.BitLemmas.{bits_of-append, length-bits_of}
 use Rattle.swp_frame.specs.Words.{low_bits}
 use Rattle.swp_frame.proofs.Places.{byte_bits, low_bits-same, low_bits-add, low_bits-number_of, no_wrap, upper_joined, lower_joined}
 use Rattle.std.specs.Int.{to_be_bytes}
-use Rattle.std.proofs.lemmas.Bool.{le-ltb, eq-eqb, ne_eqb}
 use Rattle.swp_crc.specs.Crc.{crc_of}
 use Rattle.swp_base.specs.declared.link_terms.FrameFault.TheVariants.{Crc}
 use Rattle.swp_frame.specs.declared.fed.Fed.TheVariants.{Frame, Refused}
@@ -225,41 +223,28 @@ content_bytes {bytes} {partial} {last} n bits end kept l short some is =
     spelled : low_bits filled (top / 2 ^ (64 - filled)) ≡ kept.rest
     spelled = ap (low_bits filled) (shl-shr partial (64 - filled) ∙ kept.number) ∙ low_bits-number_of kept.rest filled lengths.0
 
-pub length-run_bits : (held : Bool) (ones : ℕ) → length (run_bits held ones) ≡ ones + bool_byte held
-length-run_bits true ones = ap suc (length-replicate ones true) ∙ omega arith
-length-run_bits false ones = length-replicate ones true ∙ omega arith
-
 -- what is read of the end of a frame before its last 1 bit
 pub length-end : (counts : Bool) → (length (run_bits counts 6) ≡ 6 + bool_byte counts) × (length (run_bits counts 6) < 8)
-length-end true = (length-run_bits true 6, omega (arith, length-run_bits true 6))
-length-end false = (length-run_bits false 6, omega (arith, length-run_bits false 6))
+length-end counts = grind arith
 
 -- the verdict on a content of a right length
 pub judged_whole : (bits : List Bool) → 24 ≤ length bits → length bits ≤ 256 → length bits % 8 ≡ 0 → judged bits ≡ judged_bytes (bytes_of_bits bits)
-judged_whole bits low high whole =
-    rw (le-ltb (length bits) 24 low, le-ltb 256 (length bits) high, eq-eqb (length bits % 8) 0 whole) refl
+judged_whole bits low high whole = grind arith
 
 pub crc_differs : (bytes : List ℕ) (want got : ℕ) → want ≡ crc_of (take (length bytes - 2) bytes)
     → got ≡ 256 * get_or bytes (length bytes - 2) 0 + get_or bytes (length bytes - 1) 0 → (want ≡ got → ⊥) → Refused (Crc want got) ≡ judged_bytes bytes
-crc_differs bytes want got w g h =
-    rw (← w, ← g, ne_eqb want got h) refl
+crc_differs bytes want got w g h = grind arith
 
 pub crc_is_right : (bytes : List ℕ) (want got : ℕ) → want ≡ crc_of (take (length bytes - 2) bytes)
     → got ≡ 256 * get_or bytes (length bytes - 2) 0 + get_or bytes (length bytes - 1) 0 → want ≡ got
     → Frame (take (length bytes - 2) bytes) ≡ judged_bytes bytes
-crc_is_right bytes want got w g h =
-    rw (← w, ← g, eq-eqb want got h) refl
+crc_is_right bytes want got w g h = grind arith
 
 -- the last two bytes, read as one number, from what a cut before them gives
 pub last_two : (result n : ℕ) (bytes slice back : List ℕ) → result ≡ get_or back 0 0 * 256 + get_or back 1 0
     → ((k d : ℕ) → get_or back k d ≡ get_or slice (n - 2 + k) d) → slice ≡ bytes → n ≡ length bytes → 2 ≤ length bytes
     → result ≡ 256 * get_or bytes (length bytes - 2) 0 + get_or bytes (length bytes - 1) 0
-last_two result n bytes slice back is at same count long =
-    let first : get_or back 0 0 ≡ get_or bytes (length bytes - 2) 0 =
-    at 0 0 ∙ ap (λ xs. get_or xs (n - 2 + 0) 0) same ∙ ap (λ i. get_or bytes i 0) (omega (arith, count)) in
-    let second : get_or back 1 0 ≡ get_or bytes (length bytes - 1) 0 =
-    at 1 0 ∙ ap (λ xs. get_or xs (n - 2 + 1) 0) same ∙ ap (λ i. get_or bytes i 0) (omega (arith, count, long)) in
-    omega (arith, is, first, second)
+last_two result n bytes slice back is at same count long = grind arith
 
 -- ---- fronts of the bytes of a content
 

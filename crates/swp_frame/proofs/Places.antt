@@ -6,7 +6,7 @@ use Rattle.std.specs.Int.{bit_at, trailing_zeros, trailing_ones}
 use Rattle.std.proofs.Math.Nat.{mod-eq_of_lt, mul-le-mul_right, pow-suc}
 use Rattle.std.proofs.lemmas.Nat.{mod-pow-add, shr-shr, field_of, shl_below, mod_low, shr_split, mod_below, pow_pos, pow-add, shl-shr, shr_high, shr_below}
 use Rattle.std.proofs.Math.Pow.{pow_mono}
-use Rattle.std.proofs.lemmas.Bool.{eq-eqb, ne_eqb, cases_eq, cases_lt}
+use Rattle.std.proofs.lemmas.Bool.{eq-eqb, cases_lt}
 use Rattle.std.proofs.lemmas.List.{reverse-append}
 use Rattle.std.proofs.Math.ListN.{length-replicate}
 use Rattle.std.proofs.lemmas.Nat.Bits.{bit_at-trailing_zeros, bit_at-trailing_ones, bit_at_above, bit_at-zero, bit_at_ones}
@@ -28,9 +28,7 @@ length-low_bits (suc n) x = ap suc (length-low_bits n x)
 
 -- a bit in front
 number_of-front : (b : Bool) (bits : List Bool) (d n : ℕ) → d < 2 → length bits ≡ n → b ≡ eqb d 1 → spelled_number (b ∷ bits) ≡ d * 2 ^ n + spelled_number bits
-number_of-front b bits zero n h l e = rw e (omega arith)
-number_of-front b bits (suc zero) n h l e = rw (e, l) (omega arith)
-number_of-front b bits (suc (suc d)) n h l e = absurd (omega arith)
+number_of-front b bits d n h l e = grind arith
 
 pub number_of-low_bits : (n x : ℕ) → spelled_number (low_bits n x) ≡ x % 2 ^ n
 unfolding low_bits
@@ -108,8 +106,7 @@ shifted_field x from width h =
     let split : x * 2 ^ from ≡ x / 2 ^ (width + low) * 2 ^ (width + low + from) + kept * 2 ^ from =
     ap (λ n. n * 2 ^ from) (sym (shr_split x (width + low)))
     ∙ spread (x / 2 ^ (width + low)) (2 ^ (width + low)) (2 ^ from) kept (2 ^ (width + low + from)) (pow-add 2 (width + low) from) in
-    let whole : x * 2 ^ from % 2 ^ (width + low + from) ≡ kept * 2 ^ from =
-    ap (λ n. n % 2 ^ (width + low + from)) split ∙ mod_low (x / 2 ^ (width + low)) (width + low + from) (kept * 2 ^ from) below in
+    let whole : x * 2 ^ from % 2 ^ (width + low + from) ≡ kept * 2 ^ from = grind arith in
     ap₂ (λ n k. x * 2 ^ from % 2 ^ n / 2 ^ k) (sym places) cut
     ∙ ap (λ n. n / 2 ^ (from + low)) whole
     ∙ sym (shr-shr (kept * 2 ^ from) from low)
@@ -204,10 +201,7 @@ upper_fits p v f w s a b e h =
 
 zero_run : (starts : Bool) (before : Option (List Symbol)) (since : List Symbol)
     → since_mark (cond starts start_mark no_mark) bit_0 before ≡ Some since → run_of since ≡ 0
-zero_run true before [] e = refl
-zero_run true before (x ∷ since) e = absurd (cc)
-zero_run false None since e = absurd (cc)
-zero_run false (Some s) since e = let same : bit_0 ∷ s ≡ since = cc in ap run_of (sym same)
+zero_run starts before since e = grind arith
 
 one_run : (ends : Bool) (before : Option (List Symbol)) (since older : List Symbol) → (run_of older ≡ 6 → ends ≡ true)
     → ((s : List Symbol) → before ≡ Some s → (run_of s ≡ run_of older) × (run_of older ≤ 6))
@@ -262,20 +256,15 @@ reverse-run false n bits = reverse-append (replicate n true) bits ∙ ap (λ xs.
 -- what is kept of an open frame
 pub opened : (is_open : Bool) (kept : Content) (since : Option (List Symbol)) → KeepsOpen is_open kept since → is_open ≡ true
     → (s : List Symbol) × ((since ≡ Some s) × KeepsSince kept s)
-opened false kept since h e = absurd (cc)
-opened true kept None h e = absurd h
-opened true kept (Some s) h e = (s, (refl, h))
+opened is_open kept since h e = grind arith
 
 pub closed : (is_open : Bool) (kept : Content) (since : Option (List Symbol)) → KeepsOpen is_open kept since → is_open ≡ false → since ≡ None
-closed true kept since h e = absurd (cc)
-closed false kept None h e = refl
-closed false kept (Some s) h e = absurd h
+closed is_open kept since h e = grind arith
 
 -- an open frame stays open
 pub still_open : (is_open : Bool) (kept : Content) (since : Option (List Symbol)) (s : List Symbol) → is_open ≡ true → since ≡ Some s → KeepsSince kept s
     → KeepsOpen is_open kept since
-still_open false kept since s e is h = absurd (cc)
-still_open true kept since s e is h = subst (KeepsOpen true kept) (sym is) h
+still_open is_open kept since s e is h = grind arith
 
 -- all bits since the start of a frame, from those before the last run of 1 bits
 pub since_bits : (counts : Bool) (since : List Symbol) → CountsLastZero counts since
@@ -300,11 +289,7 @@ zero_content since content is = go (eqb (run_of since) 5) content is
     go false content e = rw e (sym (reverse-append (false ∷ []) (unstuffed since)))
 
 pub zero_counts : (since : List Symbol) (content : Bool) → content ≡ not (eqb (run_of since) 5) → CountsLastZero content (bit_0 ∷ since)
-zero_counts since content is = go (eqb (run_of since) 5) content is
-  where
-    go : (put_in content : Bool) → content ≡ not put_in → cond put_in (unstuffed since) (false ∷ unstuffed since) ≡ with_zero content (unstuffed since)
-    go true content e = rw e refl
-    go false content e = rw e refl
+zero_counts since content is = grind arith
 
 -- ---- parts of a word: which of their bits were put in, and what is left without those
 
@@ -376,16 +361,10 @@ marks_between w from width ones x given h is =
 
 -- a great run is counted as 7
 same_five : (r s : ℕ) → min 7 r ≡ min 7 s → eqb r 5 ≡ eqb s 5
-same_five r s h = elim (cases_eq r 5) [
-  | inl is ↦ eq-eqb r 5 is ∙ sym (eq-eqb s 5 (omega (arith, h, is)))
-  | inr other ↦ ne_eqb r 5 other ∙ sym (ne_eqb s 5 (λ is. other (omega (arith, h, is))))
-]
+same_five r s h = grind arith
 
 same_six : (r s : ℕ) → min 7 r ≡ min 7 s → eqb r 6 ≡ eqb s 6
-same_six r s h = elim (cases_eq r 6) [
-  | inl is ↦ eq-eqb r 6 is ∙ sym (eq-eqb s 6 (omega (arith, h, is)))
-  | inr other ↦ ne_eqb r 6 other ∙ sym (ne_eqb s 6 (λ is. other (omega (arith, h, is))))
-]
+same_six r s h = grind arith
 
 pub same_put_in : (r s : ℕ) (bits : List Bool) → min 7 r ≡ min 7 s → places_put_in r bits ≡ places_put_in s bits
 same_put_in r s [] h = refl
@@ -457,9 +436,7 @@ abbrev pub squeezed : ℕ → ℕ → ℕ
 squeezed n t = n / 2 ^ suc t * 2 ^ t + n % 2 ^ t
 
 upper_half : (n t : ℕ) → n < 2 ^ 64 → n / 2 ^ suc t * 2 ^ t < 2 ^ 64
-upper_half n t h =
-    let double : n / 2 ^ suc t * 2 ^ suc t ≡ 2 * (n / 2 ^ suc t * 2 ^ t) = ap (λ k. n / 2 ^ suc t * k) (pow-suc 2 t) ∙ omega arith in
-    omega (arith, shr_split n (suc t), double)
+upper_half n t h = grind arith
 
 -- the same from what the code computes
 pub upper_is : (n t : ℕ) → n < 2 ^ 64 → n / 2 ^ t / 2 * 2 ^ t % 2 ^ 64 ≡ n / 2 ^ suc t * 2 ^ t
@@ -561,8 +538,7 @@ without-put_in ones (false ∷ bits) = one (eqb ones 5) (without-put_in 0 bits)
   where
     one : (put_in : Bool) → without (places_put_in 0 bits) bits ≡ kept_of 0 bits
         → without (put_in ∷ places_put_in 0 bits) (false ∷ bits) ≡ added false (not put_in) ++ kept_of 0 bits
-    one true e = e
-    one false e = ap (λ xs. false ∷ xs) e
+    one put_in e = grind arith
 
 -- ---- the 1 bits at the end
 
@@ -632,15 +608,13 @@ middle xs ys b k l =
     ∙ parity (spelled_number xs) b
   where
     front : (b : Bool) (ys : List Bool) (k : ℕ) → length ys ≡ k → spelled_number (b ∷ ys) ≡ bool_byte b * 2 ^ k + spelled_number ys
-    front true ys k l = rw l (omega arith)
-    front false ys k l = omega arith
+    front b ys k l = grind arith
 
     spread : (q p d r : ℕ) → q * (p * 2) + (d * p + r) ≡ (q * 2 + d) * p + r
     spread q p d r = omega arith
 
     parity : (q : ℕ) (b : Bool) → eqb ((q * 2 + bool_byte b) % 2) 0 ≡ not b
-    parity q true = ne_eqb _ _ (λ e. absurd (omega (arith, e)))
-    parity q false = eq-eqb _ _ (omega arith)
+    parity q b = grind arith
 
 pub zero_at_end : (w n ones before given : ℕ) (z : Bool) → EndsIn w n ones → given ≡ spelled_number (places_put_in before (low_bits w n))
     → (w ≤ ones → zero_of z before (low_bits w n) ≡ z) × (ones < w → zero_of z before (low_bits w n) ≡ eqb (given / 2 ^ ones % 2) 0)

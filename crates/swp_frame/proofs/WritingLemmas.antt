@@ -4,7 +4,7 @@ use Rattle.std.proofs.Common.{sym, ap, ap₂, ◌≢◌, ◌∙◌, arith, w32, 
 use Rattle.std.proofs.Common.{append-nil}
 use Rattle.std.specs.Int.{trailing_ones, bit_at}
 use Rattle.std.proofs.lemmas.List.{map-append, length-map, take_more}
-use Rattle.std.proofs.lemmas.Bool.{agree_below, agree_below_at, eqb-false, eqb-true, eq-eqb}
+use Rattle.std.proofs.lemmas.Bool.{agree_below, agree_below_at}
 use Rattle.std.proofs.lemmas.Nat.Bits.{shr_and_one}
 use lib.Count.{count_trailing_zeros}
 use Rattle.swp_base.specs.Bits.{bit, bits_of_byte, bits_of}
@@ -26,8 +26,7 @@ plain_behind ones (true ∷ bits) more run is = by_count (eqb ones 4) (plain_beh
     by_count : (fifth : Bool) → (run_below_five (ones + 1) bits ≡ Some run → stuffed_after (ones + 1) (bits ++ more) ≡ bits ++ stuffed_after run more)
         → cond fifth None (run_below_five (ones + 1) bits) ≡ Some run
         → cond fifth (true ∷ false ∷ stuffed_after 0 (bits ++ more)) (true ∷ stuffed_after (ones + 1) (bits ++ more)) ≡ true ∷ (bits ++ stuffed_after run more)
-    by_count true next none = absurd (cc none)
-    by_count false next is = ap (λ xs. true ∷ xs) (next is)
+    by_count fifth next none = grind arith
 
 -- and the run at their end is below five
 pub few_behind : (ones : ℕ) (bits : List Bool) (run : ℕ) → ones ≤ 4 → run_below_five ones bits ≡ Some run → run ≤ 4
@@ -37,8 +36,7 @@ few_behind ones (true ∷ bits) run h is = by_count (eqb ones 4) refl (few_behin
   where
     by_count : (fifth : Bool) → eqb ones 4 ≡ fifth → (ones + 1 ≤ 4 → run_below_five (ones + 1) bits ≡ Some run → run ≤ 4)
         → cond fifth None (run_below_five (ones + 1) bits) ≡ Some run → run ≤ 4
-    by_count true e next none = absurd (cc none)
-    by_count false e next is = next (let differ = eqb-false ones 4 e in omega (arith, differ, h)) is
+    by_count fifth e next none = grind arith
 
 -- so many 1 bits before a byte, and the byte
 abbrev pub lined : ℕ → ℕ → ℕ
@@ -87,16 +85,7 @@ right_behind (suc (suc (suc (suc zero)))) byte few small = agree_below_at (is_ri
 right_behind (suc (suc (suc (suc (suc ones))))) byte few small = absurd (omega arith)
 
 agreed : (end : Option ℕ) (five run : ℕ) → agrees end five run ≡ true → (five ≡ 0 → Some run ≡ end) × (five ≢ 0 → None ≡ end)
-agreed None five run is = (λ zero. absurd (no (eqb five 0) (eq-eqb five 0 zero) is), λ e. refl)
-  where
-    no : (b : Bool) → b ≡ true → not b ≡ true → ⊥
-    no true e is = cc is
-    no false e is = cc e
-agreed (Some end) five run is = both (eqb five 0) refl is
-  where
-    both : (b : Bool) → eqb five 0 ≡ b → (b && eqb end run) ≡ true → (five ≡ 0 → Some run ≡ Some end) × (five ≢ 0 → None ≡ Some end)
-    both true e is = (λ zero. ap Some (sym (eqb-true end run is)), λ other. absurd (other (eqb-true five 0 e)))
-    both false e is = absurd (cc is)
+agreed end five run is = grind arith
 
 -- the test of all five at once
 pub run_is : (ones byte : ℕ) → ones ≤ 4 → byte < 256
@@ -192,11 +181,7 @@ pub all_bits : (b place : ℕ) → 8 ≤ place → take place (bits_of_byte b) �
 all_bits b place h = take_all (bits_of_byte b) place (rw (length-bits_of_byte b) h)
 
 pub writes_nothing : (b : BitBytes) (ones : ℕ) (old : List ℕ) → ones ≤ 4 → WritesOn b ones [] ones old old
-writes_nothing b ones old few = record {
-  spelled = λ more. refl;
-  few = few;
-  sized = omega arith;
-}
+writes_nothing b ones old few = grind arith
 
 pub writes_both : (b : BitBytes) (ones run last : ℕ) (first second : List Bool) (old middle new : List ℕ) → WritesOn b ones first run old middle
     → WritesOn b run second last middle new → WritesOn b ones (first ++ second) last old new

@@ -10,9 +10,8 @@ use Rattle.swp_lpdu.specs.declared.LpduFault.{LpduFault}
 use Rattle.swp_lpdu.specs.Controls.{control_of}
 use Rattle.tap_reading.specs.Tap.{TapState, new_tap, tap_after_frame, tap_reports, tap_after, tapped_from, tapped}
 use Rattle.tap_reading.specs.Lpdus.{frame_read, frames_read, tapped_lpdus}
-use Rattle.tap_reading.specs.keeping.Keeping.{KeptSide, KeptTap, kept_exchanged, kept_listed, kept_added, kept_tells_more, kept_numbered}
-use Rattle.tap_reading.specs.keeping.Keeping.{kept_in_session, kept_hears}
-use Rattle.tap_reading.specs.keeping.Keeping.{kept_after_frame, kept_reports, StandsForTap}
+use Rattle.tap_reading.specs.keeping.Keeping.{KeptSide, KeptTap, kept_exchanged, kept_listed, kept_added, kept_tells_more, kept_numbered, kept_in_session}
+use Rattle.tap_reading.specs.keeping.Keeping.{kept_hears, kept_after_frame, kept_reports, StandsForTap}
 use Rattle.tap_reading.proofs.keeping.Acknowledging.{frame_stands}
 use Rattle.swp_tap.specs.Hearing.{TapValue, rsets_behind, kept_after_lpdu, kept_reports_lpdu, StandsFor}
 

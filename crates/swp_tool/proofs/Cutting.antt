@@ -1,6 +1,6 @@
 -- Cutting a stream of bytes into lines.
-use Rattle.std.proofs.Common.{◌≡◌, ℕ, ◌+◌, ◌-◌, ◌<◌, ◌≤◌, Bool, true, false, cond, eqb, List, [], ◌∷◌, ◌++◌, length, map, take, drop, get_or, suc, refl, sym}
-use Rattle.std.proofs.Common.{ap, ◌∙◌, append_assoc, arith, length-append, length-take, Some, None, position}
+use Rattle.std.proofs.Common.{◌≡◌, ℕ, ◌+◌, ◌-◌, ◌<◌, Bool, true, false, cond, eqb, List, [], ◌∷◌, ◌++◌, length, map, take, drop, get_or, suc, refl, sym, ap}
+use Rattle.std.proofs.Common.{◌∙◌, append_assoc, arith, length-append, length-take, Some, None, position}
 use Rattle.std.specs.List.{flat_map, slice_split, onto_first}
 use Rattle.std.specs.Str.Lines.{lines, lines_of_parts, strip_carriage_return}
 use Rattle.std.proofs.lemmas.List.{take_more, take-append-drop, get_or-take}
@@ -31,8 +31,7 @@ pub lines-ended : (line rest : List ℕ) → LacksLineFeed line → lines (line 
 lines-ended line rest lacks =
     let more = split_some rest in
     ap lines_of_parts (slice_split_at (λ b. eqb b 10) line 10 rest lacks refl)
-    ∙ (ap (λ parts. lines_of_parts (line ∷ parts)) more.2
-    ∙ ap (λ parts. strip_carriage_return line ∷ lines_of_parts parts) (sym more.2))
+    ∙ (grind arith)
 
 -- the lines of bytes that begin with ended ones
 pub lines-all_ended : (whole : List (List ℕ)) (rest : List ℕ) → AllLackLineFeed whole
@@ -69,9 +68,7 @@ strip_long l n long = go (eqb (get_or l (length l - 1) 0) 13)
 
 long_first : (bytes g : List ℕ) (m : List (List ℕ)) (n : ℕ) → n + 1 < length g → slice_split (λ b. eqb b 10) bytes ≡ g ∷ m
     → FirstLine bytes (λ line. n < length line)
-long_first bytes g [] n long is =
-    let some : eqb (length g) 0 ≡ false = grind (arith, common_steps) in
-    record { line = g; more = []; lines_are = ap lines_of_parts is ∙ ap (λ b. cond b [] (g ∷ [])) some; holds = omega arith }
+long_first bytes g [] n long is = grind arith
 long_first bytes g (y ∷ ys) n long is =
     record { line = strip_carriage_return g; more = lines_of_parts (y ∷ ys); lines_are = ap lines_of_parts is; holds = strip_long g n long }
 
@@ -105,8 +102,7 @@ some_line b rest =
         record {
           line = b ∷ f;
           more = [];
-          lines_are = ap lines_of_parts (split_is false is ∙ ap (onto_first b) parts)
-              ∙ ap (λ u. cond u [] ((b ∷ f) ∷ [])) some;
+          lines_are = grind arith;
           holds = tt;
         }
     by_byte false is f (y ∷ ys) parts =

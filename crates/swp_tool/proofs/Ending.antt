@@ -1,8 +1,7 @@
 -- What a replay that ends has written.
-use Rattle.std.proofs.Common.{◌≡◌, ℕ, zero, suc, ◌+◌, ◌<◌, ◌≤◌, Bool, true, false, IsTrue, List, [], ◌∷◌, ◌++◌, length, take, map, refl, sym, ap, ◌∙◌}
-use Rattle.std.proofs.Common.{append_assoc, subst}
-use Rattle.std.proofs.Common.{inl, inr}
-use Rattle.std.specs.Prelude.{Option, Some, None, Result, Ok, Err, OnOk, OnErr, IfOk, IfErr, is_err}
+use Rattle.std.proofs.Common.{arith}
+use Rattle.std.proofs.Common.{◌≡◌, ℕ, ◌+◌, ◌≤◌, Bool, true, false, IsTrue, List, [], ◌++◌, length, take, map, refl, sym, ap, ◌∙◌, append_assoc, subst, inl, inr}
+use Rattle.std.specs.Prelude.{Option, Result, Ok, Err, OnOk, OnErr, IfOk, IfErr, is_err}
 use Rattle.std.specs.Str.Lines.{lines, strip_carriage_return}
 use Rattle.std.proofs.lemmas.List.{append-nil}
 use Rattle.trace_model.specs.declared.line.Header.{Header}
@@ -20,13 +19,7 @@ use Rattle.swp_words.proofs.Taken.{behind}
 
 -- the end of a schedule adds no line
 ended_same : (s : Schedule) → ((ended s).header ≡ s.header) × ((ended s).lines ≡ s.lines)
-ended_same s = go s.stop s.header
-  where
-    go : (o : Option Stop) (h : Option Header)
-        → ((ended (record s { stop = o; header = h })).header ≡ h) × ((ended (record s { stop = o; header = h })).lines ≡ s.lines)
-    go None None = (refl, refl)
-    go None (Some h) = (refl, refl)
-    go (Some x) h = (refl, refl)
+ended_same s = grind arith
 
 -- the transcript of a schedule that stops is that of all its lines
 stops_front : (bytes : List ℕ) (why : Stop) (count : ℕ) (text : List ℕ) → StopsWithText bytes why count text → IsFrontTranscript bytes text
@@ -81,28 +74,16 @@ nothing_played tells p input before read gathered = record {
 
 -- what a replay goes on from has no line at fault
 pub is_running : (p : Pieces) (bytes text : List ℕ) → HasRead p bytes text → IsReading p → IsRunning bytes
-is_running p bytes text h reading = record {
-  whole = h.whole;
-  rest = p.partial.items;
-  cut = h.cut;
-  lack = h.lack;
-  rest_lacks = h.partial_lacks;
-  running = h.played.running;
-  few = subst (λ n. n ≤ 20000) h.played.count_is reading.few.count;
-  begun = λ some. subst (λ n. n < 20000) h.played.count_is (reading.begun some);
-  short = reading.short;
-}
+is_running p bytes text h reading = grind arith
 
 -- ## Fronts of transcripts
 
 -- an error, where one is
 pub of_err : {T E : Type 0} (P : Type 0) (r : Result T E) (b : Bool) → b ≡ is_err r → b ≡ true → OnErr r P → P
-of_err P (Ok x) b is holds h = absurd (cc)
-of_err P (Err e) b is holds h = h
+of_err P r b is holds h = grind arith
 
 pub of_ok : {T E : Type 0} (P : Type 0) (r : Result T E) (b : Bool) → b ≡ is_err r → b ≡ false → OnOk r P → P
-of_ok P (Ok x) b is holds h = h
-of_ok P (Err e) b is holds h = absurd (cc)
+of_ok P r b is holds h = grind arith
 
 -- where nothing is gathered, the transcript of the whole lines was written
 pub whole_transcript : (p : Pieces) (bytes text : List ℕ) → HasRead p bytes text → p.replay.text.items ≡ [] → IsWholeTranscript bytes text

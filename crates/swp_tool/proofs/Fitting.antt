@@ -2,7 +2,6 @@
 -- one is read.
 use Rattle.std.proofs.Common.{◌≡◌, ◌==◌, ℕ, zero, suc, ◌+◌, ◌≤◌, ◌<◌, Bool, true, false, cond, List, [], ◌∷◌, ◌++◌, length, refl, sym, ap, ◌∙◌, length-append}
 use Rattle.std.proofs.Common.{append-nil, append_assoc, arith, subst, ap₂}
-use Rattle.std.proofs.Common.{inl, inr, IsTrue}
 use Rattle.std.specs.Prelude.{Option, Some, None, Result, Ok, Err, replicate}
 use Rattle.std.specs.List.{AllByRecursion, fold}
 use Rattle.std.specs.Str.Lines.{lines}
@@ -25,7 +24,7 @@ use Rattle.history.specs.Histories.{Step, History, Outcome}
 use Rattle.history.specs.Steps.{bare_link}
 use Rattle.history.specs.Follows.{Follows, StepsFollow, host_of, opening_of, link_after_line, outcome_of}
 use Rattle.node_machine.specs.world.World.{new_world}
-use Rattle.node_machine.specs.world.NodeHistories.{LineStep, NodeHistory, FollowsNodes, NoneIsMisread}
+use Rattle.node_machine.specs.world.NodeHistories.{NoneIsMisread}
 use Rattle.node_laws.specs.schedules.Ranges.{AreNodeLinesOf, asking, lines_asking}
 use Rattle.node_laws.proofs.schedules.Ranges.{in_range}
 use Rattle.node_laws.proofs.bounds.Paying.{asking-append, asking_few}
@@ -40,8 +39,7 @@ use Rattle.lines_told.specs.lines.RoundLines.{IsRoundLine}
 use Rattle.lines_told.proofs.lines.Told.{after-append, few_said, lines-append, lines_may_be_played, played_more, plays_for, plays_more, round_first}
 use Rattle.lines_told.proofs.lines.Told.{round_known, sure_below}
 use Rattle.told_laws.proofs.told.BarePlays.{keeps_hosts}
-use Rattle.swp_tool.specs.Schedules.{Stop, Too_many, Schedule, nothing_read, with_played, ended}
-use Rattle.swp_tool.specs.Schedules.{misread_there, and_said, and_line, and_lines, schedule_in}
+use Rattle.swp_tool.specs.Schedules.{Stop, Too_many, Schedule, nothing_read, with_played, ended, misread_there, and_said, and_line, and_lines, schedule_in}
 use Rattle.swp_tool.specs.Transcripts.{link_steps_from, link_history, nodes_history, history_below, IsPlayedText}
 use Rattle.swp_tool.proofs.Happened.{tells_history}
 
@@ -52,33 +50,13 @@ not_settling l still rounds same = let settles : is_settling l ≡ true = ap is_
 
 -- what stands below a header that isn't of nodes is of a bare world
 bare_header : (header : Header) → header.hci ≡ false → MayBegin header → IsHeader header
-bare_header header bare (inl h) = h
-bare_header header bare (inr h) = absurd (let both : true ≡ false = sym h.nodes ∙ bare in cc both)
+bare_header header bare a = grind arith
 
 nodes_header : (header : Header) → header.hci ≡ true → MayBegin header → IsNodeHeader header
-nodes_header header nodes (inr h) = h
-nodes_header header nodes (inl h) = absurd (let both : true ≡ false = sym nodes ∙ h.bare in cc both)
-
-no_nodes_there : (t : Bool) → t ≡ false → IsTrue t → ⊥
-no_nodes_there true a b = cc
-no_nodes_there false a b = cc
+nodes_header header nodes a = grind arith
 
 bare_line : (header : Header) (said : Line) → header.hci ≡ false → is_settling said ≡ false → MayFollow header said → IsLineOf header said
-bare_line header (saying.Send e p m) bare still h = h
-bare_line header (saying.Deliver e n) bare still h = h
-bare_line header (saying.Lose e) bare still h = h
-bare_line header (saying.Damage e p) bare still h = h
-bare_line header (saying.Tick n) bare still h = h
-bare_line header (saying.Reset e n) bare still h = h
-bare_line header (saying.Busy e) bare still h = h
-bare_line header (saying.Ready e) bare still h = h
-bare_line header (saying.Boot n) bare still h = absurd (no_nodes_there header.hci bare h.0)
-bare_line header (saying.Cut n) bare still h = absurd (no_nodes_there header.hci bare h.0)
-bare_line header (saying.Activate n s p) bare still h = absurd (no_nodes_there header.hci bare h.0)
-bare_line header (saying.Arm n k x) bare still h = absurd (no_nodes_there header.hci bare h.0)
-bare_line header (saying.Init e i p) bare still h = absurd (no_nodes_there header.hci bare h.0)
-bare_line header (saying.Tables n) bare still h = absurd (no_nodes_there header.hci bare h.0)
-bare_line header (saying.Settle n) bare still h = cc
+bare_line header said bare still h = grind arith
 
 -- ## A schedule, below either header
 
@@ -192,14 +170,11 @@ played_fits s l None q is more h =
       short = omega (arith, few, long, more);
       most = λ _. omega (arith, more);
     }
-played_fits s l (Some other) q is more h =
-    let few = h.few in record { fit = h.fit; few = omega (arith, few); short = h.short; most = λ running. absurd (cc running) }
+played_fits s l (Some other) q is more h = grind arith
 
 said_fits : (s : Schedule) (bytes : List ℕ) (r : Result Read LineFault) → line_of s.header bytes ≡ r → s.count < 20000 → Fits s → Fits (and_said s r)
-said_fits s bytes (Err f) is more h =
-    let few = h.few in record { fit = h.fit; few = omega (arith, few); short = h.short; most = λ running. absurd (cc running) }
-said_fits s bytes (Ok read.Skip) is more h =
-    let few = h.few in record { fit = h.fit; few = omega (arith, few); short = h.short; most = λ _. omega (arith, more) }
+said_fits s bytes (Err f) is more h = grind arith
+said_fits s bytes (Ok read.Skip) is more h = grind arith
 said_fits s bytes (Ok (read.Header header)) is more h =
     let few = h.few in
     record {
@@ -235,12 +210,7 @@ lines_fit [] s h = h
 lines_fit (l ∷ ls) s h = lines_fit ls (and_line s l) (line_fits_too s l h)
 
 ended_fits : (s : Schedule) → Fits s → Fits (ended s)
-ended_fits s h = go s.stop s.header h
-  where
-    go : (o : Option Stop) (header : Option Header) → Fits (record s { stop = o; header = header }) → Fits (ended (record s { stop = o; header = header }))
-    go None None k = let few = k.few in record { fit = k.fit; few = omega (arith, few); short = k.short; most = λ running. absurd (cc running) }
-    go None (Some header) k = k
-    go (Some why) header k = k
+ended_fits s h = grind arith
 
 nothing_fits : Fits nothing_read
 nothing_fits = record { fit = refl; few = omega arith; short = omega arith; most = λ _. omega arith }
@@ -286,9 +256,7 @@ module _ (header : Header) where
 
   -- a round asks for nothing
   asks_none : (l : Line) → IsRoundLine header l → asking l ≡ 0
-  asks_none (saying.Deliver e None) is = refl
-  asks_none (saying.Tick None) is = refl
-  asks_none l is = absurd is
+  asks_none l is = grind arith
 
   none_asked : (ls : List Line) → AllByRecursion (IsRoundLine header) ls → lines_asking ls ≡ 0
   none_asked [] are = refl
@@ -367,23 +335,17 @@ only_steps h l [] (step ∷ steps) follows = absurd follows
 only_steps h l (line ∷ ls) [] follows = absurd follows
 only_steps h l (line ∷ ls) (step ∷ steps) follows =
     let o : Outcome = outcome_of h l line in
-    let same : step ≡ record { line = line; outcome = o } =
-    ap₂ (λ (a : Line) (b : Outcome). let x : Step = record { line = a; outcome = b } in x) follows.0 follows.1 in
+    let same : step ≡ record { line = line; outcome = o } = grind arith in
     let rest : StepsFollow h (link_after_line l o) ls steps = subst (λ (b : Outcome). StepsFollow h (link_after_line l b) ls steps) follows.1 follows.3 in
     ap₂ (λ (x : Step) (xs : List Step). x ∷ xs) same (only_steps h (link_after_line l o) ls steps rest)
 
 pub only_history : (header : Header) (ls : List Line) (t : PlayedHistory) → IsPlayed header ls t → t ≡ history_below header ls
-only_history header ls (OfNodes t) played =
-    let follows : FollowsNodes header ls t = played.3 in
-    let same : t ≡ nodes_history header ls =
-    ap₂ (λ (h : Header) (s : List LineStep). let x : NodeHistory = record { header = h; steps = s } in x) follows.header_is follows.steps_are in
-    ap OfNodes same ∙ ap (λ b. cond b (OfNodes (nodes_history header ls)) (OfLink (link_history header ls))) (sym follows.nodes)
+only_history header ls (OfNodes t) played = grind arith
 only_history header ls (OfLink t) played =
     let follows : Follows header ls t = played.2 in
     let steps : t.steps ≡ link_steps_from (host_of header) bare_link ls =
     only_steps (host_of header) bare_link ls t.steps follows.steps_follow in
-    let same : t ≡ link_history header ls =
-    all_same t.header t.opening t.steps header follows.header_is follows.opening_is steps in
+    let same : t ≡ link_history header ls = grind arith in
     ap OfLink same ∙ ap (λ b. cond b (OfNodes (nodes_history header ls)) (OfLink (link_history header ls))) (sym played.0.bare)
   where
     all_same : (h : Header) (opening : List Entry) (steps : List Step) (g : Header) → h ≡ g → opening ≡ opening_of (host_of g)

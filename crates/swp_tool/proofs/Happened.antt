@@ -1,5 +1,5 @@
 -- What is told of a schedule with one line more, and that what it tells to have happened is noted of the history of what it comes to.
-use Rattle.std.proofs.Common.{◌≡◌, ℕ, zero, suc, Bool, true, false, cond, not, List, [], ◌∷◌, ◌++◌, refl, sym, ap, ◌∙◌, append_assoc, append-nil}
+use Rattle.std.proofs.Common.{◌≡◌, ℕ, zero, suc, false, not, List, [], ◌∷◌, ◌++◌, sym, ap, ◌∙◌, append_assoc, append-nil, arith}
 use Rattle.std.specs.Prelude.{replicate}
 use Rattle.std.specs.List.{fold}
 use Rattle.std.proofs.lemmas.List.Elements.{filter-append}
@@ -10,14 +10,12 @@ use Rattle.trace_model.specs.declared.line.Header.{Header}
 use Rattle.trace_model.specs.declared.line.Line.{Line}
 use Rattle.trace_model.specs.declared.line.Line.TheVariants as saying
 use Rattle.schedule_text.specs.Entries.{entry_line, entry_lines}
-use Rattle.history.specs.Follows.{host_of, opening_of}
-use Rattle.node_laws.specs.answers.Headline.PlayedHistory.{OfLink, OfNodes}
 use Rattle.lines_told.specs.lines.Below.{is_settling, opening_told, told_below}
 use Rattle.lines_told.specs.lines.Plays.{Play, lines_played, lines_played_of, plays_of, plays_of_line, round_behind, rounds_to_rest, schedule_told, told_behind}
 use Rattle.lines_told.specs.lines.Plays.{told_of_line, told_of_lines, told_of_play, told_of_rounds}
 use Rattle.lines_told.specs.lines.Plays.Play.{Said, Round}
 use Rattle.lines_told.proofs.lines.Told.{played_more, plays_more, round_first}
-use Rattle.swp_tool.specs.Transcripts.{link_history, nodes_history, history_below, played_told, is_of_schedule, what_happened}
+use Rattle.swp_tool.specs.Transcripts.{history_below, played_told, is_of_schedule, what_happened}
 use Rattle.swp_tool.proofs.Texts.{told_more}
 
 -- ## One line more
@@ -56,13 +54,11 @@ schedule_text-push header lines line =
 -- ## A line that lets no links settle
 
 said_line : (header : Header) (before : List Play) (line : Line) → is_settling line ≡ false → plays_of_line header before line ≡ Said line ∷ []
-said_line header before (saying.Settle n) still = absurd (cc still)
-said_line header before line still = refl
+said_line header before line still = grind arith
 
 said_told : (header : Header) (before : List Play) (line : Line) → is_settling line ≡ false
     → told_of_line header before line ≡ told_below header (lines_played header before) line
-said_told header before (saying.Settle n) still = absurd (cc still)
-said_told header before line still = refl
+said_told header before line still = grind arith
 
 pub said_plays : (header : Header) (lines : List Line) (line : Line) → is_settling line ≡ false
     → plays_of header (lines ++ line ∷ []) ≡ plays_of header lines ++ Said line ∷ []
@@ -89,12 +85,7 @@ module _ (header : Header) where
   happened lines = what_happened (played_told (history_below header lines))
 
   happened_first : happened [] ≡ what_happened (opening_told header)
-  happened_first = go header.hci
-    where
-      go : (nodes : Bool) → what_happened (played_told (cond nodes (OfNodes (nodes_history header [])) (OfLink (link_history header []))))
-          ≡ what_happened (cond nodes [] (opening_of (host_of header)))
-      go true = refl
-      go false = ap what_happened (append-nil (opening_of (host_of header)))
+  happened_first = grind arith
 
   happened_more : (lines : List Line) (line : Line) → happened (lines ++ line ∷ []) ≡ happened lines ++ what_happened (told_below header lines line)
   happened_more lines line =

@@ -13,8 +13,7 @@ use Rattle.told_laws.proofs.told.Whole.{schedule_told_in}
 use Rattle.swp_words.specs.declared.status.Status.{Status}
 use Rattle.swp_words.specs.declared.status.Status.TheVariants as status
 use Rattle.swp_tool.specs.Schedules.{Stop, Schedule, nothing_read, and_lines, ended, schedule_in}
-use Rattle.swp_tool.specs.Transcripts.{done_line, whole_text, IsPlayedText, IsTextBelow, IsDoneText}
-use Rattle.swp_tool.specs.Transcripts.{TellsEntries, TellsPlayed}
+use Rattle.swp_tool.specs.Transcripts.{done_line, whole_text, IsPlayedText, IsTextBelow, IsDoneText, TellsEntries, TellsPlayed}
 use Rattle.swp_tool.specs.Runs.{AppendsText, Replayed}
 use Rattle.swp_tool.proofs.Fitting.{AreFit, AreRight, Fits, whole_fits, text_played}
 

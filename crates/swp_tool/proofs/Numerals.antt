@@ -1,7 +1,6 @@
 -- How a number is written: by its last digit, and those before it.
-use Rattle.std.proofs.Common.{◌≡◌, ◌⊎◌, inl, inr, ℕ, ◌+◌, ◌/◌, ◌%◌, ◌<◌, ◌≤◌, ◌^◌, List, [], ◌∷◌}
-use Rattle.std.proofs.Common.{◌++◌, refl, ap, sym, ◌∙◌, arith, length, length-append, Bool, false, IsTrue, subst, ◌==◌, suc, map, get_or}
-use Rattle.std.proofs.lemmas.Bool.{ne_eqb}
+use Rattle.std.proofs.Common.{◌≡◌, ◌⊎◌, inl, inr, ℕ, ◌+◌, ◌/◌, ◌%◌, ◌<◌, ◌≤◌, ◌^◌, List, [], ◌∷◌, ◌++◌, refl, ap, sym, ◌∙◌, arith, length, length-append, Bool}
+use Rattle.std.proofs.Common.{false, IsTrue, subst, ◌==◌, map, get_or}
 use Rattle.std.specs.Prelude.{Result, Ok, codes}
 use Rattle.std.specs.Fmt.{decimal}
 use Rattle.std.proofs.lemmas.Fmt.{decimal_digit, decimal_step, decimal_injective}
@@ -73,22 +72,15 @@ decides_not never = ((λ t. absurd (is_not t)), (λ x. absurd (never x)))
 pub decides_as : {X Y : Type 0} (b : Bool) → (IsTrue b → Y) × (Y → IsTrue b) → (Y → X) × (X → Y) → (IsTrue b → X) × (X → IsTrue b)
 decides_as b test same = ((λ t. same.0 (test.0 t)), (λ x. test.1 (same.1 x)))
 
-some_first : (x : ℕ) (front : List ℕ) → x ∷ front ≡ [] → ⊥
-some_first x front q = cc
-
 -- whether there are none before the last
 pub none_before : (front : List ℕ) (b : Bool) → b ≡ (length front == 0) → (IsTrue b → front ≡ []) × (front ≡ [] → IsTrue b)
 none_before [] b q = ((λ t. refl), (λ e. subst IsTrue (sym q) refl))
-none_before (x ∷ front) b q = (
-  (λ t. absurd (is_not (subst IsTrue (q ∙ ne_eqb (suc (length front)) 0 (λ e. omega (arith, e))) t))),
-  (λ e. absurd (some_first x front e)),
-)
+none_before (x ∷ front) b q = grind arith
 
 -- a word that is read as a number, and is how that number is written, isn't found to be another text
 pub same_number : {E : Type 0} (r : Result ℕ E) (read n : ℕ) (digits : List ℕ) (found : Bool) → r ≡ Ok read → r ≡ Ok n → digits ≡ decimal n
     → (digits ≡ decimal read → IsTrue found) → found ≡ false → ⊥
-same_number r read n digits found a b q test not_found =
-    let same : n ≡ read = cc in is_not (subst IsTrue not_found (test (q ∙ ap decimal same)))
+same_number r read n digits found a b q test not_found = grind arith
 
 -- two words, and what they say
 pub words_given : {X : Type 0} (f : X → List ℕ) (words : List X) (a b : X) (gen digits : List ℕ) → 2 ≤ length words → length words < 3
@@ -96,9 +88,7 @@ pub words_given : {X : Type 0} (f : X → List ℕ) (words : List X) (a b : X) (
 words_given f [] a b gen digits some few p q u v = absurd (omega (arith, some))
 words_given f (x ∷ []) a b gen digits some few p q u v = absurd (omega (arith, some))
 words_given f (x ∷ y ∷ z ∷ words) a b gen digits some few p q u v = absurd (omega (arith, few))
-words_given f (x ∷ y ∷ []) a b gen digits some few p q u v =
-    let first : f x ≡ gen = ap f (sym p) ∙ u in let second : f y ≡ digits = ap f (sym q) ∙ v in
-    ap (λ l. l ∷ f y ∷ []) first ∙ ap (λ l. gen ∷ l ∷ []) second
+words_given f (x ∷ y ∷ []) a b gen digits some few p q u v = grind arith
 
 second_same : (a b x y : List ℕ) → a ∷ x ∷ [] ≡ b ∷ y ∷ [] → x ≡ y
 second_same a b x y q = cc

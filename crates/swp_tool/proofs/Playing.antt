@@ -1,6 +1,6 @@
 -- What a line adds to a replay.
 use Rattle.std.proofs.Common.{◌≡◌, ◌==◌, ℕ, ◌+◌, ◌≤◌, ◌<◌, Bool, true, false, cond, List, [], ◌∷◌, ◌++◌, refl, sym, ap, ◌∙◌, append_assoc, arith, subst}
-use Rattle.std.specs.Prelude.{Option, Some, None, Ok, IsSome, IsSomeAnd}
+use Rattle.std.specs.Prelude.{Option, Some, None, Ok, IsSomeAnd}
 use Rattle.std.specs.Option.{ForSome}
 use Rattle.std.proofs.lemmas.Bool.{eqb-true}
 use Rattle.trace_model.specs.declared.line.Header.{Header}
@@ -9,7 +9,7 @@ use Rattle.trace_model.specs.declared.line.Line.TheVariants as saying
 use Rattle.trace_model.specs.Lines.{MayFollow}
 use Rattle.schedule_text.specs.Entries.{entry_lines}
 use Rattle.lines_told.specs.lines.Below.{is_settling, misread_below}
-use Rattle.lines_told.specs.lines.Plays.{Play, lines_played, plays_of, plays_of_line, rounds_to_rest, schedule_told}
+use Rattle.lines_told.specs.lines.Plays.{Play, lines_played, plays_of_line, rounds_to_rest, schedule_told}
 use Rattle.lines_told.proofs.lines.Told.{at_most, none_said, played-append, said-append, so_many_rounds}
 use Rattle.world.specs.declared.world_steps.World.{World}
 use Rattle.world.specs.declared.fault.WorldFault.{WorldFault}
@@ -21,13 +21,12 @@ use Rattle.schedule_text.specs.declared.read.Read.TheVariants as read
 use Rattle.swp_tool.specs.declared.replay.Replay.{Replay}
 use Rattle.swp_tool.specs.declared.replay.Halt.{Halt}
 use Rattle.swp_tool.specs.declared.replay.Halt.TheVariants as halt
-use Rattle.swp_tool.specs.Schedules.{Schedule, Too_many, most_lines, misread_there, with_played, and_said, and_line}
+use Rattle.swp_tool.specs.Schedules.{Schedule, Too_many, most_lines, and_said, and_line}
 use Rattle.swp_tool.specs.Replays.{Runs, IsAt, WasStepped, HasRoundsLeft, HasPlayed, HasFew, halt_of, HaltsOn, HaltsBefore}
 
 -- it stands so below its own header
 pub under_own_header : (w : World) (header : Header) (plays : List Play) → IsWorldAt w header plays → IsWorldAt w (world_header w) plays
-under_own_header w header plays stands =
-    (let P : Header → Type 0 = λ h. IsWorldAt w h plays in subst P (sym stands.header_is) stands)
+under_own_header w header plays stands = grind arith
 
 -- a world that was stepped by few lines has room for one more, and for its rounds
 pub has_room : (w : World) (most : ℕ) → WasStepped w most → most < 20000 → HasRoomForLine w
@@ -37,24 +36,14 @@ pub has_rounds_left : (w : World) (most rounds : ℕ) → WasStepped w most → 
 has_rounds_left w most rounds was few long = (was.plays, was.stands, (let played = was.rounds in omega (arith, played, few, long)))
 
 pub stepped_more : (w : World) (most : ℕ) → WasStepped w most → WasStepped w (most + 1)
-stepped_more w most was =
-    let said = was.few in
-    let rounds = was.rounds in
-    record { plays = was.plays; stands = was.stands; few = omega (arith, said); rounds = omega (arith, rounds) }
+stepped_more w most was = grind arith
 
 -- a world that has just begun was stepped by no line
 pub never_stepped : (w : World) (header : Header) → IsWorldAt w header [] → WasStepped w 0
-never_stepped w header stands =
-    record { plays = []; stands = under_own_header w header [] stands; few = omega arith; rounds = omega arith }
+never_stepped w header stands = grind arith
 
 pub begun_few : (w : World) (most : ℕ) → WasStepped w 0 → ForSome (Some w) (λ v. WasStepped v most)
-begun_few w most was v is =
-    let same : w ≡ v = cc in
-    let said = was.few in
-    let rounds = was.rounds in
-    let now : WasStepped w most =
-    record { plays = was.plays; stands = was.stands; few = omega (arith, said); rounds = omega (arith, rounds) } in
-    subst (λ (x : World). WasStepped x most) same now
+begun_few w most was v is = grind arith
 
 -- a replay whose world was stepped by one line more has few still
 pub few_more : {r : Replay} {w : World} {count : ℕ} → count < 20000 → r.world ≡ Some w → r.count ≡ count + 1 → WasStepped w (count + 1) → HasFew r
@@ -78,12 +67,7 @@ stepped_settled w v most count was long stands =
     let none = none_said r in
     let many = so_many_rounds r in
     let low = at_most (world_header w) was.plays most in
-    record {
-      plays = was.plays ++ more;
-      stands = under_own_header v (world_header w) (was.plays ++ more) stands;
-      few = omega (arith, said, said_sum, none);
-      rounds = omega (arith, rounds, rounds_sum, many, low, long);
-    }
+    grind arith
 
 -- there is room for its rounds
 pub settles_few : (header : Header) (line : Line) (rounds : ℕ) → line ≡ saying.Settle rounds → MayFollow header line → rounds ≤ 20000
@@ -99,15 +83,12 @@ settles_well header lines rounds = same_both header.hci None
 
 -- a line that is no such one
 pub settles_not : (line : Line) → ((rounds : ℕ) → line ≡ saying.Settle rounds → ⊥) → is_settling line ≡ false
-settles_not (saying.Settle rounds) other = absurd (other rounds refl)
-settles_not line other = refl
+settles_not line other = grind arith
 
 -- before a header nothing was gathered
 before_header : (w : Option World) (header : Option Header) (lines : List Line) (text : List ℕ) → header ≡ None → IsAt w header lines text
     → (lines ≡ []) × (text ≡ [])
-before_header None None lines text none at = at
-before_header (Some w) None lines text none at = absurd at
-before_header w (Some h) lines text none at = absurd (cc)
+before_header w header lines text none at = grind arith
 
 -- a header was read
 pub began : {r r' : Replay} {s : Schedule} {written : List ℕ} {w : World} {header : Header} → HasPlayed r s written → s.header ≡ None
@@ -120,11 +101,7 @@ began {r} {r'} {s} {written} {w} {header} h none stands world_is count_is text_i
     ap (λ l. written ++ l) text_is ∙ (sym (append_assoc written r.text.items first) ∙ ap (λ l. l ++ first) before.1) in
     let P : Option World → Type 0 = λ x. IsAt x (Some header) s.lines (written ++ r'.text.items) in
     let Q : List Line → Type 0 = λ x. Runs w header x (written ++ r'.text.items) in
-    record {
-      running = h.running;
-      count_is = count_is ∙ ap (λ n. n + 1) h.count_is;
-      at = subst P (sym world_is) (subst Q (sym before.0) (record { stands = stands; text_is = text_first }));
-    }
+    grind arith
 
 -- ## Lines of a world
 
@@ -134,15 +111,6 @@ record IsPlayedAt (w : World) (header : Option Header) (lines : List Line) (text
   is : header ≡ Some of
   runs : Runs w of lines text
 
-played_at : (w : World) (world : Option World) (header : Option Header) (lines : List Line) (text : List ℕ) → world ≡ Some w → IsAt world header lines text
-    → IsPlayedAt w header lines text
-played_at w (Some v) (Some header) lines text is at =
-    let same : v ≡ w = cc in
-    let P : World → Type 0 = λ x. Runs x header lines text in
-    record { of = header; is = refl; runs = subst P same at }
-played_at w (Some v) None lines text is at = absurd at
-played_at w None header lines text is at = absurd (cc)
-
 -- the world went on by a line
 pub went_on : {r r' : Replay} {s : Schedule} {written : List ℕ} {w w' : World} (line : Line) → HasPlayed r s written → r.world ≡ Some w
     → r'.world ≡ Some w' → r'.count ≡ r.count + 1
@@ -150,47 +118,23 @@ pub went_on : {r r' : Replay} {s : Schedule} {written : List ℕ} {w w' : World}
     → Runs w' header (lines ++ line ∷ []) (before ++ r'.text.items))
     → ((header : Header) (plays : List Play) → IsWorldAt w header plays → misread_below header (lines_played header plays) line ≡ None)
     → HasPlayed r' (and_said s (Ok (read.Line line))) written
-went_on {r} {r'} {s} {written} {w} {w'} line h is is' count_is runs told =
-    let at = played_at w r.world s.header s.lines (written ++ r.text.items) is h.at in
-    let none : misread_there s.header s.lines line ≡ None = ap (λ o. misread_there o s.lines line) at.is ∙ told at.of (plays_of at.of s.lines) at.runs.stands in
-    let P : Option (List ℕ) → Type 0 = λ o. HasPlayed r' (with_played s line o) written in
-    let Q : Option World → Type 0 = λ x. IsAt x s.header (s.lines ++ line ∷ []) (written ++ r'.text.items) in
-    let R : Option Header → Type 0 = λ x. IsAt (Some w') x (s.lines ++ line ∷ []) (written ++ r'.text.items) in
-    subst P (sym none) (record {
-      running = h.running;
-      count_is = count_is ∙ ap (λ n. n + 1) h.count_is;
-      at = subst Q (sym is') (subst R (sym at.is) (runs at.of s.lines written at.runs));
-    })
+went_on line h is is' count_is runs told = grind arith
 
 -- why the replay halts where the world did
 pub halts_on : (why : WorldFault) (header : Header) (lines : List Line) (line : Line) → IsFaultThere header lines line why
     → HaltsOn (halt_of why) (misread_below header lines line)
-halts_on (fault.Undetected sent read) header lines line is = (let P : Option (List ℕ) → Type 0 = λ o. IsSome o in subst P (sym is.0) refl)
-halts_on fault.NoMemory header lines line is = tt
-
-halts_before : (why : Halt) (s : Schedule) (line : Line) (other : Option (List ℕ)) → HaltsOn why other → HaltsBefore why (with_played s line other)
-halts_before (halt.Fault f) s line other on = absurd on
-halts_before halt.Undetected s line None on = absurd (cc)
-halts_before halt.Undetected s line (Some x) on = refl
-halts_before halt.TooMany s line other on = absurd on
-halts_before halt.NoMemory s line other on = tt
+halts_on why header lines line is = grind arith
 
 -- the world halted at a line
 pub halted_there : {r : Replay} {s : Schedule} {written : List ℕ} {w : World} (line : Line) (why : Halt) → HasPlayed r s written → r.world ≡ Some w
     → ((header : Header) (plays : List Play) → IsWorldAt w header plays → HaltsOn why (misread_below header (lines_played header plays) line))
     → HaltsBefore why (and_said s (Ok (read.Line line)))
-halted_there {r} {s} {written} {w} line why h is halts =
-    let at = played_at w r.world s.header s.lines (written ++ r.text.items) is h.at in
-    let P : Option Header → Type 0 = λ o. HaltsOn why (misread_there o s.lines line) in
-    halts_before why s line (misread_there s.header s.lines line) (subst P (sym at.is) (halts at.of (plays_of at.of s.lines) at.runs.stands))
+halted_there line why h is halts = grind arith
 
 -- a line that is read below the header of a world is read below that of its schedule
 read_there : (world : Option World) (header : Option Header) (lines : List Line) (text bytes : List ℕ) (line : Line) → IsAt world header lines text
     → IsSomeAnd world (λ w. line_of (Some (world_header w)) bytes ≡ Ok (read.Line line)) → line_of header bytes ≡ Ok (read.Line line)
-read_there None header lines text bytes line at said = absurd said
-read_there (Some w) None lines text bytes line at said = absurd at
-read_there (Some w) (Some header) lines text bytes line at said =
-    subst (λ (h : Header). line_of (Some h) bytes ≡ Ok (read.Line line)) at.stands.header_is said
+read_there world header lines text bytes line at said = grind arith
 
 -- it is what its bytes add to the schedule
 pub line_said : {r : Replay} {s : Schedule} {written : List ℕ} (bytes : List ℕ) (line : Line) → HasPlayed r s written → r.count < 20000
@@ -220,5 +164,4 @@ header_of_world (Some w) = Some (world_header w)
 -- a line that was read below the header of a world may follow it
 pub line_of_world : (world : Option World) (header : Option Header) (line : Line) → header ≡ header_of_world world
     → IsInGrammar header (read.Line line) → IsSomeAnd world (λ w. MayFollow (world_header w) line)
-line_of_world None header line is fits = absurd (subst (λ h. IsInGrammar h (read.Line line)) is fits)
-line_of_world (Some w) header line is fits = subst (λ h. IsInGrammar h (read.Line line)) is fits
+line_of_world world header line is fits = grind arith

@@ -1,26 +1,20 @@
 -- What a piece of a schedule adds to what was read before it.
-use Rattle.std.proofs.Common.{◌≡◌, ℕ, ◌+◌, ◌<◌, Bool, true, false, cond, eqb, ltb, List, [], ◌∷◌, ◌++◌, length, map, refl, sym, ap, ◌∙◌, append_assoc}
-use Rattle.std.proofs.Common.{arith, subst, ◌⊎◌, ⊎_elim}
-use Rattle.std.specs.Prelude.{Option, Some, None, Result, Ok, Err}
+use Rattle.std.proofs.Common.{◌≡◌, ℕ, ◌+◌, ◌<◌, false, eqb, List, [], ◌∷◌, ◌++◌, length, map, refl, sym, ap, ◌∙◌, append_assoc, arith, subst, ◌⊎◌, ⊎_elim}
+use Rattle.std.specs.Prelude.{Option, Some, None, Err}
 use Rattle.std.specs.List.{flat_map}
 use Rattle.std.specs.Str.Lines.{lines, strip_carriage_return}
 use Rattle.std.proofs.lemmas.List.{append-nil}
 use Rattle.std.proofs.lemmas.Grind.{common_steps, fold-append}
 use Rattle.trace_model.specs.declared.line.Header.{Header}
-use Rattle.trace_model.specs.declared.line.Line.{Line}
 use Rattle.world.specs.declared.world_steps.World.{World}
-use Rattle.schedule_text.specs.declared.fault.LineFault.{LineFault}
 use Rattle.schedule_text.specs.declared.fault.LineFault.TheVariants as fault
-use Rattle.schedule_text.specs.declared.read.Read.{Read}
 use Rattle.schedule_text.specs.declared.read.Read.TheVariants as read
-use Rattle.schedule_text.specs.Lines.{line_of, by_words}
-use Rattle.schedule_text.specs.Words.{words}
+use Rattle.schedule_text.specs.Lines.{line_of}
 use Rattle.swp_tool.specs.declared.replay.Replay.{Replay}
 use Rattle.swp_tool.specs.declared.replay.Halt.{Halt}
 use Rattle.swp_tool.specs.declared.replay.Halt.TheVariants as halt
 use Rattle.swp_tool.specs.declared.pieces.Pieces.{Pieces}
-use Rattle.swp_tool.specs.Schedules.{Stop, AtFault, AtMisread, Too_many, Schedule, nothing_read, misread_there, with_played, and_said, and_line, and_lines}
-use Rattle.swp_tool.specs.Schedules.{ended, schedule_in}
+use Rattle.swp_tool.specs.Schedules.{Stop, AtFault, AtMisread, Too_many, Schedule, nothing_read, and_line, and_lines, ended, schedule_in}
 use Rattle.swp_tool.specs.Transcripts.{IsTextBelow, IsTranscript, IsDoneText, StopsWithText, done_line}
 use Rattle.swp_tool.specs.Replays.{IsAt, HasPlayed, HaltsAt}
 use Rattle.swp_tool.specs.Pieces.{LacksLineFeed, ended_line, AllLackLineFeed, schedule_so_far, HasRead, IsReading, IsFrontTranscript, Halts}
@@ -35,22 +29,14 @@ and_lines-append s a b = fold-append and_line s a b
 
 -- behind a line at which it stopped nothing is read
 and_line-stopped : (s : Schedule) (why : Stop) (bytes : List ℕ) → s.stop ≡ Some why → and_line s bytes ≡ s
-and_line-stopped s why bytes stop = go s.stop stop
-  where
-    go : (o : Option Stop) → o ≡ Some why → and_line (record s { stop = o }) bytes ≡ record s { stop = o }
-    go (Some x) is = refl
-    go None is = absurd (cc)
+and_line-stopped s why bytes stop = grind arith
 
 pub and_lines-stopped : (s : Schedule) (why : Stop) (ls : List (List ℕ)) → s.stop ≡ Some why → and_lines s ls ≡ s
 and_lines-stopped s why [] stop = refl
 and_lines-stopped s why (l ∷ ls) stop = ap (λ x. and_lines x ls) (and_line-stopped s why l stop) ∙ and_lines-stopped s why ls stop
 
 ended-stopped : (s : Schedule) (why : Stop) → s.stop ≡ Some why → ended s ≡ s
-ended-stopped s why stop = go s.stop stop
-  where
-    go : (o : Option Stop) → o ≡ Some why → ended (record s { stop = o }) ≡ record s { stop = o }
-    go (Some x) is = refl
-    go None is = absurd (cc)
+ended-stopped s why stop = grind arith
 
 -- a line at which a schedule stops adds nothing but itself
 pub record StopsThere (s s' : Schedule) : Type 0 where
@@ -59,31 +45,7 @@ pub record StopsThere (s s' : Schedule) : Type 0 where
   pub count_is : s'.count ≡ s.count + 1
 
 pub stops_there : (s : Schedule) (why : Stop) (bytes : List ℕ) → s.stop ≡ None → (and_line s bytes).stop ≡ Some why → StopsThere s (and_line s bytes)
-stops_there s why bytes running stop =
-    (let P : Option Stop → Type 0 = λ o. (and_line (record s { stop = o }) bytes).stop ≡ Some why → StopsThere s (and_line (record s { stop = o }) bytes) in
-    subst P (sym running) (go (eqb s.count 20000) (line_of s.header bytes))) stop
-  where
-    played : (line : Line) (other : Option (List ℕ)) → (with_played (record s { stop = None }) line other).stop ≡ Some why
-        → StopsThere s (with_played (record s { stop = None }) line other)
-    played line None is = absurd (cc)
-    played line (Some x) is = record { header_is = refl; lines_are = refl; count_is = refl }
-
-    go : (b : Bool) (r : Result Read LineFault)
-        → (cond b (record s { count = s.count + 1; stop = Some Too_many }) (and_said (record s { stop = None }) r)).stop ≡ Some why
-        → StopsThere s (cond b (record s { count = s.count + 1; stop = Some Too_many }) (and_said (record s { stop = None }) r))
-    go true r is = record { header_is = refl; lines_are = refl; count_is = refl }
-    go false (Err f) is = record { header_is = refl; lines_are = refl; count_is = refl }
-    go false (Ok read.Skip) is = absurd (cc)
-    go false (Ok (read.Header header)) is = absurd (cc)
-    go false (Ok (read.Line line)) is = played line (misread_there s.header s.lines line) is
-    go false (Ok read.NoMemory) is = absurd (cc)
-
--- a text stays the transcript where nothing is added
-transcript_same : (s s' : Schedule) (text : List ℕ) → StopsThere s s' → IsTranscript s text → IsTranscript s' text
-transcript_same s s' text there h =
-    let P : Option Header → Type 0 = λ o. IsTextBelow o s'.lines text in
-    let Q : List Line → Type 0 = λ l. IsTextBelow s.header l text in
-    subst P (sym there.header_is) (subst Q (sym there.lines_are) h)
+stops_there s why bytes running stop = grind arith
 
 -- what a replay has gathered is the transcript of the lines that it read
 pub played_transcript : (r : Replay) (ls : List (List ℕ)) (written : List ℕ) → HasPlayed r (and_lines nothing_read ls) written
@@ -124,11 +86,7 @@ stops_next {p} {bytes} {written} rest {why} {text} {line} {more} h next stop tra
     ∙ ended-stopped s' why stop) in
     let there = stops_there s why line h.played.running stop in
     let P : Schedule → Type 0 = λ x. IsTranscript x text in
-    record {
-      stop = ap (λ x. x.stop) is ∙ stop;
-      line_is = ap (λ x. x.count) is ∙ (there.count_is ∙ ap (λ n. n + 1) (sym h.played.count_is));
-      transcript = subst P (sym is) (transcript_same s s' text there transcript);
-    }
+    grind arith
 
 -- the transcript of the whole lines so far is that of some of the first lines
 pub front_so_far : (p : Pieces) (bytes written rest text : List ℕ) (h : HasRead p bytes written) → IsTranscript (schedule_so_far h.whole) text
@@ -172,11 +130,7 @@ halts_too_many p bytes written byte reading full h = λ rest.
     no_partial (x ∷ l) begun = absurd (let low = begun (omega arith) in omega arith)
 
     at_limit : (s : Schedule) (line : List ℕ) → s.stop ≡ None → s.count ≡ 20000 → (and_line s line).stop ≡ Some Too_many
-    at_limit s line running count =
-        let P : Option Stop → Type 0 = λ o. (and_line (record s { stop = o }) line).stop ≡ Some Too_many in
-        subst P (sym running)
-        (ap (λ b. (cond b (record s { count = s.count + 1; stop = Some Too_many }) (and_said (record s { stop = None }) (line_of s.header line))).stop)
-        (ap (λ n. eqb n 20000) count))
+    at_limit s line running count = grind arith
 
 -- the same where more bytes than one come
 pub halts_too_many_in : (p : Pieces) (before written bytes : List ℕ) → 0 < length bytes → IsReading p → p.replay.count ≡ 20000 → HasRead p before written
@@ -207,12 +161,9 @@ halts_too_long p before written bytes room long lacks h = λ rest.
     too_long s line running room' long' =
         let P : Option Stop → Type 0 = λ o. (and_line (record s { stop = o }) line).stop ≡ Some (AtFault fault.TooLong) in
         let below : eqb s.count 20000 ≡ false = grind (arith, common_steps) in
-        let fault_is : line_of s.header line ≡ Err fault.TooLong =
-        ap (λ b. cond b (Err fault.TooLong) (by_words s.header (words line))) (let l : ltb 9000 (length line) ≡ true = grind (arith, common_steps) in l) in
+        let fault_is : line_of s.header line ≡ Err fault.TooLong = grind arith in
         subst P (sym running)
-        (ap (λ b. (cond b (record s { count = s.count + 1; stop = Some Too_many }) (and_said (record s { stop = None }) (line_of s.header line))).stop)
-        below
-        ∙ ap (λ r. (and_said (record s { stop = None }) r).stop) fault_is)
+        (grind arith)
 
 -- ## A line that has ended
 
@@ -387,38 +338,12 @@ closed r bytes written text h up is =
     go : (o : Option Stop) → o ≡ None → (header : Option Header) (w : Option World)
         → IsAt w header (schedule_read bytes).lines (written ++ r.text.items) → (w ≡ None → ⊥)
         → ended (record (schedule_read bytes) { stop = o; header = header }) ≡ record (schedule_read bytes) { stop = o; header = header }
-    go None is' (Some x) w at up' = refl
-    go None is' None None at up' = absurd (up' refl)
-    go None is' None (Some w) at up' = absurd at
-    go (Some x) is' header w at up' = absurd (cc)
-
-no_world : (header : Option Header) (ls : List Line) (text : List ℕ) → IsAt None header ls text → (header ≡ None) × (text ≡ [])
-no_world None ls text at = (refl, at.1)
-no_world (Some x) ls text at = absurd at
-
-ended_no_header : (s : Schedule) → s.stop ≡ None → s.header ≡ None → ended s ≡ record s { count = s.count + 1; stop = Some (AtFault fault.Order) }
-ended_no_header s running none =
-    let P : Option Stop → Type 0 = λ o. ended (record s { stop = o }) ≡ record s { count = s.count + 1; stop = Some (AtFault fault.Order) } in
-    let Q : Option Header
-    → Type 0 = λ x. ended (record s { stop = None; header = x }) ≡ record s { header = x; count = s.count + 1; stop = Some (AtFault fault.Order) } in
-    subst P (sym running) (subst Q (sym none) refl)
+    go o is' header w at up' = grind arith
 
 -- without a header the line after the last is out of order
 pub no_header : (r : Replay) (bytes written : List ℕ) → HasPlayed r (schedule_read bytes) written → r.world ≡ None
     → StopsWithText bytes (AtFault fault.Order) (r.count + 1) (written ++ r.text.items)
-no_header r bytes written h none =
-    let s = schedule_read bytes in
-    let text = written ++ r.text.items in
-    let P : Option World → Type 0 = λ w. IsAt w s.header s.lines text in
-    let nothing = no_world s.header s.lines text (subst P none h.at) in
-    let is : schedule_in bytes ≡ record s { count = s.count + 1; stop = Some (AtFault fault.Order) } = ended_no_header s h.running nothing.0 in
-    let Q : Schedule → Type 0 = λ x. IsTranscript x text in
-    let R : Option Header → Type 0 = λ x. IsTextBelow x s.lines text in
-    record {
-      stop = ap (λ x. x.stop) is;
-      line_is = ap (λ x. x.count) is ∙ ap (λ n. n + 1) (sym h.count_is);
-      transcript = subst Q (sym is) (subst R (sym nothing.0) nothing.1);
-    }
+no_header r bytes written h none = grind arith
 
 -- without memory the transcript of all lines stands
 pub no_memory_at_end : (r : Replay) (bytes written : List ℕ) → HasPlayed r (schedule_read bytes) written → IsFrontTranscript bytes (written ++ r.text.items)

@@ -1,7 +1,6 @@
 -- Rounds that are played one after another until all links are at rest.
-use Rattle.std.proofs.Common.{◌≡◌, ℕ, zero, suc, ◌+◌, ◌-◌, ◌<◌, Bool, true, false, cond, List, [], ◌∷◌, ◌++◌, sym, ap, ◌∙◌, append_assoc, append-nil}
-use Rattle.std.proofs.Common.{arith, subst}
-use Rattle.std.specs.Prelude.{Result, Ok, Err, OnOk, OnErr, IfErr, IsErrAnd, replicate}
+use Rattle.std.proofs.Common.{◌≡◌, ℕ, zero, suc, ◌+◌, ◌-◌, ◌<◌, Bool, true, false, List, [], ◌∷◌, ◌++◌, sym, ap, ◌∙◌, append_assoc, append-nil, arith, subst}
+use Rattle.std.specs.Prelude.{Result, OnOk, OnErr, IfErr, IsErrAnd, replicate}
 use Rattle.std.proofs.lemmas.List.Concat.{flat_map-append}
 use Rattle.trace_model.specs.declared.entry.Entry.{Entry}
 use Rattle.trace_model.specs.declared.entry.Entry.TheVariants.{Echo, Settled}
@@ -17,28 +16,23 @@ use Rattle.world.specs.declared.world_steps.World.{World}
 use Rattle.world.specs.Worlds.{IsWorldAt, HasRoomToSettle, StandsBehind, world_header}
 use Rattle.swp_tool.specs.Replays.{Runs, HasGoneThrough, HasRoundsLeft}
 use Rattle.swp_tool.proofs.Happened.{schedule_text-push}
-use Rattle.swp_tool.proofs.Playing.{under_own_header}
 
 -- ## Texts
 
 -- what `?` hands on is the error itself
 pub err_is : {T E : Type 0} (P : E → Type 0) (r : Result T E) (why : E) → IsErrAnd r (λ e. e ≡ why) → P why → IfErr r P
-err_is P (Ok x) why is h = absurd is
-err_is P (Err e) why is h = subst P (sym is) h
+err_is P r why is h = grind arith
 
 -- what holds where a call fails, together
 pub err_both : {T E : Type 0} (A B : Type 0) (P : E → Type 0) (r : Result T E) → OnErr r A → OnErr r B → IfErr r P → IfErr r (λ e. A × B × P e)
-err_both A B P (Ok x) a b h = tt
-err_both A B P (Err e) a b h = (a, b, h)
+err_both A B P r a b h = grind arith
 
 -- what a text that grew has behind what it had
 pub any_ok : {T E : Type 0} (P : Type 0) (r : Result T E) → P → OnOk r P
-any_ok P (Ok x) h = h
-any_ok P (Err e) h = tt
+any_ok P r h = grind arith
 
 pub any_err : {T E : Type 0} (P : Type 0) (r : Result T E) → P → OnErr r P
-any_err P (Ok x) h = tt
-any_err P (Err e) h = h
+any_err P r h = grind arith
 
 pub more_again : (old text new : List ℕ) → (more : List ℕ) × (text ≡ old ++ more) → (more : List ℕ) × (new ≡ text ++ more)
     → (more : List ℕ) × (new ≡ old ++ more)
@@ -108,19 +102,10 @@ first_needed header plays most =
     let now : rounds_to_rest header (plays ++ []) (most - 0) ≡ rounds_to_rest header (plays ++ []) most = ap (rounds_to_rest header (plays ++ [])) left in
     omega (arith, same, now)
 
-needed_now : (header : Header) (plays : List Play) (k : ℕ) (b : Bool) → rests_behind header plays ≡ b
-    → rounds_to_rest header plays (suc k) ≡ cond b 0 (suc (rounds_to_rest header (plays ++ Round ∷ []) k))
-needed_now header plays k b is = ap (λ (x : Bool). cond x 0 (suc (rounds_to_rest header (plays ++ Round ∷ []) k))) is
-
 -- where they are, no more is
 pub none_needed : (header : Header) (plays : List Play) (most n : ℕ) → n < most → rests_behind header (plays ++ replicate n Round) ≡ true
     → MayNeedMore header plays most n → n ≡ rounds_to_rest header plays most
-none_needed header plays most n less rests so_far =
-    let at : List Play = plays ++ replicate n Round in
-    let left : most - n ≡ suc (most - (n + 1)) = omega (arith, less) in
-    let none : rounds_to_rest header at (most - n) ≡ 0 =
-    ap (rounds_to_rest header at) left ∙ needed_now header at (most - (n + 1)) true rests in
-    omega (arith, none, so_far)
+none_needed header plays most n less rests so_far = grind arith
 
 -- where they aren't, one is
 pub one_needed : (header : Header) (plays : List Play) (most n : ℕ) → n < most → rests_behind header (plays ++ replicate n Round) ≡ false
@@ -129,24 +114,19 @@ one_needed header plays most n less moves so_far =
     let at : List Play = plays ++ replicate n Round in
     let k : ℕ = most - (n + 1) in
     let left : most - n ≡ suc k = omega (arith, less) in
-    let one : rounds_to_rest header at (most - n) ≡ suc (rounds_to_rest header (at ++ Round ∷ []) k) =
-    ap (rounds_to_rest header at) left ∙ needed_now header at k false moves in
+    let one : rounds_to_rest header at (most - n) ≡ suc (rounds_to_rest header (at ++ Round ∷ []) k) = grind arith in
     let same : rounds_to_rest header (at ++ Round ∷ []) k ≡ rounds_to_rest header (plays ++ replicate (n + 1) Round) k =
     ap (λ (ps : List Play). rounds_to_rest header ps k) (round_on plays n) in
     omega (arith, so_far, one, same)
 
 -- none is where there is room for no more
 pub all_needed : (header : Header) (plays : List Play) (most n : ℕ) → n ≡ most → MayNeedMore header plays most n → most ≡ rounds_to_rest header plays most
-all_needed header plays most n all so_far =
-    let none : rounds_to_rest header (plays ++ replicate n Round) (most - n) ≡ 0 =
-    ap (rounds_to_rest header (plays ++ replicate n Round)) (let left : most - n ≡ 0 = omega (arith, all) in left) in
-    omega (arith, none, so_far, all)
+all_needed header plays most n all so_far = grind arith
 
 -- whether they are is what the world says
 pub rests_so : (w : World) (header : Header) (plays : List Play) (quiet b : Bool) → IsWorldAt w header plays
     → ((ps : List Play) → StandsBehind w ps → quiet ≡ rests_behind (world_header w) ps) → quiet ≡ b → rests_behind header plays ≡ b
-rests_so w header plays quiet b stands says is =
-    ap (λ (h : Header). rests_behind h plays) (sym stands.header_is) ∙ (sym (says plays (under_own_header w header plays stands).stands) ∙ is)
+rests_so w header plays quiet b stands says is = grind arith
 
 -- the world stands behind these plays, and has room for a round
 abbrev pub HaveGone : World → World → ℕ → List ℕ → List ℕ → Type 0
@@ -154,26 +134,19 @@ HaveGone w v n before text = (header : Header) (plays : List Play) → IsWorldAt
 
 pub stands_then : (w v : World) (most n : ℕ) (before text : List ℕ) → HasRoundsLeft w most → HaveGone w v n before text
     → (plays : List Play) × IsWorldAt v (world_header v) plays
-stands_then w v most n before text left gone =
-    let plays : List Play = left.0 ++ replicate n Round in
-    (plays, under_own_header v (world_header w) plays (gone (world_header w) left.0 left.1).stands)
+stands_then w v most n before text left gone = grind arith
 
 pub room_for_round : (w v : World) (most n : ℕ) (before text : List ℕ) → HasRoundsLeft w most → n < most → HaveGone w v n before text → HasRoomToSettle v
 room_for_round w v most n before text left less gone =
     let few = left.2 in
     let sum = played-append left.0 (replicate n Round) in
     let many = so_many_rounds n in
-    record {
-      plays = left.0 ++ replicate n Round;
-      stands = under_own_header v (world_header w) (left.0 ++ replicate n Round) (gone (world_header w) left.0 left.1).stands;
-      few = omega (arith, few, sum, many, less);
-    }
+    grind arith
 
 -- what was gathered of rounds
 pub gone_more : (w v : World) (most n : ℕ) (before text : List ℕ) → HasRoundsLeft w most → HaveGone w v n before text
     → (more : List ℕ) × (text ≡ before ++ more)
-gone_more w v most n before text left gone =
-    (entry_lines (told_of_rounds (world_header w) left.0 n), (gone (world_header w) left.0 left.1).text_is)
+gone_more w v most n before text left gone = grind arith
 
 -- ## A line that lets the links settle
 

@@ -1,9 +1,7 @@
 -- The schedule that is drawn from a number has a legal history, and what is told of it is counted line by line.
-use Rattle.std.proofs.Common.{◌≡◌, ℕ, zero, suc, ◌+◌, ◌-◌, ◌^◌, ◌<◌, ◌≤◌, Bool}
-use Rattle.std.proofs.Common.{true, false, cond, List, [], ◌∷◌, ◌++◌, append-nil, append_assoc, take, refl, ap, sym, subst, ◌∙◌}
-use Rattle.std.proofs.Common.{arith, length-append, length-take, take_all, get_or, None}
-use Rattle.std.specs.List.Sorted.{IsStrictlyIncreasing}
-use Rattle.std.proofs.lemmas.List.Elements.{All-from_recursion, filter-append}
+use Rattle.std.proofs.Common.{◌≡◌, ℕ, zero, suc, ◌+◌, ◌-◌, ◌^◌, ◌<◌, ◌≤◌, Bool, true, false, cond, List, [], ◌∷◌, ◌++◌, append-nil, append_assoc, take}
+use Rattle.std.proofs.Common.{refl, ap, sym, subst, ◌∙◌, arith, length-append, length-take, take_all, get_or, None}
+use Rattle.std.proofs.lemmas.List.Elements.{filter-append}
 use Rattle.std.specs.Prelude.{length, map, min}
 use Rattle.std.specs.List.{AllByRecursion, filter, fold}
 use Rattle.hci_tables.specs.declared.command.Command.{Command}
@@ -12,7 +10,7 @@ use Rattle.trace_model.specs.declared.entry.Entry.TheVariants as entry
 use Rattle.trace_model.specs.declared.line.End.{End}
 use Rattle.trace_model.specs.declared.line.Line.{Line}
 use Rattle.trace_model.specs.declared.line.Line.TheVariants as saying
-use Rattle.trace_model.specs.Lines.{IsHost, IsNodeHeader}
+use Rattle.trace_model.specs.Lines.{IsNodeHeader}
 use Rattle.node_machine.specs.world.World.{NodeWorld, new_world}
 use Rattle.node_machine.specs.world.Lines.{misread_in, line_step}
 use Rattle.node_machine.specs.world.NodeHistories.{NoneIsMisread}
@@ -114,46 +112,17 @@ line_counted c lines line a =
 -- ## Lines
 
 settles_not : (l : Line) → is_harmless l ≡ true → is_settling l ≡ false
-settles_not (saying.Settle rounds) q = absurd (cc q)
-settles_not (saying.Damage at places) q = refl
-settles_not (saying.Send at pid message) q = refl
-settles_not (saying.Deliver at count) q = refl
-settles_not (saying.Lose at) q = refl
-settles_not (saying.Tick times) q = refl
-settles_not (saying.Reset at window) q = refl
-settles_not (saying.Busy at) q = refl
-settles_not (saying.Ready at) q = refl
-settles_not (saying.Boot node) q = refl
-settles_not (saying.Cut node) q = refl
-settles_not (saying.Activate host sync power) q = refl
-settles_not (saying.Arm node nth fill) q = refl
-settles_not (saying.Init at identity pipes) q = refl
-settles_not (saying.Tables node) q = refl
+settles_not l q = grind arith
 
 read_right : (w : NodeWorld) (l : Line) → is_harmless l ≡ true → misread_in w l ≡ None
-read_right w (saying.Damage at places) q = absurd (cc q)
-read_right w (saying.Settle rounds) q = refl
-read_right w (saying.Send at pid message) q = refl
-read_right w (saying.Deliver at count) q = refl
-read_right w (saying.Lose at) q = refl
-read_right w (saying.Tick times) q = refl
-read_right w (saying.Reset at window) q = refl
-read_right w (saying.Busy at) q = refl
-read_right w (saying.Ready at) q = refl
-read_right w (saying.Boot node) q = refl
-read_right w (saying.Cut node) q = refl
-read_right w (saying.Activate host sync power) q = refl
-read_right w (saying.Arm node nth fill) q = refl
-read_right w (saying.Init at identity pipes) q = refl
-read_right w (saying.Tables node) q = refl
+read_right w l q = grind arith
 
 none_misread : (lines : List Line) (w : NodeWorld) → AllByRecursion IsHarmless lines → NoneIsMisread w lines
 none_misread [] w a = tt
 none_misread (l ∷ lines) w a = (read_right w l a.0.1, none_misread lines (line_step w l).0 a.1)
 
 never_settles : (l : Line) → is_settling l ≡ false → (rounds : ℕ) → l ≡ saying.Settle rounds → ⊥
-never_settles l still rounds same =
-    let settles : is_settling l ≡ true = ap is_settling same in let both : true ≡ false = sym settles ∙ still in absurd (cc both)
+never_settles l still rounds same = grind arith
 
 in_ranges : (lines : List Line) → AllByRecursion IsHarmless lines → AreNodeLinesOf the_header lines
 in_ranges [] a = tt
@@ -186,11 +155,7 @@ drawn_summary n text header is =
 -- ## Its text
 
 pub told_as_counted : (n : ℕ) (c : Counts) (t : List Entry) → AreCountsOf c t → told_line n c.sent c.got c.acked c.up c.commands ≡ summary_line n t
-told_as_counted n c t a =
-    ap (λ x. told_line n x c.got c.acked c.up c.commands) a.sent ∙ ap (λ x. told_line n (count_of_kind is_noted_sent t) x c.acked c.up c.commands) a.got
-    ∙ ap (λ x. told_line n (count_of_kind is_noted_sent t) (count_of_kind is_noted_got t) x c.up c.commands) a.acked
-    ∙ ap (λ x. told_line n (count_of_kind is_noted_sent t) (count_of_kind is_noted_got t) (count_of_kind is_noted_acked t) x c.commands) a.up
-    ∙ ap (told_line n (count_of_kind is_noted_sent t) (count_of_kind is_noted_got t) (count_of_kind is_noted_acked t) (count_of_kind is_noted_up t)) a.commands
+told_as_counted n c t a = grind arith
 
 -- ## The lines that were run
 
@@ -242,17 +207,7 @@ all_run g i items all run =
     subst P (take_all i items all) run.counts
 
 pub drawn_header_is : IsNodeHeader the_header
-drawn_header_is = record {
-  nodes = refl;
-  some = omega arith;
-  hosts = All-from_recursion IsHost (1 ∷ 2 ∷ 3 ∷ []) ((omega arith, omega arith), ((omega arith, omega arith), ((omega arith, omega arith), tt)));
-  rising = rise;
-}
-  where
-    rise : IsStrictlyIncreasing (1 ∷ 2 ∷ 3 ∷ [])
-    rise zero within = omega arith
-    rise (suc zero) within = omega arith
-    rise (suc (suc k)) within = absurd (omega arith)
+drawn_header_is = grind arith
 
 -- a line that tells these counts is the summary of a legal history
 pub counts_are_summary : (n : ℕ) (c : Counts) (text : List ℕ) → AreCountsOf c (nodes_told (nodes_history the_header (drawn_lines n)))

@@ -81,5 +81,4 @@ tests_empty [] b is holds = refl
 tests_empty (x ∷ xs) b is holds = absurd (let e : eqb (length (x ∷ xs)) 0 ≡ false = grind (arith, common_steps) in cc)
 
 pub tests_some : {X : Type 0} (xs : List X) (b : Bool) → b ≡ eqb (length xs) 0 → b ≡ false → 0 < length xs
-tests_some [] b is fails = absurd (let e : eqb 0 0 ≡ true = refl in cc)
-tests_some (x ∷ xs) b is fails = omega arith
+tests_some xs b is fails = grind arith

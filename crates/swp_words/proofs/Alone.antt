@@ -1,26 +1,22 @@
 -- How a run of one node ended.
-use Rattle.std.proofs.Common.{◌≡◌, ℕ, ◌+◌, ◌-◌, ◌<◌, ◌≤◌, arith, Bool, true, false, cond, IsTrue, List, [], ◌∷◌, ◌++◌, length, take, drop}
-use Rattle.std.proofs.Common.{get_or, refl, sym, ap, subst}
-use Rattle.std.proofs.Common.{◌∙◌, inl, inr, append_assoc, append-nil, length-append}
+use Rattle.std.proofs.Common.{◌≡◌, ℕ, ◌+◌, ◌-◌, ◌<◌, ◌≤◌, arith, Bool, true, false, cond, IsTrue, List, [], ◌∷◌, ◌++◌, length, take, drop, get_or, refl}
+use Rattle.std.proofs.Common.{sym, ap, subst, ◌∙◌, inl, inr, append_assoc, append-nil, length-append}
 use Rattle.std.specs.Prelude.{None}
 use Rattle.std.proofs.lemmas.List.{take-append-drop, length-take-le, length-drop}
 use Rattle.nv_journal.specs.declared.JournalFault.TheVariants as image
 use Rattle.lone_laws.specs.alone.Ends.{EndForm}
 use Rattle.one_end.specs.declared.one_end.OneEnd.{OneEnd}
-use Rattle.one_end.specs.Standing.{BootFault, HasRun, IsBootRefused, IsRunOfBytes, Journal, NoMemory}
+use Rattle.one_end.specs.Standing.{BootFault, HasRun, IsBootRefused, IsRunOfBytes, NoMemory}
 use Rattle.one_end.specs.Writing.{form_named}
 use Rattle.one_end.proofs.Running.{is_run_of}
 use Rattle.swp_words.specs.declared.status.Status.{Status}
 use Rattle.swp_words.specs.declared.status.Status.TheVariants as status
-use Rattle.swp_words.specs.Ends.{Began, IsEndBegun, HasHeardAlone, HasGoneOut, IsWaitingAlone, IsCutAlone, IsWrittenBefore, IsBrokenAlone}
-use Rattle.swp_words.specs.Ends.{IsStoppedAlone, IsTooLongAlone}
-use Rattle.swp_words.specs.Ends.{IsHearing, EndedAlone, HasRunAlone, IsRunBefore}
-use Rattle.swp_words.specs.Ends.{IsRunBrokenOff, IsRunStopped, IsRunCutOff, RanSo, EndedSo, HasNextGeneration}
-use Rattle.swp_words.specs.Ends.{status_of_boot, IsOfLone, IsOfEndWord}
+use Rattle.swp_words.specs.Ends.{Began, IsEndBegun, HasHeardAlone, HasGoneOut, IsWaitingAlone, IsCutAlone, IsWrittenBefore, IsBrokenAlone, IsStoppedAlone}
+use Rattle.swp_words.specs.Ends.{IsTooLongAlone, IsHearing, EndedAlone, HasRunAlone, IsRunBefore, IsRunBrokenOff, IsRunStopped, IsRunCutOff, RanSo, EndedSo}
+use Rattle.swp_words.specs.Ends.{HasNextGeneration, status_of_boot, IsOfLone, IsOfEndWord}
 use Rattle.swp_words.specs.Records.{most_bytes}
 use Rattle.std.proofs.Math.Seq.{take-add}
-use Rattle.swp_words.proofs.Taken.{whole_after, whole_piece, left_of}
-use Rattle.swp_words.proofs.Taken.{front_of_both}
+use Rattle.swp_words.proofs.Taken.{whole_after, whole_piece, left_of, front_of_both}
 use Rattle.hci_store.specs.Image.{image_fault}
 use Rattle.swp_base.specs.Outside.{Rose}
 use Rattle.hci_store.specs.Starting.{ready_writes, HasWritten}
@@ -151,12 +147,7 @@ module _ {N : Type 0} (writes : N → ℕ → List ℕ → Bool → N → Type 0
   pub begins_hearing : (count : ℕ) (input was after items : List ℕ) → count ≡ 0
       → HasRun writes o.content o.first e false [] items → (IsTrue tells → after ≡ was ++ items)
       → IsHearing writes tells o e count input input was after
-  begins_hearing count input was after items none h is = record {
-    bytes = [];
-    input_is = refl;
-    counted = none;
-    heard = begun_heard false was after items h is;
-  }
+  begins_hearing count input was after items none h is = grind arith
 
 -- ## While bytes come
 
@@ -285,33 +276,12 @@ module _ {N : Type 0} (writes : N → ℕ → List ℕ → Bool → N → Type 0
         heard = h;
       }
 
--- the faults of a start beside that of the memory
-pub unknown_is_other : (version : ℕ) → image.UnknownFormat version ≡ image.NvFault → ⊥
-unknown_is_other version is = cc
-
-pub record_is_other : (at : ℕ) → image.BadRecord at ≡ image.NvFault → ⊥
-record_is_other at is = cc
-
-pub spent_is_other : image.GenerationsSpent ≡ image.NvFault → ⊥
-spent_is_other is = cc
-
 -- a boot that was refused
 pub refused_ended : {N : Type 0} (reads : N → Bool → N → Type 0) (writes : N → ℕ → List ℕ → Bool → N → Type 0) (faults : N → ℕ) (nv_tells : Bool)
     (content : N → List ℕ) (tells : Bool) (given : ℕ) (form : EndForm) (is_clf : Bool) (old new : N) (fault : BootFault) (input before : List ℕ)
     → IsTrue nv_tells → IsBootRefused reads writes faults nv_tells content old new fault
     → EndedSo reads writes content tells given form is_clf old new (status_of_boot fault) input input before before
-refused_ended reads writes faults nv_tells content tells given form is_clf old new NoMemory input before told k = (k, (refl, λ t. refl))
-refused_ended reads writes faults nv_tells content tells given form is_clf old new (Journal image.NvFault) input before told k =
-    inl (record { nothing = (refl, λ t. refl); where_cut = k.torn told refl; same = k.left told })
-refused_ended reads writes faults nv_tells content tells given form is_clf old new (Journal (image.UnknownFormat version)) input before told k =
-    let only = k.unwritten (unknown_is_other version) in
-    record { nothing = (refl, λ t. refl); why = inl (k.image told tt); read = only.read; same = only.kept told }
-refused_ended reads writes faults nv_tells content tells given form is_clf old new (Journal (image.BadRecord at)) input before told k =
-    let only = k.unwritten (record_is_other at) in
-    record { nothing = (refl, λ t. refl); why = inl (k.image told tt); read = only.read; same = only.kept told }
-refused_ended reads writes faults nv_tells content tells given form is_clf old new (Journal image.GenerationsSpent) input before told k =
-    let only = k.unwritten spent_is_other in
-    record { nothing = (refl, λ t. refl); why = inr (refl, k.spent told refl); read = only.read; same = only.kept told }
+refused_ended reads writes faults nv_tells content tells given form is_clf old new fault input before told k = grind arith
 
 -- ## A run behind a boot
 
@@ -321,43 +291,15 @@ pub booted_ended : {N : Type 0} (reads : N → Bool → N → Type 0) (writes : 
     → HasNextGeneration (content old) → HasWritten reads writes content (ready_writes (content old)) old true first
     → RanSo writes tells given form is_clf (content old) first new s input left before after
     → EndedSo reads writes content tells given form is_clf old new s input left before after
-booted_ended reads writes content tells given form is_clf old first new status.Done input left before after kind sound next made ran =
-    record { first = first; sound = sound; next = next; booted = made; ran = ran }
-booted_ended reads writes content tells given form is_clf old first new status.ReadFault input left before after kind sound next made ran =
-    record { first = first; sound = sound; next = next; booted = made; ran = ran }
-booted_ended reads writes content tells given form is_clf old first new status.WriteFault input left before after kind sound next made ran =
-    record { first = first; sound = sound; next = next; booted = made; ran = ran }
-booted_ended reads writes content tells given form is_clf old first new status.NvFault input left before after kind sound next made ran =
-    inr (record { first = first; sound = sound; next = next; booted = made; ran = ran })
-booted_ended reads writes content tells given form is_clf old first new (status.TooMany n) input left before after kind sound next made ran =
-    record { first = first; sound = sound; next = next; booted = made; ran = ran }
-booted_ended reads writes content tells given form is_clf old first new status.BadWords input left before after kind sound next made ran = absurd kind
-booted_ended reads writes content tells given form is_clf old first new (status.BadSchedule line why) input left before after kind sound next made ran =
-    absurd kind
-booted_ended reads writes content tells given form is_clf old first new (status.Undetected line) input left before after kind sound next made ran = absurd kind
-booted_ended reads writes content tells given form is_clf old first new status.NoMemory input left before after kind sound next made ran = absurd kind
-booted_ended reads writes content tells given form is_clf old first new (status.BadImage why) input left before after kind sound next made ran = absurd kind
+booted_ended reads writes content tells given form is_clf old first new s input left before after kind sound next made ran = grind arith
 
 -- ## How it can end
 
 pub lone_kind : (s : Status) → IsOfLone s → IsOfEndWord s
-lone_kind status.Done k = tt
-lone_kind status.ReadFault k = tt
-lone_kind status.WriteFault k = tt
-lone_kind status.NvFault k = tt
-lone_kind (status.TooMany n) k = k
-lone_kind status.BadWords k = absurd k
-lone_kind (status.BadSchedule line why) k = absurd k
-lone_kind (status.Undetected line) k = absurd k
-lone_kind status.NoMemory k = absurd k
-lone_kind (status.BadImage why) k = absurd k
+lone_kind s k = grind arith
 
 kind_of_boot : (fault : BootFault) → IsOfEndWord (status_of_boot fault)
-kind_of_boot NoMemory = tt
-kind_of_boot (Journal image.NvFault) = tt
-kind_of_boot (Journal (image.UnknownFormat version)) = tt
-kind_of_boot (Journal (image.BadRecord at)) = tt
-kind_of_boot (Journal image.GenerationsSpent) = tt
+kind_of_boot fault = grind arith
 
 pub boot_kind : (fault : BootFault) (s : Status) → s ≡ status_of_boot fault → IsOfEndWord s
 boot_kind fault s is = subst IsOfEndWord (sym is) (kind_of_boot fault)
@@ -366,8 +308,4 @@ boot_kind fault s is = subst IsOfEndWord (sym is) (kind_of_boot fault)
 pub refused_rose : {N : Type 0} (reads : N → Bool → N → Type 0) (writes : N → ℕ → List ℕ → Bool → N → Type 0) (faults : N → ℕ) (nv_tells : Bool)
     (content : N → List ℕ) (old new : N) (fault : BootFault) (s : Status) → IsBootRefused reads writes faults nv_tells content old new fault
     → s ≡ status_of_boot fault → s ≡ status.NvFault → Rose (faults old) (faults new)
-refused_rose reads writes faults nv_tells content old new NoMemory s k is nv = absurd (cc)
-refused_rose reads writes faults nv_tells content old new (Journal image.NvFault) s k is nv = k.rose refl
-refused_rose reads writes faults nv_tells content old new (Journal (image.UnknownFormat version)) s k is nv = absurd (cc)
-refused_rose reads writes faults nv_tells content old new (Journal (image.BadRecord at)) s k is nv = absurd (cc)
-refused_rose reads writes faults nv_tells content old new (Journal image.GenerationsSpent) s k is nv = absurd (cc)
+refused_rose reads writes faults nv_tells content old new fault s k is nv = grind arith

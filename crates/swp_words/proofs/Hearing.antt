@@ -68,8 +68,7 @@ pub front_of_frames : {tells : Bool} {least : ℕ} {before after : List ℕ} (ba
     → (frames ++ more) ++ rest ≡ all → IsFront tells least (report_lines bare all) before after
 front_of_frames {tells} {least} {before} {after} bare frames more rest all front enough is =
     let sum = length-append (report_lines bare frames) (flat_map report_line (further_reports bare frames more)) in
-    let longer : least ≤ length (report_lines bare (frames ++ more)) =
-    omega (arith, enough, ap length (further_lines bare frames more), sum) in
+    let longer : least ≤ length (report_lines bare (frames ++ more)) = omega (arith, enough, ap length (further_lines bare frames more), sum) in
     subst (λ l. IsFront tells least (report_lines bare l) before after) is (front_of_more bare (frames ++ more) rest front longer)
 
 -- ## A tap
@@ -77,8 +76,7 @@ front_of_frames {tells} {least} {before} {after} bare frames more rest all front
 -- what was heard and what was written are told of the same frames, said otherwise
 pub heard_as : {bare tells : Bool} {tap : TapValue} {gathered : List ℕ} {least : ℕ} {frames others : List (Bool × List ℕ)} {before after : List ℕ}
     → frames ≡ others → HasHeard bare tells tap gathered least frames before after → HasHeard bare tells tap gathered least others before after
-heard_as {bare} {tells} {tap} {gathered} {least} {frames} {others} {before} {after} is h =
-    subst (λ l. HasHeard bare tells tap gathered least l before after) is h
+heard_as is h = grind arith
 
 pub front_as : {tells : Bool} {least : ℕ} {before after : List ℕ} (bare : Bool) (frames others : List (Bool × List ℕ)) → frames ≡ others
     → IsFront tells least (report_lines bare frames) before after → IsFront tells least (report_lines bare others) before after

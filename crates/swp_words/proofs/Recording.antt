@@ -1,7 +1,6 @@
 -- What a command that reads a line record has written and gathered.
-use Rattle.std.proofs.Common.{◌≡◌, ℕ, ◌+◌, ◌≤◌, arith, Bool, true, false, IsTrue, List, [], ◌∷◌, ◌++◌, length, take, min, refl, sym, ap, ◌∙◌, append_assoc}
-use Rattle.std.proofs.Common.{subst, inl}
-use Rattle.std.specs.Prelude.{reverse, nat_lt, if◌then◌else◌, Result, Ok, Err, OnErr, OnOk}
+use Rattle.std.proofs.Common.{◌≡◌, ℕ, ◌+◌, ◌≤◌, arith, Bool, IsTrue, List, [], ◌∷◌, ◌++◌, length, take, min, refl, sym, ap, ◌∙◌, append_assoc, subst}
+use Rattle.std.specs.Prelude.{reverse, Result, OnErr, OnOk}
 use Rattle.std.proofs.lemmas.List.{append-nil, reverse-append, length-reverse, length-append, take-append-le, take_min}
 use Rattle.std.proofs.Math.Seq.{take-append-add}
 use Rattle.swp_decode.specs.Decoded.{record_lines, last_line, line_at, lines_with, transcript}
@@ -11,8 +10,7 @@ use Rattle.swp_decode.specs.declared.line.Wire.TheVariants.{S1, S2}
 use Rattle.swp_decode.specs.Kept.{DecoderStandsFor}
 use Rattle.swp_words.specs.declared.status.Status.{Status}
 use Rattle.swp_words.specs.declared.status.Status.TheVariants as status
-use Rattle.swp_words.specs.Records.{most_bytes, piece_of, whole_record, IsGathered, IsFront}
-use Rattle.swp_words.specs.Records.{EndedIn, RecordedBy, HasRecorded}
+use Rattle.swp_words.specs.Records.{piece_of, whole_record, IsGathered, IsFront, EndedIn, RecordedBy, HasRecorded}
 use Rattle.swp_words.specs.Decodings.{IsDecoding}
 use Rattle.swp_words.proofs.Taken.{behind}
 
@@ -79,17 +77,14 @@ none_gathered {before} h none told =
 
 -- what holds, holds of an error, and of what is none
 pub on_err : {T E : Type 0} (P : Type 0) (r : Result T E) → P → OnErr r P
-on_err P (Ok x) h = tt
-on_err P (Err e) h = h
+on_err P r h = grind arith
 
 -- where one thing follows from another, it does so of an error and of what is none
 pub map_err : {T E : Type 0} (P Q : Type 0) (r : Result T E) → (P → Q) → OnErr r P → OnErr r Q
-map_err P Q (Ok x) f h = h
-map_err P Q (Err e) f h = f h
+map_err P Q r f h = grind arith
 
 pub map_ok : {T E : Type 0} (P Q : Type 0) (r : Result T E) → (P → Q) → OnOk r P → OnOk r Q
-map_ok P Q (Ok x) f h = f h
-map_ok P Q (Err e) f h = h
+map_ok P Q r f h = grind arith
 
 -- ## Records
 
@@ -99,10 +94,7 @@ newest bytes byte = reverse-append bytes (byte ∷ [])
 
 -- no more than 8,192 bytes are read at once
 pub piece_fits : (count len : ℕ) → len ≤ piece_of count → len ≤ 8192
-piece_fits count len h = by_room (nat_lt most_bytes (count + 8192)) h where
-  by_room : (room : Bool) → len ≤ (if room then 4096 else 8192) → len ≤ 8192
-  by_room true few = omega (arith, few)
-  by_room false few = few
+piece_fits count len h = grind arith
 
 -- how reading a piece ended, said of the whole: the piece comes behind earlier bytes, and before what is left
 pub ended_in : (lines : List ℕ → List ℕ) (tells : Bool) (given : ℕ) (why : Status) (earlier : List ℕ) {input : List ℕ} (piece left before after : List ℕ)
@@ -110,8 +102,7 @@ pub ended_in : (lines : List ℕ → List ℕ) (tells : Bool) (given : ℕ) (why
     → EndedIn lines tells why earlier (earlier ++ piece) before after → RecordedBy lines tells given why input left before after
 ended_in lines tells given (status.TooMany count) earlier piece left before after is few at_once h =
     (h.0, record { read = earlier ++ piece; input_is = is ∙ sym (append_assoc earlier piece left); too_many = h.1 })
-ended_in lines tells given status.WriteFault earlier piece left before after is few at_once h =
-    record { earlier = earlier; piece = piece; input_is = is; few = few; at_once = at_once; front = inl h }
+ended_in lines tells given status.WriteFault earlier piece left before after is few at_once h = grind arith
 ended_in lines tells given status.Done earlier piece left before after is few at_once h = absurd h
 ended_in lines tells given status.ReadFault earlier piece left before after is few at_once h = absurd h
 ended_in lines tells given status.NoMemory earlier piece left before after is few at_once h = absurd h

@@ -1,14 +1,11 @@
 -- What is written of a record, where it is known which messages a tap tells of its frames.
-use Rattle.std.proofs.Common.{◌≡◌, Bool, ◌++◌, List, ℕ, length, ap, ◌∙◌}
-use Rattle.std.specs.List.{flat_map}
-use Rattle.swp_decode.specs.Decoded.{last_line}
+use Rattle.std.proofs.Common.{◌≡◌, Bool, List, ℕ, length, arith}
 use Rattle.swp_decode.specs.Frames.{record_frames}
 use Rattle.tap_reading.specs.Tap.{TapReport}
 use Rattle.tap_reading.specs.Lpdus.{tapped_lpdus}
 use Rattle.swp_words.specs.Records.{whole_record}
-use Rattle.swp_words.specs.Taps.{gots_written, report_line, tap_lines}
+use Rattle.swp_words.specs.Taps.{gots_written, tap_lines}
 
 pub known_reports : (bare : Bool) (input : List ℕ) (frames : List (Bool × List ℕ)) (gots : List TapReport) → record_frames input ≡ frames
     → tapped_lpdus bare frames ≡ gots → whole_record (tap_lines bare) input ≡ gots_written gots (length input)
-known_reports bare input frames gots are told =
-    ap (λ (rs : List TapReport). flat_map report_line rs ++ last_line (length input)) (ap (tapped_lpdus bare) are ∙ told)
+known_reports bare input frames gots are told = grind arith

@@ -13,7 +13,7 @@ use Rattle.shdlc_core.proofs.Histories.{fragment_due-within}
 use Rattle.link_laws.proofs.places.Joined.{fetched_idle, left}
 use Rattle.link_laws.specs.machine.Machine.{LinkEnd as Machine, ActDue, among, next_frame, frame_fetched, nearer, frames_out, sent_all}
 use Rattle.link_laws.specs.machine.Laws.{fetches, after_fetches, most_fetches}
-use Rattle.node_machine.specs.Parts.{Core, Port}
+use Rattle.node_machine.specs.Parts.{Core, Port, Work}
 use Rattle.node_machine.specs.Carrying.{port_at, with_port}
 use Rattle.node_ends.specs.declared.seat.Seat.{Seat}
 use Rattle.block_pool.specs.Pool.{PoolState}
@@ -25,7 +25,6 @@ use Rattle.node_core.specs.Bringing.{Brings, WereMade}
 use Rattle.trace_model.specs.declared.entry.Entry.{Entry}
 use Rattle.swp_base.specs.declared.link_terms.Role.{Role as Named}
 use Rattle.swp_base.specs.declared.link_terms.Role.TheVariants.{Clf, Uicc, Bare}
-use Rattle.node_machine.specs.Parts.{Work}
 use Rattle.node_ends.specs.Making.{new_port}
 use Rattle.node_core.specs.Running.{RunsAs, MayStep, IsAllSent, BeginsStep, HasStepped, SendsOneByOne, between, ran_so}
 use Rattle.node_core.specs.declared.running.Ran.TheVariants.{Done}

@@ -243,42 +243,14 @@ new_stands law w header is header_is here there none first second =
 
 -- a line that a bare world plays is one that its header allows
 pub played_line : (header : Header) (line : Line) → IsLineOf header line → IsPlayedLine header line
-played_line header (Send e pid message) is = record { may_follow = is; settles_not = refl }
-played_line header (Deliver e count) is = record { may_follow = is; settles_not = refl }
-played_line header (Lose e) is = record { may_follow = is; settles_not = refl }
-played_line header (Damage e places) is = record { may_follow = is; settles_not = refl }
-played_line header (Tick times) is = record { may_follow = is; settles_not = refl }
-played_line header (Reset e window) is = record { may_follow = is; settles_not = refl }
-played_line header (Busy e) is = record { may_follow = is; settles_not = refl }
-played_line header (Ready e) is = record { may_follow = is; settles_not = refl }
-played_line header (Boot node) is = absurd is
-played_line header (Cut node) is = absurd is
-played_line header (Activate host sync power) is = absurd is
-played_line header (Arm node nth fill) is = absurd is
-played_line header (Init e identity pipes) is = absurd is
-played_line header (Tables node) is = absurd is
-played_line header (Settle rounds) is = absurd is
+played_line header line is = grind arith
 
 -- no line of nodes is
 never : {X : Type 0} (b : Bool) → b ≡ false → IsTrue b → X
 never b is so = absurd (true≢false (sym so ∙ is))
 
 pub bare_line : (header : Header) (line : Line) → header.hci ≡ false → IsPlayedLine header line → IsLineOf header line
-bare_line header (Send e pid message) off is = is.may_follow
-bare_line header (Deliver e count) off is = is.may_follow
-bare_line header (Lose e) off is = is.may_follow
-bare_line header (Damage e places) off is = is.may_follow
-bare_line header (Tick times) off is = is.may_follow
-bare_line header (Reset e window) off is = is.may_follow
-bare_line header (Busy e) off is = is.may_follow
-bare_line header (Ready e) off is = is.may_follow
-bare_line header (Boot node) off is = never header.hci off is.may_follow.0
-bare_line header (Cut node) off is = never header.hci off is.may_follow.0
-bare_line header (Activate host sync power) off is = never header.hci off is.may_follow.0
-bare_line header (Arm node nth fill) off is = never header.hci off is.may_follow.0
-bare_line header (Init e identity pipes) off is = never header.hci off is.may_follow.0
-bare_line header (Tables node) off is = never header.hci off is.may_follow.0
-bare_line header (Settle rounds) off is = absurd (cc is.settles_not)
+bare_line header line off is = grind arith
 
 bare_lines : (header : Header) (lines : List Line) → header.hci ≡ false → AllByRecursion (IsPlayedLine header) lines
     → AllByRecursion (IsLineOf header) lines
@@ -377,10 +349,7 @@ step_stands {now} {header} {plays} {t} {line} law s link =
 on_link : {near far : Side} {resets : ℕ} {at : End} {line : Line} {now : List Entry} (h : ℕ) (l : Link) → at.link ≡ h
     → Does near far resets at l line now
     → SidesStandFor near far resets at (link_after_line l (outcome_of h l line)) × (now ≡ noted (outcome_of h l line))
-on_link {near} {far} {resets} {at} {line} {now} h l q does =
-    let P : ℕ → Type 0 = λ x.
-    SidesStandFor near far resets at (link_after_line l (outcome_of x l line)) × (now ≡ noted (outcome_of x l line)) in
-    subst P q (does.stands, does.noted_are)
+on_link h l q does = grind arith
 
 at_link : (header : Header) (line : Line) (at : End) → IsHeader header → IsLineOf header line → at ≡ end_for (controller_of header) line
     → at.link ≡ host_of header
@@ -402,11 +371,7 @@ controller_grows {header} {t} {line} {at} law s seen q does =
 
 -- the ends of a world were given few messages
 pub few_sent : {w : BareWorld} {header : Header} {plays : List Play} {t : History} → WorldStandsFor w header plays t → HaveSent (link_at t) 320000
-few_sent h =
-    let a = h.sent.here in
-    let b = h.sent.there in
-    let few = h.few.said in
-    record { here = omega (arith, a, few); there = omega (arith, b, few) }
+few_sent h = grind arith
 
 -- behind whichever plays a world stands, they are as many
 pub few_said : {w : BareWorld} {plays : List Play} {t : History} → HasBareRoom w → WorldStandsFor w w.header plays t → lines_said plays < 320000
@@ -418,8 +383,7 @@ few_rounds room h = let n = h.rounds in let m = room.stands.rounds in let few = 
 
 -- no line is misread where none is told
 pub none_misread : (l : Link) (line : Line) (o : Option Misread) → o ≡ None → IsMisread l line o → misread l line ≡ None
-none_misread l line None q h = h
-none_misread l line (Some other) q h = absurd (let z : Some other ≡ None = q in cc)
+none_misread l line o q h = grind arith
 
 pub one_misread : (l : Link) (line : Line) (o : Option Misread) (other : Misread) → o ≡ Some other → IsMisread l line o
     → (misread l line ≡ Some other.read) × (damaged_by l line ≡ Some other.sent)
@@ -529,10 +493,7 @@ pub record IsLow (n m : ℕ) (l : Link) : Type 0 where
   pub sent : HaveSent l m
 
 lower : (n m k j : ℕ) (l : Link) → n ≤ k → m ≤ j → IsLow n m l → IsLow k j l
-lower n m k j l p q a =
-    let here = a.sent.here in
-    let there = a.sent.there in
-    record { resets = fewer n k l p a.resets; sent = record { here = omega (arith, here, q); there = omega (arith, there, q) } }
+lower n m k j l p q a = grind arith
 
 module _ (header : Header) (is : IsHeader header) where
   abbrev behind : List Line → List Play → Link
@@ -577,9 +538,6 @@ module _ (header : Header) (is : IsHeader header) where
   pub plays_low : (plays : List Play) → AllByRecursion (IsPlayFor header) plays
       → IsLow (most_rsets plays) (lines_said plays) (bare_link_behind header (lines_played header plays))
   plays_low plays may =
-      let first : IsLow 0 0 bare_link = record {
-        resets = record { made = omega arith; numbered = start_numbered bare_link IsBare };
-        sent = record { here = omega arith; there = omega arith };
-      } in
+      let first : IsLow 0 0 bare_link = grind arith in
       lower (0 + most_rsets plays) (0 + lines_said plays) (most_rsets plays) (lines_said plays) (bare_link_behind header (lines_played header plays))
       (omega arith) (omega arith) (low_behind plays [] 0 0 may first)

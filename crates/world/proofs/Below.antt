@@ -1,5 +1,5 @@
 -- The world below a bare header: what it stands for, what is told of a line there, and what can be asked of it.
-use Rattle.std.proofs.Common.{◌≡◌, ℕ, ◌+◌, ◌-◌, ◌<◌, false, List, [], ◌∷◌, ◌++◌, sym, ap, ◌∙◌, subst}
+use Rattle.std.proofs.Common.{◌≡◌, ℕ, ◌+◌, ◌-◌, ◌<◌, false, List, [], ◌∷◌, ◌++◌, sym, ap, ◌∙◌, subst, arith}
 use Rattle.std.specs.Prelude.{None, Result, OnOk, IfErr}
 use Rattle.std.proofs.lemmas.Result.{on_ok_weaker, IfErr-weaker}
 use Rattle.std.specs.List.{AllByRecursion}
@@ -15,12 +15,10 @@ use Rattle.lines_told.proofs.lines.Told.{bare_rests}
 use Rattle.world.specs.declared.fault.WorldFault.{WorldFault}
 use Rattle.world.specs.declared.fault.WorldFault.TheVariants as fault
 use Rattle.world.specs.declared.world_steps.Below.TheVariants.{Bare, Nodes}
-use Rattle.world.specs.Lines.{damaged_by}
 use Rattle.world.proofs.BareWorlds.{bare_line}
 use Rattle.history.specs.Follows.{with_step}
 use Rattle.world.specs.BareWorlds.{HasBareRoom, HasBareRoomToSettle, IsFaultOf, bare_entries, bare_header, with_steps}
 use Rattle.lines_told.specs.lines.Below.{frames_below}
-use Rattle.world.specs.Worlds.{damaged_below}
 
 -- ## On the link that lines leave
 
@@ -35,12 +33,8 @@ module _ (header : Header) (off : header.hci ≡ false) (before : List Line) (l 
     misread_there : misread_below header before said ≡ misread l said
     misread_there = rw off (ap (λ m. misread m said) (sym leads))
 
-    damaged_there : damaged_below header before said ≡ damaged_by l said
-    damaged_there = rw off (ap (λ m. damaged_by m said) (sym leads))
-
     fault_there : (why : WorldFault) → IsFaultOf l said why → IsFaultThere header before said why
-    fault_there (fault.Undetected sent read) is = (misread_there ∙ is.0, damaged_there ∙ is.1)
-    fault_there fault.NoMemory is = misread_there ∙ is
+    fault_there why is = grind arith
 
 -- ## What is told, and what can be asked
 
@@ -117,9 +111,7 @@ module _ (b : Below) (w : BareWorld) (is : b ≡ Bare w) (header : Header) (play
     pub bare_stands : ((ps : List Play) (t : History) → WorldStandsFor w (bare_header w) ps t
         → OnOk r (WorldStandsFor next (bare_header w) (ps ++ Said said ∷ []) (with_step t said)))
         → OnOk r (StandsBelow (Bare next) header (plays ++ Said said ∷ []))
-    bare_stands steps =
-        let P : Header → Type 0 = λ x. WorldStandsFor next x (plays ++ Said said ∷ []) (with_step history said) in
-        on_ok_weaker r (λ (s : P (bare_header w)). (with_step history said, subst P stood.header_is s)) (steps plays history own)
+    bare_stands steps = grind arith
 
     pub bare_tells : ((ps : List Play) (t : History) → WorldStandsFor w (bare_header w) ps t
         → OnOk r (bare_entries next ≡ noted (outcome_of (host_of (bare_header w)) (link_at t) said)))
@@ -142,11 +134,7 @@ module _ (b : Below) (w : BareWorld) (is : b ≡ Bare w) (header : Header) (play
     pub bare_told : ((ps : List Play) (t : History) → WorldStandsFor w (bare_header w) ps t
         → OnOk r (bare_entries next ≡ told_of_play (bare_header w) (lines_played (bare_header w) ps) Round))
         → OnOk r (bare_entries next ≡ told_of_play header (lines_played header plays) Round)
-    bare_told tells =
-        on_ok_weaker r
-        (λ (e : bare_entries next ≡ told_of_play (bare_header w) (lines_played (bare_header w) plays) Round).
-        e ∙ ap (λ x. told_of_play x (lines_played x plays) Round) stood.header_is)
-        (tells plays history own)
+    bare_told tells = grind arith
 
   module _ {T : Type 0} (said : Line) (r : Result T WorldFault) where
     pub bare_faults : ((ps : List Play) (t : History) → WorldStandsFor w (bare_header w) ps t → IfErr r (IsFaultOf (link_at t) said))

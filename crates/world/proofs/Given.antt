@@ -1,23 +1,14 @@
 -- How many messages the ends of a link were given in their sessions: no cause but a message given adds one.
-use Rattle.std.proofs.Common.{◌≡◌, ℕ, zero, suc, ◌+◌, ◌≤◌, Bool, true, false, cond, List, [], ◌∷◌, ◌++◌, length, replicate, refl, ap}
-use Rattle.std.proofs.Common.{length-append, arith}
+use Rattle.std.proofs.Common.{◌≡◌, ℕ, zero, suc, ◌+◌, ◌≤◌, Bool, true, false, List, [], ◌∷◌, length, replicate, refl, ap, length-append, arith}
 use Rattle.std.specs.Prelude.{Option, Some, None, is_some, not, unwrap_or}
-use Rattle.world.proofs.Words.{Asked, Caused, Control, End, EndEvent, EndState, FetchMessage, Give, Given, GoesOut, HaveSent, Hold, Line, Link, LinkEnd}
-use Rattle.world.proofs.Words.{LinkInput, LinkState, Message, NoCause, OnDemand, OnWire, Outcome, Readied, Take, Taken, Ticked, Waiting, WasLost, WasReset}
-use Rattle.world.proofs.Words.{after_input, aged, becomes, causes_in, damage_causes, ended_by, events_at, exchanged, first_verdict, frames_out, frames_to}
-use Rattle.world.proofs.Words.{give_refusal, happens, happens_at_controller, if_up, is_open, link_after, link_after_all, link_after_line, outcome_of}
-use Rattle.world.proofs.Words.{refusal, reset_by, reset_refusal, taken_of, tick_answer, ticked, ticks_at_controller, turn, window_of, with_ended}
-use Rattle.swp_base.specs.declared.control_frames.Control.TheVariants.{I, S, Rset, Ua, Act, Clt}
-use Rattle.swp_base.specs.declared.control_frames.Act.{Act as ActCode}
-use Rattle.swp_act.specs.declared.ActEvent.{ActEvent}
-use Rattle.swp_act.specs.declared.ActEvent.TheVariants.{Take as ActTake, Tick as ActTick}
-use Rattle.shdlc_core.specs.declared.answers.LinkState.TheVariants.{Down, Up}
-use Rattle.shdlc_core.specs.Machine.{taken, take_answer, reset_with}
+use Rattle.world.proofs.Words.{Caused, Control, End, EndEvent, FetchMessage, Give, Given, GoesOut, HaveSent, Hold, Line, Link, LinkEnd, LinkInput, Message}
+use Rattle.world.proofs.Words.{NoCause, OnDemand, OnWire, Outcome, Readied, Take, Taken, Ticked, WasLost, WasReset, after_input, aged, becomes, causes_in}
+use Rattle.world.proofs.Words.{damage_causes, ended_by, events_at, exchanged, first_verdict, frames_out, frames_to, give_refusal, happens}
+use Rattle.world.proofs.Words.{happens_at_controller, link_after, link_after_all, link_after_line, outcome_of, refusal, taken_of, ticks_at_controller, turn}
+use Rattle.world.proofs.Words.{with_ended}
 use Rattle.trace_model.specs.declared.line.Line.TheVariants as line
 use Rattle.link_laws.specs.sessions.Sessions.{took_with}
-use Rattle.link_laws.specs.machine.Machine.{Refused, turned, moved, put_down, activated, with_act, act_answer}
-use Rattle.link_laws.specs.machine.Machine.{role_after, heard, took, is_faulty, news}
-use Rattle.link_laws.specs.machine.Machine.{given, unless}
+use Rattle.link_laws.specs.machine.Machine.{Refused, turned, took, given, unless}
 use Rattle.link_laws.specs.machine.Machine.LinkInput.{Tick, Reset}
 use Rattle.link_laws.specs.messages.Links.{has_input, has_taken}
 use Rattle.link_laws.specs.messages.Links.Comes.{NextFrame, AsksReset, NoInput}
@@ -25,7 +16,6 @@ use Rattle.link_laws.specs.messages.Links.EndEvent.{Step, Lose}
 use Rattle.history.specs.Histories.{Cause}
 use Rattle.history.specs.Histories.Outcome.{Refused as LineRefused}
 use Rattle.history.specs.Damage.{Verdict}
-use Rattle.history.specs.Damage.Verdict.{Same, LostFor, Undetected}
 use Rattle.history.specs.Steps.{at}
 use Rattle.link_laws.proofs.messages.Project.{host_ended as ended_host}
 use Rattle.node_world.proofs.EndsGo.{all_far as all_host}
@@ -37,59 +27,17 @@ pub use Rattle.lines_told.proofs.lines.Told.{again as causes_of-events}
 abbrev AtMost : ℕ → LinkEnd → Type 0
 AtMost n e = length e.sent ≤ n
 
-few_cond : (n : ℕ) (b : Bool) (e f : LinkEnd) → AtMost n e → AtMost n f → AtMost n (cond b e f)
-few_cond n true e f p q = p
-few_cond n false e f p q = q
-
 few_unless : (n : ℕ) (o : Option Refused) (e f : LinkEnd) → AtMost n e → AtMost n f → AtMost n (unless o e f)
-few_unless n None e f p q = q
-few_unless n (Some why) e f p q = p
-
-few_moved : (n : ℕ) (e : LinkEnd) (b : Bool) (s : EndState) → AtMost n e → AtMost n (moved e b s)
-few_moved n e false s h = h
-few_moved n e true s h = omega arith
-
-few_down : (n : ℕ) (b : Bool) (e : LinkEnd) → AtMost n e → AtMost n (put_down b e)
-few_down n false e h = h
-few_down n true e h = by e.shdlc.phase refl
-  where
-    by : (p : LinkState) → e.shdlc.phase ≡ p → AtMost n (put_down true e)
-    by Up p = rw p (omega arith)
-    by Waiting p = rw p (omega arith)
-    by Down p = rw p h
-
-few_act : (n : ℕ) (o : Option ActCode) (e : LinkEnd) → AtMost n e → AtMost n (with_act o e)
-few_act n None e h = h
-few_act n (Some act) e h = h
-
-few_activated : (n : ℕ) (e : LinkEnd) (event : ActEvent) → AtMost n e → AtMost n (activated e event)
-few_activated n e event h =
-    few_act n (act_answer e.role event).send (record (put_down (act_answer e.role event).ended_link e) { role = role_after e.role event })
-    (few_down n (act_answer e.role event).ended_link e h)
-
-few_heard : (n : ℕ) (e : LinkEnd) (c : Control) → AtMost n e → AtMost n (heard e c)
-few_heard n e c h =
-    let f : LinkEnd = moved e (is_some (take_answer e.shdlc c).ended) (taken e.shdlc c) in
-    few_cond n (is_faulty (taken e.shdlc c).session) (put_down true e) (record f { got = e.got ++ news e.shdlc.session (taken e.shdlc c) })
-    (few_down n true e h) (few_moved n e (is_some (take_answer e.shdlc c).ended) (taken e.shdlc c) h)
+few_unless n o e f p q = grind arith
 
 few_took : (n : ℕ) (e : LinkEnd) (c : Control) → AtMost n e → AtMost n (took e c)
-few_took n e (I ns nr info) h = few_cond n (is_open e.role) (heard e (I ns nr info)) e (few_heard n e (I ns nr info) h) h
-few_took n e (S kind nr) h = few_cond n (is_open e.role) (heard e (S kind nr)) e (few_heard n e (S kind nr) h) h
-few_took n e (Rset window caps) h = few_cond n (is_open e.role) (heard e (Rset window caps)) e (few_heard n e (Rset window caps) h) h
-few_took n e Ua h = few_cond n (is_open e.role) (heard e Ua) e (few_heard n e Ua h) h
-few_took n e (Act act again) h = few_activated n e (ActTake act again) h
-few_took n e Clt h = h
+few_took n e c h = grind arith
 
 few_ticked : (n : ℕ) (e : LinkEnd) → AtMost n e → AtMost n (after_input e Tick)
-few_ticked n e h =
-    few_cond n (is_open e.role) (moved e (is_some (tick_answer e.shdlc).ended) (ticked e.shdlc)) (activated e ActTick)
-    (few_moved n e (is_some (tick_answer e.shdlc).ended) (ticked e.shdlc) h) (few_activated n e ActTick h)
+few_ticked n e h = grind arith
 
 few_reset : (n : ℕ) (e : LinkEnd) (window : Option ℕ) → AtMost n e → AtMost n (after_input e (Reset window))
-few_reset n e window h =
-    few_unless n (reset_refusal e) e (reset_by e (window_of e window)) h
-    (few_moved n e (is_some (if_up e.shdlc Asked)) (reset_with e.shdlc (window_of e window)) h)
+few_reset n e window h = grind arith
 
 few_given : (n : ℕ) (e : LinkEnd) (m : Message) → AtMost n e → AtMost (n + 1) (turn e (Give m))
 few_given n e m h =
@@ -153,11 +101,7 @@ sent_given n x l h =
 -- it happens at either end
 sent_at : (n k : ℕ) (l : Link) (e : End) (x : EndEvent) → ((m : Link) → HaveSent m n → HaveSent (happens_at_controller m x) k) → HaveSent l n
     → HaveSent (happens l (at e x)) k
-sent_at n k l e x here h = go e.at_host
-  where
-    go : (b : Bool) → HaveSent (happens l (at (record { link = e.link; at_host = b }) x)) k
-    go true = swapped k (happens_at_controller (exchanged l) x) (here (exchanged l) (swapped n l h))
-    go false = here l h
+sent_at n k l e x here h = grind arith
 
 -- ## Causes
 
@@ -203,10 +147,7 @@ weaker : (n : ℕ) (l : Link) → HaveSent l n → HaveSent l (n + 1)
 weaker n l h = let a = h.here in let b = h.there in record { here = omega (arith, a); there = omega (arith, b) }
 
 none_damaged : (e : End) (v : Option Verdict) → AllGiveNone (damage_causes e v)
-none_damaged e None = tt
-none_damaged e (Some Same) = (tt, tt)
-none_damaged e (Some (LostFor why)) = (tt, tt)
-none_damaged e (Some (Undetected read)) = tt
+none_damaged e v = grind arith
 
 -- a line gives at most one message
 sent_caused : (n : ℕ) (l : Link) (line : Line) → HaveSent l n → HaveSent (link_after_all l (causes_in l line)) (n + 1)

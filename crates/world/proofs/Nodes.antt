@@ -1,14 +1,13 @@
 -- The node of a bare end, from input to input.
-use Rattle.std.proofs.Common.{◌≡◌, ℕ, ◌-◌, ◌<◌, ◌^◌, List, [], ◌∷◌, ◌++◌, length, drop, map, refl, ap, sym, subst, ◌∙◌, append_assoc, arith}
+use Rattle.std.proofs.Common.{◌≡◌, ℕ, ◌<◌, ◌^◌, List, [], ◌∷◌, ◌++◌, length, drop, map, refl, ap, sym, subst, ◌∙◌, append_assoc, arith}
 use Rattle.std.proofs.lemmas.List.{append-nil}
-use Rattle.std.specs.Prelude.{Bool, true, false, is_some, ◌==◌, Option, Some, None, option_map, Result, Ok, Err}
-use Rattle.link_laws.specs.machine.Machine.{after_inputs}
-use Rattle.world.proofs.Words.{AreNoted, Asked, Control, End, Entry, Fetch, FetchMessage, Give, Hold, LinkEnd, LinkInput, LinkState, Message, Node}
-use Rattle.world.proofs.Words.{NodeStandsFor, Place, Take, Waiting, after_input, control_of, end_is, entries_for, fetched, give_refusal, if_up, is_open}
-use Rattle.world.proofs.Words.{new_link_end, report, reset_by, reset_refusal, side_of, tick_answer, ticked, told, turn, whole_acked, window_of}
+use Rattle.std.specs.Prelude.{Bool, Option, Some, None, option_map, Ok, Err}
+use Rattle.link_laws.specs.machine.Machine.{after_inputs, Refused, oldest, brought, lpdu_input, frame_fetched, whole_among}
+use Rattle.world.proofs.Words.{AreNoted, Asked, Control, End, Entry, Fetch, FetchMessage, Give, Hold, LinkEnd, LinkInput, Message, Node, NodeStandsFor, Place}
+use Rattle.world.proofs.Words.{Take, after_input, control_of, end_is, entries_for, fetched, give_refusal, if_up, new_link_end, report, reset_refusal, side_of}
+use Rattle.world.proofs.Words.{told, turn, whole_acked}
 use Rattle.link_laws.specs.machine.Machine.Role.{Bare}
-use Rattle.link_laws.specs.machine.Machine.LinkInput.{TakeUnknown, TakeBroken, Tick, Reset, Start, Stop, FromNode}
-use Rattle.link_laws.specs.machine.Machine.Turn.{SetAside, Release}
+use Rattle.link_laws.specs.machine.Machine.LinkInput.{Tick, Reset, FromNode}
 use Rattle.link_laws.specs.machine.Laws.{AreSendableInputs}
 use Rattle.link_laws.proofs.machine.Runs.{Sound, sound, parted}
 use Rattle.trace_model.specs.declared.entry.Entry.TheVariants as entry
@@ -17,22 +16,18 @@ use Rattle.block_pool.specs.Pool.{PoolState, IsLive, chain_bytes, Gives, KeepsOt
 use Rattle.hcp_chain.specs.Holding.{messages_in as messages_of}
 use Rattle.link_messages.specs.Incoming.{got_chains}
 use Rattle.link_end.specs.declared.«end».End.{End as Kept}
-use Rattle.swp_act.specs.declared.ActEvent.TheVariants.{Tick as ActTick}
-use Rattle.shdlc_core.specs.declared.answers.LinkState.TheVariants.{Down, Up}
-use Rattle.link_laws.specs.machine.Machine.{ActDue, Refused, oldest, brought, lpdu_input, frame_fetched, whole_among}
 use Rattle.hcp_packet.specs.Packets.{IsSendable, packet_count}
 use Rattle.link_laws.proofs.machine.Sound.{whole_given}
-use Rattle.link_laws.proofs.machine.Reports.{Reports, activated_got, moved_got, took_got}
+use Rattle.link_laws.proofs.machine.Reports.{Reports, took_got}
 use Rattle.link_end.specs.declared.report.ResetRefused.{ResetRefused}
 use Rattle.link_end.specs.declared.report.LinkReport.{LinkReport}
 use Rattle.link_end.specs.Ends.{EndStandsFor, Accounts, EndLeavesOthers}
-use Rattle.link_end.specs.Reports.{report_told as told_of, nothing_told, reset_told, reset_refused}
+use Rattle.link_end.specs.Reports.{report_told as told_of, nothing_told, reset_told}
 use Rattle.link_end.proofs.AccountLemmas.{account_kept, account_moved, given_own}
 use Rattle.link_laws.specs.entries.Entries.Entry.{Got}
 use Rattle.world.specs.Noting.{acked_on, reported}
 use Rattle.world.specs.Nodes.{Reached, CanFetch, HasInput}
 use Rattle.world.proofs.Noting.{told_at, acked_told}
-use Rattle.link_laws.proofs.entries.Stepping.{one_fetched_acked}
 
 pub is_sound : (m : LinkEnd) → Reached m → Sound m
 is_sound m r = let P : LinkEnd → Type 0 = λ e. Sound e in subst P (sym r.is) (sound Bare r.inputs r.sendable)
@@ -42,19 +37,7 @@ after-append e [] js = refl
 after-append e (i ∷ is) js = after-append (after_input e i) is js
 
 joined : (i : LinkInput) (is : List LinkInput) → AreSendableInputs (i ∷ []) → AreSendableInputs is → AreSendableInputs (i ∷ is)
-joined (FromNode (Give m)) is a b = (a.0, b)
-joined (FromNode (Hold h)) is a b = b
-joined (FromNode FetchMessage) is a b = b
-joined (FromNode SetAside) is a b = b
-joined (FromNode Release) is a b = b
-joined (Take c) is a b = b
-joined TakeUnknown is a b = b
-joined (TakeBroken fault) is a b = b
-joined Tick is a b = b
-joined (Reset window) is a b = b
-joined (Start v) is a b = b
-joined Stop is a b = b
-joined Fetch is a b = b
+joined i is a b = grind arith
 
 sendable-append : (is js : List LinkInput) → AreSendableInputs is → AreSendableInputs js → AreSendableInputs (is ++ js)
 sendable-append [] js a b = b
@@ -72,11 +55,7 @@ reached_on m i a r =
 -- ## Messages that came are kept
 
 pub ticked_got : (m : LinkEnd) → (after_input m Tick).got ≡ m.got
-ticked_got m = by (is_open m.role) refl
-  where
-    by : (b : Bool) → is_open m.role ≡ b → (after_input m Tick).got ≡ m.got
-    by true q = rw q (moved_got m (is_some (tick_answer m.shdlc).ended) (ticked m.shdlc))
-    by false q = rw q (activated_got m ActTick)
+ticked_got m = grind arith
 
 -- ## What a call leaves
 
@@ -120,8 +99,7 @@ input_done {n} {k} {pool} {m} {i} {r} {new} {place} {before} d is noted =
         reached = reached_on m i d.sendable d.has.reached;
         acked = count;
       };
-      noted = noted ∙ ap (λ (x : LinkReport). before ++ reported place.at place.session x new.acked) d.told
-          ∙ ap (λ x. before ++ reported place.at place.session (told_of (report m i)) x) count;
+      noted = grind arith;
     }
 
 -- where no message came, that is all
@@ -143,11 +121,7 @@ without_message {m} {i} {place} {before} d none kept silent =
 pub kept_as : {n : Node} {k : Kept} {pool : PoolState} {m m2 : LinkEnd} → NodeStandsFor n m → EndStandsFor k pool m2
     → Accounts k pool None → Reached m2 → m2.got ≡ m.got → whole_acked m2 ≡ whole_acked m
     → NodeStandsFor (record { «end» = k; pool = pool; acked = n.acked }) m2
-kept_as h stands accounts reached got acked =
-    record {
-      has = record { stands = stands; accounts = accounts; reached = reached; acked = h.has.acked ∙ sym acked };
-      fetched = got ∙ h.fetched;
-    }
+kept_as h stands accounts reached got acked = grind arith
 
 -- a message that is given isn't acknowledged
 given_acked : (m : LinkEnd) (x : Message) → IsSendable x → Sound m → whole_acked (turn m (Give x)) ≡ whole_acked m
@@ -167,11 +141,7 @@ given_acked m x s h = by (give_refusal m x) refl
     by (Some why) q = rw q refl
 
 given_got : (m : LinkEnd) (x : Message) → (turn m (Give x)).got ≡ m.got
-given_got m x = by (give_refusal m x) refl
-  where
-    by : (o : Option Refused) → give_refusal m x ≡ o → (turn m (Give x)).got ≡ m.got
-    by None q = rw q refl
-    by (Some why) q = rw q refl
+given_got m x = grind arith
 
 pub gives : {n : Node} {k : Kept} {pool : PoolState} {m : LinkEnd} (x : Message) → NodeStandsFor n m → IsLeft n k pool (turn m (Give x))
     → IsSendable x → NodeStandsFor (record { «end» = k; pool = pool; acked = n.acked }) (turn m (Give x))
@@ -180,15 +150,7 @@ gives {m} x h left sendable =
     (given_acked m x sendable (is_sound m h.has.reached))
 
 held_acked : (m : LinkEnd) (held : Bool) → whole_acked (turn m (Hold held)) ≡ whole_acked m
-held_acked m held = go m.shdlc.ready held m.shdlc.session.answered_rnr refl refl refl
-  where
-    go : (was hold noted : Bool) → m.shdlc.ready ≡ was → held ≡ hold → m.shdlc.session.answered_rnr ≡ noted
-        → whole_acked (turn m (Hold held)) ≡ whole_acked m
-    go true true noted p q n = rw (p, q) refl
-    go true false noted p q n = rw (p, q) refl
-    go false true noted p q n = rw (p, q) refl
-    go false false true p q n = rw (p, q, n) refl
-    go false false false p q n = rw (p, q, n) refl
+held_acked m held = grind arith
 
 pub holds : {n : Node} {k : Kept} {m : LinkEnd} (held : Bool) → NodeStandsFor n m → EndStandsFor k n.pool (turn m (Hold held))
     → k.inbox ≡ n.«end».inbox → NodeStandsFor (record { «end» = k; pool = n.pool; acked = n.acked }) (turn m (Hold held))
@@ -197,18 +159,7 @@ holds {n} {k} {m} held h stands inbox =
     (reached_on m (FromNode (Hold held)) tt h.has.reached) refl (held_acked m held)
 
 fetched_same : (m : LinkEnd) → ((frame_fetched m).got ≡ m.got) × (whole_acked (frame_fetched m) ≡ whole_acked m)
-fetched_same m = go m.acts refl
-  where
-    at : whole_among m.sent (fetched m.shdlc).session.acked ≡ whole_acked m
-    at = ap (whole_among m.sent) (one_fetched_acked m.shdlc)
-
-    go : (acts : List ActDue) → m.acts ≡ acts → ((frame_fetched m).got ≡ m.got) × (whole_acked (frame_fetched m) ≡ whole_acked m)
-    go [] p = rw p (refl, at)
-    go (a ∷ acts) p = by (a.behind == 0) refl
-      where
-        by : (b : Bool) → (a.behind == 0) ≡ b → ((frame_fetched m).got ≡ m.got) × (whole_acked (frame_fetched m) ≡ whole_acked m)
-        by true q = rw (p, q) (refl, refl)
-        by false q = rw (p, q) (refl, at)
+fetched_same m = grind arith
 
 pub fetches_frame : {n : Node} {k : Kept} {m : LinkEnd} → NodeStandsFor n m → EndStandsFor k n.pool (frame_fetched m)
     → k.inbox ≡ n.«end».inbox → NodeStandsFor (record { «end» = k; pool = n.pool; acked = n.acked }) (frame_fetched m)
@@ -219,43 +170,14 @@ fetches_frame {n} {k} {m} h stands inbox =
 -- ## Refused resets
 
 pub refused_reset : (m : LinkEnd) (window : Option ℕ) (why : ResetRefused) → reset_told m window ≡ Err why → after_input m (Reset window) ≡ m
-refused_reset m window why told = by (reset_refusal m) refl
-  where
-    by : (o : Option Refused) → reset_refusal m ≡ o → after_input m (Reset window) ≡ m
-    by None q = absurd (let z : Ok (record nothing_told { ended = if_up m.shdlc Asked }) ≡ Err why = rw q at told in cc)
-    by (Some because) q = rw q refl
-
--- an end that was reset has no messages
-reset_sent : (m : LinkEnd) (w : ℕ) → Sound m → (reset_by m w).sent ≡ []
-reset_sent m w h = by m.shdlc.phase refl
-  where
-    by : (p : LinkState) → m.shdlc.phase ≡ p → (reset_by m w).sent ≡ []
-    by Up p = rw p refl
-    by Waiting p = rw p (h.is.forgot (λ u. let z = sym p ∙ u in cc))
-    by Down p = rw p (h.is.forgot (λ u. let z = sym p ∙ u in cc))
+refused_reset m window why told = grind arith
 
 reset_report : (m : LinkEnd) (window : Option ℕ) → Sound m → reset_refusal m ≡ None
     → record nothing_told { ended = if_up m.shdlc Asked } ≡ told_of (report m (Reset window))
-reset_report m window h q =
-    let w : ℕ = window_of m window in
-    let none : whole_acked (reset_by m w) - whole_acked m ≡ 0 = gone (whole_acked m) (reset_by m w) (reset_sent m w h) in
-    rw q (ap (λ x. record nothing_told { ended = if_up m.shdlc Asked; acked = x }) (sym none))
-  where
-    gone : (a : ℕ) (e : LinkEnd) → e.sent ≡ [] → whole_acked e - a ≡ 0
-    gone a e s = let z : whole_acked e ≡ 0 = rw s refl in omega (arith, z)
+reset_report m window h q = grind arith
 
 pub answered_reset : (m : LinkEnd) (window : Option ℕ) (r : LinkReport) → Sound m → reset_told m window ≡ Ok r → r ≡ told_of (report m (Reset window))
-answered_reset m window r h told = by (reset_refusal m) refl
-  where
-    ok_or : LinkReport → Result LinkReport ResetRefused → LinkReport
-    ok_or x (Ok y) = y
-    ok_or x (Err e) = x
-
-    by : (o : Option Refused) → reset_refusal m ≡ o → r ≡ told_of (report m (Reset window))
-    by (Some because) q = absurd (let z : Err (reset_refused because) ≡ Ok r = rw q at told in cc)
-    by None q =
-        let z : Ok (record nothing_told { ended = if_up m.shdlc Asked }) ≡ Ok r = rw q at told in
-        sym (ap (ok_or r) z) ∙ reset_report m window h q
+answered_reset m window r h told = grind arith
 
 pub reset_so_kept : {n : Node} {k : Kept} {pool : PoolState} {m after : LinkEnd} → NodeStandsFor n m → IsLeft n k pool after → after ≡ m
     → NodeStandsFor (record { «end» = k; pool = pool; acked = n.acked }) m
@@ -265,16 +187,10 @@ reset_so_kept {k} {pool} h left same =
 -- ## Messages that come
 
 nothing_oldest : (ms : List Message) → oldest ms ≡ None → ms ≡ []
-nothing_oldest [] p = refl
-nothing_oldest (x ∷ ms) p = absurd (cc)
+nothing_oldest ms p = grind arith
 
 only_oldest : (ms : List Message) (x : Message) → oldest ms ≡ Some x → drop 1 ms ≡ [] → ms ≡ x ∷ []
-only_oldest [] x p q = absurd (cc)
-only_oldest (y ∷ ms) x p q = (let z : y ≡ x = ap (or_else_this y) p in rw (z, q) refl)
-  where
-    or_else_this : Message → Option Message → Message
-    or_else_this a None = a
-    or_else_this a (Some b) = b
+only_oldest ms x p q = grind arith
 
 -- an end whose messages were fetched has none
 fetched_none : (k : Kept) (pool : PoolState) (m : LinkEnd) → EndStandsFor k pool m → k.inbox.got ≡ None → m.got ≡ []

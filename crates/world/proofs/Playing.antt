@@ -1,6 +1,6 @@
 -- A world behind one line, one round or one part more, and a line that lets the links settle, opened and closed.
-use Rattle.std.proofs.Common.{◌≡◌, ℕ, ◌+◌, ◌-◌, ◌≤◌, ◌<◌, Bool, true, false, List, [], ◌∷◌, ◌++◌, length, map, refl, ap, sym, subst, ◌∙◌, arith, append-nil}
-use Rattle.std.proofs.Common.{append_assoc, inl, inr, length-append, true≢false}
+use Rattle.std.proofs.Common.{◌≡◌, ℕ, ◌+◌, ◌-◌, ◌≤◌, ◌<◌, Bool, true, List, [], ◌∷◌, ◌++◌, length, map, refl, ap, sym, subst, ◌∙◌, arith, append-nil}
+use Rattle.std.proofs.Common.{append_assoc, length-append, true≢false}
 use Rattle.std.specs.Prelude.{Option, Some, None, Result, OnOk, if◌then◌else◌, replicate}
 use Rattle.std.proofs.lemmas.Result.{on_ok_weaker}
 use Rattle.std.specs.List.{AllByRecursion}
@@ -23,34 +23,20 @@ use Rattle.world.specs.Worlds.{IsPartLine}
 
 -- ## Counts
 
--- behind whichever plays a world stands, as many lines were said, and as many rounds played
-pub as_many_said : (b : Below) (header other : Header) (plays others : List Play) → StandsBelow b header plays → StandsBelow b other others
-    → lines_said plays ≡ lines_said others
-as_many_said (Bare w) header other plays others s t = sym s.1.stepped ∙ t.1.stepped
-as_many_said (Nodes w) header other plays others s t = sym s.stepped ∙ t.stepped
-
 pub as_many_rounds : (b : Below) (header other : Header) (plays others : List Play) → StandsBelow b header plays → StandsBelow b other others
     → rounds_played plays ≡ rounds_played others
-as_many_rounds (Bare w) header other plays others s t = sym s.1.rounds ∙ t.1.rounds
-as_many_rounds (Nodes w) header other plays others s t = sym s.rounds ∙ t.rounds
+as_many_rounds b header other plays others s t = grind arith
 
 pub line_fits : (w : World) (header : Header) (plays : List Play) → HasRoomForLine w → StandsBelow w.below header plays → lines_said plays < 20000
-line_fits w header plays room s =
-    let same = as_many_said w.below header (world_header w) plays room.plays s room.stands.stands in
-    let few = room.few in
-    omega (arith, same, few)
+line_fits w header plays room s = grind arith
 
 pub round_fits : (w : World) (header : Header) (plays : List Play) → HasRoomToSettle w → StandsBelow w.below header plays
     → rounds_played plays < 400000000
-round_fits w header plays room s =
-    let same = as_many_rounds w.below header (world_header w) plays room.plays s room.stands.stands in
-    let few = room.few in
-    omega (arith, same, few)
+round_fits w header plays room s = grind arith
 
 -- the header of a world is one that a schedule may begin with
 pub begins_so : (b : Below) (header : Header) (plays : List Play) → StandsBelow b header plays → MayBegin header
-begins_so (Bare w) header plays s = inl s.1.is_header
-begins_so (Nodes w) header plays s = inr s.is_header
+begins_so b header plays s = grind arith
 
 -- ## Parts
 
@@ -92,28 +78,20 @@ part_last plays parts part =
     mapped (x ∷ xs) = ap (λ (ps : List Play). Said x ∷ ps) (mapped xs)
 
 either : {X : Type 0} (o : Option X) (b : Bool) → (if b then o else o) ≡ o
-either o true = refl
-either o false = refl
+either o b = grind arith
 
 -- a part is never misread
 pub part_sure : (header : Header) (before : List Line) (said : Line) → is_part said ≡ true → misread_below header before said ≡ None
-part_sure header before (saying.Deliver e count) is = either None header.hci
-part_sure header before (saying.Tick times) is = either None header.hci
-part_sure header before said is = absurd (true≢false (sym is))
+part_sure header before said is = grind arith
 
 -- why a line stops a world is want of memory, where it is never misread
 pub never_undetected : (header : Header) (before : List Line) (said : Line) (why : WorldFault) → misread_below header before said ≡ None
     → IsFaultThere header before said why → why ≡ fault.NoMemory
-never_undetected header before said (fault.Undetected sent read) none is = absurd (let z : Some read ≡ None = sym is.0 ∙ none in cc z)
-never_undetected header before said fault.NoMemory none is = refl
+never_undetected header before said why none is = grind arith
 
 -- how many parts of an open line were done
 pub parts_done : {most n : ℕ} (o : Option OpenLine) (l : OpenLine) → o ≡ Some (record { most = most; parts = n }) → o ≡ Some l → l.parts ≡ n
-parts_done {most} {n} o l p q = ap parts_of (sym q) ∙ ap parts_of p
-  where
-    parts_of : Option OpenLine → ℕ
-    parts_of (Some l) = l.parts
-    parts_of None = 0
+parts_done o l p q = grind arith
 
 -- ## One more
 
@@ -144,11 +122,7 @@ module _ {T E : Type 0} (result : Result T E) (w new : World) (header : Header) 
 
   -- behind whichever plays a line is open, as many parts were done
   pub part_fits : (most : ℕ) (parts : List Line) → HasRoomForPart w → IsWorldWithin w header plays most parts → length parts < 300000
-  part_fits most parts room within =
-      let same : length parts ≡ length room.parts =
-      parts_done w.opened (record { most = most; parts = length parts }) room.stands.opened within.opened in
-      let few = room.few in
-      omega (arith, same, few)
+  part_fits most parts room within = grind arith
 
   pub stands_with_part : (most : ℕ) (parts : List Line) (part : Line) → IsWorldWithin w header plays most parts → HasRoomForPart w
       → new.header ≡ w.header → new.opened ≡ Some (record { most = most; parts = length parts + 1 })
@@ -246,9 +220,7 @@ may_count (Nodes w) header plays parts most rounds s room few =
 -- The history of what a world was made to play is legal, and what its nodes committed is kept.
 
 part_asks_none : (l : Line) → is_part l ≡ true → AsksNone l
-part_asks_none (saying.Deliver e count) is = refl
-part_asks_none (saying.Tick times) is = refl
-part_asks_none l is = absurd (true≢false (sym is))
+part_asks_none l is = grind arith
 
 module _ (header : Header) where
   parts_ask_none : (parts : List Line) → AllByRecursion (IsPartLine header) parts → AllByRecursion AsksNone parts
@@ -257,8 +229,7 @@ module _ (header : Header) where
 
   -- the plays behind which a world stands are its own
   pub plays_may : (b : Below) (plays : List Play) → StandsBelow b header plays → AllByRecursion (IsPlayFor header) plays
-  plays_may (Bare w) plays s = s.1.plays_are
-  plays_may (Nodes w) plays s = s.plays_are
+  plays_may b plays s = grind arith
 
   stands_legal : (b : Below) (plays : List Play) → StandsBelow b header plays → AskFew header plays → HaveLegalHistory header plays
   stands_legal (Bare w) plays s few = bare_legal header s.1.is_header plays s.1.plays_are s.0 s.1.follows

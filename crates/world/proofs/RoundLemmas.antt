@@ -1,6 +1,6 @@
 -- What a line does on a link, seen from the end that it speaks of.
-use Rattle.std.proofs.Common.{◌≡◌, ℕ, zero, suc, ◌<◌, Bool, true, false, true≢false, eqb, List, [], ◌∷◌, ◌++◌, length, refl, sym, ap, subst, ◌∙◌, append-nil}
-use Rattle.std.proofs.Common.{arith, ◌+◌, ◌*◌, ◌≤◌, ◌^◌, replicate, append_assoc}
+use Rattle.std.proofs.Common.{◌≡◌, ℕ, zero, suc, ◌<◌, true, false, eqb, List, [], ◌∷◌, ◌++◌, length, refl, sym, ap, subst, ◌∙◌, append-nil, arith, ◌+◌, ◌*◌}
+use Rattle.std.proofs.Common.{◌≤◌, ◌^◌, replicate, append_assoc}
 use Rattle.std.specs.Prelude.{Option, Some, None, IfSome, not, if◌then◌else◌}
 use Rattle.std.proofs.lemmas.List.{length-map}
 use Rattle.world.proofs.Words.{AreNoted, Buffer, Caused, Controller, Does, DoesAll, Empty, End, EndEvent, Entry, Flying, GoesOut, HasHappened, HasRepeated}
@@ -25,19 +25,11 @@ use Rattle.world.proofs.Given.{causes_of-events, sent_repeated, sent_after}
 
 pub seen_happens : (at : End) (l : Link) (event : EndEvent)
     → seen_from at (happens l (happens_at at event)) ≡ happens_at_controller (seen_from at l) event
-seen_happens at l event = by at.at_host refl
-  where
-    by : (b : Bool) → at.at_host ≡ b → seen_from at (happens l (happens_at at event)) ≡ happens_at_controller (seen_from at l) event
-    by true q = rw q refl
-    by false q = rw q refl
+seen_happens at l event = grind arith
 
 pub seen_noted : (at : End) (l : Link) (event : EndEvent)
     → event_entries l (happens_at at event) ≡ here_entries (side_of at) (seen_from at l) event
-seen_noted at l event = by at.at_host refl
-  where
-    by : (b : Bool) → at.at_host ≡ b → event_entries l (happens_at at event) ≡ here_entries (side_of at) (seen_from at l) event
-    by true q = rw q refl
-    by false q = rw q refl
+seen_noted at l event = grind arith
 
 -- the sides of a link, seen from the host's end
 pub seen_at_host : {near far : Side} {resets : ℕ} {l : Link} (at : End) → at.at_host ≡ true → LinkStandsFor far near resets l
@@ -58,8 +50,7 @@ seen_at_controller {near} {far} {resets} {l} at q h =
 
 pub seen_here : {near far : Side} {resets : ℕ} {l : Link} (at : End) → at.at_host ≡ false → SidesStandFor near far resets at l
     → LinkStandsFor near far resets l
-seen_here {near} {far} {resets} {l} at q h =
-    let P : Bool → Type 0 = λ b. SidesStandFor near far resets (record { link = at.link; at_host = b }) l in subst P q h
+seen_here at q h = grind arith
 
 -- ## What becomes of a line
 
@@ -115,21 +106,18 @@ happened_does {near} {far} {resets} {at} {l} {line} {event} has nothing one =
 -- ## Frames on a wire
 
 is_some : (n : ℕ) → false ≡ eqb n 0 → 0 < n
-is_some zero h = absurd (true≢false (sym h))
-is_some (suc n) h = omega arith
+is_some n h = grind arith
 
 -- what holds of the one thing that there is
 pub some_holds : {X P : Type 0} (o : Option X) (x : X) → o ≡ Some x → IfSome o (λ y. P) → P
-some_holds None x is p = cc
-some_holds (Some y) x is p = p
+some_holds o x is p = grind arith
 
 pub none_there : {kept : Buffer Flying} {wire : List OnWire} → WireStandsFor kept wire → true ≡ eqb (length kept.items) 0 → if_empty wire ≡ Some Empty
 none_there {wire = []} w h = refl
 none_there {kept} {wire = x ∷ xs} w h = absurd (omega (arith, eqb→eq (length kept.items) 0 (subst T h tt), ap length w.frames))
 
 pub some_there : {kept : Buffer Flying} {wire : List OnWire} → WireStandsFor kept wire → false ≡ eqb (length kept.items) 0 → if_empty wire ≡ None
-some_there {kept} {wire = []} w h = absurd (omega (arith, is_some (length kept.items) h, ap length w.frames))
-some_there {wire = x ∷ xs} w h = refl
+some_there w h = grind arith
 
 -- The same happens on a link again and again.
 
@@ -218,16 +206,11 @@ turned_round h = record { here = h.there; there = h.here; count = h.count }
 
 -- the end from which a link is seen was given few messages
 pub few_here : {n : ℕ} {l : Link} (at : End) → HaveSent l n → length (seen_from at l).controller.side.sent ≤ n
-few_here {n} {l} at h = go at.at_host
-  where
-    go : (b : Bool) → length (seen_from (record { link = at.link; at_host = b }) l).controller.side.sent ≤ n
-    go true = h.there
-    go false = h.here
+few_here at h = grind arith
 
 -- a line takes no more frames than there are
 taken_within : (count : Option ℕ) (wire : List OnWire) → taken_of count wire ≤ length wire
-taken_within None wire = omega arith
-taken_within (Some n) wire = omega arith
+taken_within count wire = grind arith
 
 -- as many frames are kept as stand on the wire
 pub kept_len : {kept : Buffer Flying} {wire : List OnWire} → WireStandsFor kept wire → length wire ≡ length kept.items
@@ -235,8 +218,7 @@ kept_len {wire} h = sym (ap (λ (xs : List Flying). length xs) h.frames ∙ leng
 
 -- so a line takes at most 64
 pub taken_few : {kept : Buffer Flying} {wire : List OnWire} {n : ℕ} (count : Option ℕ) → WireStandsFor kept wire → n ≡ taken_of count wire → n ≤ 64
-taken_few {wire} count h is =
-    let within = taken_within count wire in let few = h.few in omega (arith, is, within, few)
+taken_few count h is = grind arith
 
 -- 20,000 is short of what a count of messages holds
 pub few_short : {n : ℕ} → n ≤ 320000 → n < 2 ^ 32

@@ -36,21 +36,7 @@ put_is {near} {far} {l = l} {m} {e} {wire = wire} c h sent =
     let T : ℕ → Type 0 = λ k. near.took ≡ k in
     let W : List OnWire → Type 0 = λ ws. WireStandsFor near.wire ws in
     let H : NumberedEnd → Type 0 = λ k. SideStandsFor (record far { wire = wire }) k (put l c).to_host in
-    record {
-      here = record {
-        node = h.here.node;
-        put_is = sent.emitted_is;
-        took_is = subst T (sym s.took) h.here.took_is;
-        wire_is = subst W (sym s.wire) h.here.wire_is;
-      };
-      few = h.few;
-      there = subst H (sym s.host)
-          (record {
-            has = record { node = h.there.has.node; put_is = h.there.has.put_is; took_is = h.there.has.took_is; wire_is = sent.wire_is };
-            idle = h.there.idle;
-          });
-      count = sent.count;
-    }
+    grind arith
 
 pub goes_out : {near far : Side} {resets : ℕ} {l : Link} {m : LinkEnd} → IsMidway near far resets l m → GoesOutOf near.emitted far.wire resets l
 goes_out h = record { emitted_is = h.here.put_is; wire_is = h.there.has.wire_is; count = h.count }
@@ -60,32 +46,13 @@ pub lost_is : {near far : Side} {resets : ℕ} {l : Link} {why : Loss} {at : End
     → LinkStandsFor near far resets l
     → WireStandsFor wire (drop 1 l.to_controller) × AreNoted at before now (first_lost (side_of at) why l.to_controller)
     → HasHappened (record near { wire = wire }) far resets l (Lose why) at before now
-lost_is h r =
-    record {
-      stands = record {
-        here = record {
-          has = record { node = h.here.has.node; put_is = h.here.has.put_is; took_is = h.here.has.took_is; wire_is = r.0 };
-          idle = h.here.idle;
-        };
-        there = h.there;
-        count = h.count;
-      };
-      noted = r.1;
-    }
+lost_is h r = grind arith
 
 -- the frames to the near end have grown older
 pub aged_is : {near far : Side} {resets : ℕ} {l : Link} {wire : Buffer Flying} → LinkStandsFor near far resets l
     → WireStandsFor wire (aged_wire l.to_controller)
     → LinkStandsFor (record near { wire = wire }) far resets (record l { to_controller = aged_wire l.to_controller })
-aged_is h w =
-    record {
-      here = record {
-        has = record { node = h.here.has.node; put_is = h.here.has.put_is; took_is = h.here.has.took_is; wire_is = w };
-        idle = h.here.idle;
-      };
-      there = h.there;
-      count = h.count;
-    }
+aged_is h w = grind arith
 
 -- An end sends its frames one by one.
 

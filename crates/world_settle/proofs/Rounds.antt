@@ -4,10 +4,9 @@ use Rattle.std.proofs.Common.{append-nil, append_assoc}
 use Rattle.std.specs.Prelude.{replicate}
 use Rattle.trace_model.specs.declared.entry.Entry.{Entry}
 use Rattle.trace_model.specs.declared.line.Header.{Header}
-use Rattle.lines_told.specs.lines.Plays.{Play, lines_played}
+use Rattle.lines_told.specs.lines.Plays.{Play, lines_played, rests_behind, rounds_played, rounds_to_rest, told_of_play, told_of_rounds}
 use Rattle.lines_told.specs.lines.Plays.Play.{Round}
 use Rattle.world.specs.declared.world_steps.World.{World}
-use Rattle.lines_told.specs.lines.Plays.{rests_behind, rounds_played, rounds_to_rest, told_of_play, told_of_rounds}
 use Rattle.lines_told.proofs.lines.Told.{played-append, round_first, round_last, so_many_rounds}
 use Rattle.world.specs.Worlds.{HasRoomToSettle, IsWorldAt, StandsBehind, world_header}
 

@@ -330,7 +330,8 @@ cut_told t who l e can b n = b n ∙ go e.shdlc.phase refl e.role refl can
     up : e.shdlc.phase ≡ IsUpNow → CanEnd e.role CutOff
         → book_of (talk_of (with_side l.controller e) n) ≡ book_of (talk_of (cut (with_controller l f)).controller n)
     up p can =
-        let z : book_of (talk_of (with_side l.controller e) n) ≡ book_of (cond (n == number_of l.controller) (talk_now e) (ended_talk l.controller.past n)) = grind arith in
+        let z : book_of (talk_of (with_side l.controller e) n) ≡ book_of
+        (cond (n == number_of l.controller) (talk_now e) (ended_talk l.controller.past n)) = grind arith in
         let is : is_up f.shdlc.phase ≡ true = ap is_up (phase ∙ p) in
         z ∙ (up_past e.role z ∙ ap book_of (sym (new_down true e.role can) ∙ ap (λ c. talk_of (at c e.role) n) (sym is)))
 

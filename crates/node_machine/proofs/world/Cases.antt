@@ -18,12 +18,10 @@ use Rattle.history.specs.Steps.{at, entries_for}
 use Rattle.node_machine.specs.Parts.{Running, Work}
 use Rattle.node_machine.specs.Node.{steps, found, boot_writes}
 use Rattle.node_machine.specs.Node.NodeInput.{AtEnd, TimePasses}
-use Rattle.node_machine.specs.world.World.{NodeWorld, Site, site_at, with_site, link_to, input_of, ending_of, runs_on, turns_at, wires_for}
-use Rattle.node_machine.specs.world.World.{frames_noted, work_of}
-use Rattle.node_machine.specs.world.World.{controller_work, after_controller, controller_does, host_work, after_host, host_does, controller_cut, host_cut}
-use Rattle.node_machine.specs.world.World.{node_at, loses_power_at, memory_at, with_memory, with_node, links_of, boots, counts, frame_lost}
-use Rattle.node_machine.specs.world.World.{is_late_at, ticked_so}
-use Rattle.node_machine.specs.world.World.{controller_ticks, host_ticks, comes_at}
+use Rattle.node_machine.specs.world.World.{NodeWorld, Site, site_at, with_site, link_to, input_of, ending_of, runs_on, turns_at, wires_for, frames_noted}
+use Rattle.node_machine.specs.world.World.{work_of, controller_work, after_controller, controller_does, host_work, after_host, host_does, controller_cut}
+use Rattle.node_machine.specs.world.World.{host_cut, node_at, loses_power_at, memory_at, with_memory, with_node, links_of, boots, counts, frame_lost}
+use Rattle.node_machine.specs.world.World.{is_late_at, ticked_so, controller_ticks, host_ticks, comes_at}
 
 -- ## Steps
 

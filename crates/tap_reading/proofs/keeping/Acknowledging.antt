@@ -1,7 +1,6 @@
 -- An N(R) tells the same of what is kept and of what was heard, and what is kept then stands for what was heard then.
 use Rattle.std.proofs.Common.{◌≡◌, ℕ, zero, suc, ◌+◌, ◌-◌, ◌%◌, ◌<◌, ◌≤◌, ◌==◌, Bool, true, false, not, cond, ◌&&◌, List, [], ◌∷◌, ◌++◌, length, take, drop}
-use Rattle.std.proofs.Common.{map, Option}
-use Rattle.std.proofs.Common.{Some, None, refl, ap, sym, subst, ◌∙◌, arith, length-drop}
+use Rattle.std.proofs.Common.{map, Option, Some, None, refl, ap, sym, subst, ◌∙◌, arith, length-drop}
 use Rattle.std.specs.Prelude.{nat_lt, ◌||◌}
 use Rattle.std.proofs.lemmas.Bool.{eqb-true, eq-eqb, ltb-true, ltb-false, lt-ltb, le-ltb}
 use Rattle.hcp_packet.specs.declared.Packet.{Packet}
@@ -13,10 +12,8 @@ use Rattle.tap_reading.specs.Tap.{TapSide, TapState, new_tap, tap_exchanged, ren
 use Rattle.tap_reading.specs.Tap.{with_fragment, news_behind, told_by}
 use Rattle.tap_reading.specs.Tap.{is_in_session, tap_hears, tap_tells, reports_to, tap_after_frame, tap_reports, tap_after, tapped_from, tapped}
 use Rattle.tap_reading.specs.keeping.Keeping.{KeptSide, KeptTap, new_kept_tap, kept_exchanged, kept_renumbered, kept_listed, kept_added, kept_tells_more}
-use Rattle.tap_reading.specs.keeping.Keeping.{kept_joined, kept_news, first_packet}
-use Rattle.tap_reading.specs.keeping.Keeping.{kept_numbered, kept_in_session, kept_hears, kept_tells, kept_after_frame, kept_reports, kept_after}
-use Rattle.tap_reading.specs.keeping.Keeping.{kept_reported}
-use Rattle.tap_reading.specs.keeping.Keeping.{StandsForSide, StandsForTap, IsSmall}
+use Rattle.tap_reading.specs.keeping.Keeping.{kept_joined, kept_news, first_packet, kept_numbered, kept_in_session, kept_hears, kept_tells}
+use Rattle.tap_reading.specs.keeping.Keeping.{kept_after_frame, kept_reports, kept_after, kept_reported, StandsForSide, StandsForTap, IsSmall}
 use Rattle.tap_reading.proofs.keeping.Joins.{taken-append, open-append, packets_with, packets-append, news_of, news_none, news_some}
 use Rattle.tap_reading.proofs.keeping.Stands.{asked_near, asked_far, number_near, number_far, listed_near, listed_far, added_near, added_far, begun_list}
 

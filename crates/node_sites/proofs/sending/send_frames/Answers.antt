@@ -10,7 +10,8 @@ use Rattle.node_machine.specs.Carrying.{with_port}
 use Rattle.node_ends.specs.Ends.{frame_at}
 use Rattle.node_core.specs.Running.{RunsAs, SendsOneByOne}
 use Rattle.node_core.proofs.Between.{all_one_by_one}
-use Rattle.node_sites.proofs.FramesGoOut.{Sending, sending_starts, sending_next, sending_stops, sending_over, at_found, found_with, with_side, fetched_is, none_fetched, read_of, same_with, with_none}
+use Rattle.node_sites.proofs.FramesGoOut.{Sending, sending_starts, sending_next, sending_stops, sending_over, at_found, found_with, with_side}
+use Rattle.node_sites.proofs.FramesGoOut.{fetched_is, none_fetched, read_of, same_with, with_none}
 use Rattle.swp_base.specs.declared.control_frames.Control.{Control}
 use Rattle.link_laws.specs.messages.Links.{put_all}
 use Rattle.link_laws.specs.entries.Entries.{puts_entries}

@@ -119,7 +119,8 @@ returns-in_default-2-clause-refusal c w world ready there =
     let k = slice_index_or ks c.in-Some.place c.index-sites-place-2.result in
     let st = c.in-Some.ensures.place w.sites world.sites in
     let read = ap (slice_index_or ks c.in-Some.place) c.index-sites-place-2.is in
-    let none = as_none c.in_default-2.is (near_comes c.args.at c.comes.new.self c.args.what _ _ _ c.if-at.false c.in_ok-arrived.ensures (link_to w.sites c.args.at.link)
+    let none = as_none c.in_default-2.is (near_comes c.args.at c.comes.new.self c.args.what _ _ _ c.if-at.false c.in_ok-arrived.ensures
+    (link_to w.sites c.args.at.link)
     (wires_there w c.args.at.link ready.goes_on there c.in-Some.place ks k st world.sites read)) in
     near_refused c.args.at w (as_comes c.args.what) None c.if-at.false
     (none_refused c.args.what (link_to w.sites c.args.at.link) w.controller (link_to w.sites c.args.at.link).controller.side none.input)
@@ -131,7 +132,8 @@ returns-in_default-2-clause-stands c w world ready there =
     let k = slice_index_or ks c.in-Some.place c.index-sites-place-2.result in
     let st = c.in-Some.ensures.place w.sites world.sites in
     let read = ap (slice_index_or ks c.in-Some.place) c.index-sites-place-2.is in
-    let none = as_none c.in_default-2.is (near_comes c.args.at c.comes.new.self c.args.what _ _ _ c.if-at.false c.in_ok-arrived.ensures (link_to w.sites h) (wires_there w h ready.goes_on there c.in-Some.place ks k st world.sites read)) in
+    let none = as_none c.in_default-2.is (near_comes c.args.at c.comes.new.self c.args.what _ _ _ c.if-at.false c.in_ok-arrived.ensures
+    (link_to w.sites h) (wires_there w h ready.goes_on there c.in-Some.place ks k st world.sites read)) in
     let before = c.args.noted.now.entries.items in
     near_becomes c.args.at w (as_comes c.args.what) c.if-at.false
     (rw (comes_none w h (as_comes c.args.what) none.input) (record {
@@ -152,12 +154,14 @@ step-requires c =
     let st = c.in-Some.ensures.place q.0.sites q.1.sites in
     let read = ap (slice_index_or ks c.in-Some.place) c.index-sites-place-2.is in
     let here = place_is_on c.args.controller.now q.0.memory q.0.controller (λ h. (link_to q.0.sites h).controller) c.in-On.node c.in-On.is q.1.controller in
-    let arrived = as_some c.in-Some-2.is (near_comes c.args.at c.comes.new.self c.args.what _ _ _ c.if-at.false c.in_ok-arrived.ensures (link_to q.0.sites h) (wires_there q.0 h q.2.goes_on q.3 c.in-Some.place ks k st q.1.sites read)) in
+    let arrived = as_some c.in-Some-2.is (near_comes c.args.at c.comes.new.self c.args.what _ _ _ c.if-at.false c.in_ok-arrived.ensures
+    (link_to q.0.sites h) (wires_there q.0 h q.2.goes_on q.3 c.in-Some.place ks k st q.1.sites read)) in
     let sites = sites_with q.0 h q.2.goes_on q.3 c.in-Some.place ks k st q.1.sites read comes c.comes.new.self arrived.wires in
     let i : LinkInput = input_of_end c.as_input.result in
     let input = arrived.input ∙ ap Some (sym c.as_input.ensures.input) in
     let b = begins_there q.0 here.running h comes i q.3.0 q.2.goes_on here.runs q.3.1 input c.in-On.node here.place in
-    let may = may_arrive false c.args.what c.in-Some-2.arrived _ arrived.is (subst (λ b. MayArrive b c.args.what) c.if-at.false c.requires.may) (λ value at_host. absurd (cc at_host)) in
+    let may = may_arrive false c.args.what c.in-Some-2.arrived _ arrived.is (subst (λ b. MayArrive b c.args.what) c.if-at.false c.requires.may)
+    (λ value at_host. absurd (cc at_host)) in
     (_, _, b.runs, b.sent, c.as_input.ensures.may _ may)
 
 pub finish_controller-requires-clause-state : goal.finish_controller-requires-clause-state
@@ -170,7 +174,8 @@ finish_controller-requires-clause-state c =
     let st = c.in-Some.ensures.place q.0.sites q.1.sites in
     let read = ap (slice_index_or ks c.in-Some.place) c.index-sites-place-2.is in
     let here = place_is_on c.args.controller.now q.0.memory q.0.controller (λ h. (link_to q.0.sites h).controller) c.in-On.node c.in-On.is q.1.controller in
-    let arrived = as_some c.in-Some-2.is (near_comes c.args.at c.comes.new.self c.args.what _ _ _ c.if-at.false c.in_ok-arrived.ensures (link_to q.0.sites h) (wires_there q.0 h q.2.goes_on q.3 c.in-Some.place ks k st q.1.sites read)) in
+    let arrived = as_some c.in-Some-2.is (near_comes c.args.at c.comes.new.self c.args.what _ _ _ c.if-at.false c.in_ok-arrived.ensures
+    (link_to q.0.sites h) (wires_there q.0 h q.2.goes_on q.3 c.in-Some.place ks k st q.1.sites read)) in
     let sites = sites_with q.0 h q.2.goes_on q.3 c.in-Some.place ks k st q.1.sites read comes c.comes.new.self arrived.wires in
     let i : LinkInput = input_of_end c.as_input.result in
     let input = arrived.input ∙ ap Some (sym c.as_input.ensures.input) in
@@ -178,7 +183,8 @@ finish_controller-requires-clause-state c =
       c.step.new.node,
       Then q.0 here.running h comes i q.3.0 q.2.goes_on here.runs q.3.1 input,
       mid_sites q.0 here.running h comes i q.3.0 q.2.goes_on here.runs q.3.1 input,
-      step_midway q.0 here.running h comes i q.3.0 q.2.goes_on here.runs q.3.1 input c.in-On.node c.step.new.node _ c.in-Ok.live (c.in-Ok.ensures.stepped _ b) sites,
+      step_midway q.0 here.running h comes i q.3.0 q.2.goes_on here.runs q.3.1 input c.in-On.node c.step.new.node _ c.in-Ok.live
+          (c.in-Ok.ensures.stepped _ b) sites,
     )
 
 pub finish_controller-requires-clause-room : goal.finish_controller-requires-clause-room
@@ -191,12 +197,14 @@ finish_controller-requires-clause-room c =
     let st = c.in-Some.ensures.place q.0.sites q.1.sites in
     let read = ap (slice_index_or ks c.in-Some.place) c.index-sites-place-2.is in
     let here = place_is_on c.args.controller.now q.0.memory q.0.controller (λ h. (link_to q.0.sites h).controller) c.in-On.node c.in-On.is q.1.controller in
-    let arrived = as_some c.in-Some-2.is (near_comes c.args.at c.comes.new.self c.args.what _ _ _ c.if-at.false c.in_ok-arrived.ensures (link_to q.0.sites h) (wires_there q.0 h q.2.goes_on q.3 c.in-Some.place ks k st q.1.sites read)) in
+    let arrived = as_some c.in-Some-2.is (near_comes c.args.at c.comes.new.self c.args.what _ _ _ c.if-at.false c.in_ok-arrived.ensures
+    (link_to q.0.sites h) (wires_there q.0 h q.2.goes_on q.3 c.in-Some.place ks k st q.1.sites read)) in
     let sites = sites_with q.0 h q.2.goes_on q.3 c.in-Some.place ks k st q.1.sites read comes c.comes.new.self arrived.wires in
     let i : LinkInput = input_of_end c.as_input.result in
     let input = arrived.input ∙ ap Some (sym c.as_input.ensures.input) in
     let b = begins_there q.0 here.running h comes i q.3.0 q.2.goes_on here.runs q.3.1 input c.in-On.node here.place in
-    room_kept ks _ q.0.sites (as_it_comes_to h comes q.0.sites) q.1.sites sites (resets_as_it_comes h comes q.0.sites) (room_for_all c.args.sites.now c.requires.state.0 c.requires.state.1.sites c.requires.state.2.few)
+    room_kept ks _ q.0.sites (as_it_comes_to h comes q.0.sites) q.1.sites sites (resets_as_it_comes h comes q.0.sites)
+    (room_for_all c.args.sites.now c.requires.state.0 c.requires.state.1.sites c.requires.state.2.few)
 
 pub returns-in_ok-finish_controller-in-Ok-clause-refusal : goal.returns-in_ok-finish_controller-in-Ok-clause-refusal
 returns-in_ok-finish_controller-in-Ok-clause-refusal c w world ready there =
@@ -207,7 +215,8 @@ returns-in_ok-finish_controller-in-Ok-clause-refusal c w world ready there =
     let st = c.in-Some.ensures.place w.sites world.sites in
     let read = ap (slice_index_or ks c.in-Some.place) c.index-sites-place-2.is in
     let here = place_is_on c.args.controller.now w.memory w.controller (λ h. (link_to w.sites h).controller) c.in-On.node c.in-On.is world.controller in
-    let arrived = as_some c.in-Some-2.is (near_comes c.args.at c.comes.new.self c.args.what _ _ _ c.if-at.false c.in_ok-arrived.ensures (link_to w.sites h) (wires_there w h ready.goes_on there c.in-Some.place ks k st world.sites read)) in
+    let arrived = as_some c.in-Some-2.is (near_comes c.args.at c.comes.new.self c.args.what _ _ _ c.if-at.false c.in_ok-arrived.ensures
+    (link_to w.sites h) (wires_there w h ready.goes_on there c.in-Some.place ks k st world.sites read)) in
     let sites = sites_with w h ready.goes_on there c.in-Some.place ks k st world.sites read comes c.comes.new.self arrived.wires in
     let i : LinkInput = input_of_end c.as_input.result in
     let input = arrived.input ∙ ap Some (sym c.as_input.ensures.input) in
@@ -225,7 +234,8 @@ returns-in_ok-finish_controller-in-Ok-clause-stands c w world ready there =
     let st = c.in-Some.ensures.place w.sites world.sites in
     let read = ap (slice_index_or ks c.in-Some.place) c.index-sites-place-2.is in
     let here = place_is_on c.args.controller.now w.memory w.controller (λ h. (link_to w.sites h).controller) c.in-On.node c.in-On.is world.controller in
-    let arrived = as_some c.in-Some-2.is (near_comes c.args.at c.comes.new.self c.args.what _ _ _ c.if-at.false c.in_ok-arrived.ensures (link_to w.sites h) (wires_there w h ready.goes_on there c.in-Some.place ks k st world.sites read)) in
+    let arrived = as_some c.in-Some-2.is (near_comes c.args.at c.comes.new.self c.args.what _ _ _ c.if-at.false c.in_ok-arrived.ensures
+    (link_to w.sites h) (wires_there w h ready.goes_on there c.in-Some.place ks k st world.sites read)) in
     let sites = sites_with w h ready.goes_on there c.in-Some.place ks k st world.sites read comes c.comes.new.self arrived.wires in
     let i : LinkInput = input_of_end c.as_input.result in
     let input = arrived.input ∙ ap Some (sym c.as_input.ensures.input) in
@@ -237,7 +247,8 @@ returns-in_ok-finish_controller-in-Ok-clause-stands c w world ready there =
     let names = hosts_as_it_comes h comes w.sites in
     let sessions = c.sessions_of-noted.ensures (as_it_comes_to h comes w.sites) sites
     (subst AreDifferent (sym names) ready.goes_on.orderly.different) (subst (AllByRecursion IsHost) (sym names) ready.goes_on.hosts) in
-    let counted = numbered w here.running h comes i there.0 ready.goes_on here.runs there.1 input c.sessions_of-noted.result sessions (counted_at c.args.controller.now w c.args.at.link (as_comes c.args.what) world.controller ready.few i input) in
+    let counted = numbered w here.running h comes i there.0 ready.goes_on here.runs there.1 input c.sessions_of-noted.result sessions
+    (counted_at c.args.controller.now w c.args.at.link (as_comes c.args.what) world.controller ready.few i input) in
     near_becomes c.args.at w (as_comes c.args.what) c.if-at.false
     (step_ends w here.running h comes i there.0 ready.goes_on here.runs there.1 input
     {F = Unit {0}} (Ok c.in_ok-finish_controller-in-Ok.field-0) c.in-Ok.live c.finish_controller.new.controller c.finish_controller.new.sites c.in-On.node
@@ -254,7 +265,8 @@ returns-in-Err-clause-refusal c w world ready there =
     let st = c.in-Some.ensures.place w.sites world.sites in
     let read = ap (slice_index_or ks c.in-Some.place) c.index-sites-place-2.is in
     let here = place_is_on c.args.controller.now w.memory w.controller (λ h. (link_to w.sites h).controller) c.in-On.node c.in-On.is world.controller in
-    let arrived = as_some c.in-Some-2.is (near_comes c.args.at c.comes.new.self c.args.what _ _ _ c.if-at.false c.in_ok-arrived.ensures (link_to w.sites h) (wires_there w h ready.goes_on there c.in-Some.place ks k st world.sites read)) in
+    let arrived = as_some c.in-Some-2.is (near_comes c.args.at c.comes.new.self c.args.what _ _ _ c.if-at.false c.in_ok-arrived.ensures
+    (link_to w.sites h) (wires_there w h ready.goes_on there c.in-Some.place ks k st world.sites read)) in
     let sites = sites_with w h ready.goes_on there c.in-Some.place ks k st world.sites read comes c.comes.new.self arrived.wires in
     let i : LinkInput = input_of_end c.as_input.result in
     let input = arrived.input ∙ ap Some (sym c.as_input.ensures.input) in
@@ -272,7 +284,8 @@ returns-in-Err-clause-stands c w world ready there =
     let st = c.in-Some.ensures.place w.sites world.sites in
     let read = ap (slice_index_or ks c.in-Some.place) c.index-sites-place-2.is in
     let here = place_is_on c.args.controller.now w.memory w.controller (λ h. (link_to w.sites h).controller) c.in-On.node c.in-On.is world.controller in
-    let arrived = as_some c.in-Some-2.is (near_comes c.args.at c.comes.new.self c.args.what _ _ _ c.if-at.false c.in_ok-arrived.ensures (link_to w.sites h) (wires_there w h ready.goes_on there c.in-Some.place ks k st world.sites read)) in
+    let arrived = as_some c.in-Some-2.is (near_comes c.args.at c.comes.new.self c.args.what _ _ _ c.if-at.false c.in_ok-arrived.ensures
+    (link_to w.sites h) (wires_there w h ready.goes_on there c.in-Some.place ks k st world.sites read)) in
     let sites = sites_with w h ready.goes_on there c.in-Some.place ks k st world.sites read comes c.comes.new.self arrived.wires in
     let i : LinkInput = input_of_end c.as_input.result in
     let input = arrived.input ∙ ap Some (sym c.as_input.ensures.input) in

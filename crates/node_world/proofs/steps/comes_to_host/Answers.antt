@@ -101,5 +101,6 @@ returns-in_default-2-clause-stands c s is host counts =
     let none = as_none c.in_default-2.is (c.in_ok-arrived.ensures (exchanged s.link) is.wires) in
     let before = c.args.noted.now.entries.items in
     let new : HostSite = record { host = c.args.site.now.host; wires = c.comes.new.self; power = On c.in-On.node } in
-    rw (hears_none s (as_comes c.args.what) none.input) (still_stands c.args.site.now s c.in-On.node c.in-On.node c.comes.new.self is c.in-On.is none.wires (λ core ports r. r) refl before
+    rw (hears_none s (as_comes c.args.what) none.input)
+    (still_stands c.args.site.now s c.in-On.node c.in-On.node c.comes.new.self is c.in-On.is none.wires (λ core ports r. r) refl before
     c.comes.new.entries.items none.noted)

@@ -1,6 +1,5 @@
 -- One after another comes.
-use Rattle.std.proofs.Common.{◌≡◌, ◌≤◌, ◌+◌, ◌∙◌, ◌++◌, ◌∷◌, Bool, true, false, [], ℕ, length, map, take, drop, refl, sym, ap, subst, arith}
-use Rattle.std.proofs.Common.{take_all}
+use Rattle.std.proofs.Common.{◌≡◌, ◌≤◌, ◌+◌, ◌∙◌, ◌++◌, ◌∷◌, Bool, true, false, [], ℕ, length, map, take, drop, refl, sym, ap, subst, arith, take_all}
 use Rattle.lone_laws.specs.alone.Lone.{Lone}
 use Rattle.one_end.specs.Alone.{RunsAlone}
 use Rattle.one_end.specs.Running.{cause_of, answers_alone, all_answered, HasAnswered, RunsYet}

@@ -14,4 +14,5 @@ returns c =
     let joined : (((((more ++ codes "set" ∷ []) ++ host ∷ []) ++ gate ∷ []) ++ param ∷ []) ++ value ∷ [])
     ≡ more ++ (codes "set" ∷ host ∷ gate ∷ param ∷ value ∷ []) = simp append_assoc in
     subst (λ ws. HoldsWords start (first ∷ ws) c.write_value.new.text) joined
-    (c.write_value.ensures start first _ (c.byte-3.ensures start first _ (c.byte-2.ensures start first _ (c.byte.ensures start first _ (c.word.ensures start first more h)))))
+    (c.write_value.ensures start first _ (c.byte-3.ensures start first _
+    (c.byte-2.ensures start first _ (c.byte.ensures start first _ (c.word.ensures start first more h)))))

@@ -7,7 +7,8 @@ use Rattle.schedule_text.specs.Entries.{entry_line, entry_lines}
 use Rattle.schedule_text.specs.Growth.{start_in, HoldsText}
 use Rattle.schedule_text.proofs.write.write_step.Goals as goal
 
-whole : (c : goal.After-finish) → HoldsText (start_in c.args.out.now.items) (entry_line (entry.Echo c.args.line.now) ++ entry_lines c.args.entries.now) c.write_each.new.text
+whole : (c : goal.After-finish) → HoldsText (start_in c.args.out.now.items)
+    (entry_line (entry.Echo c.args.line.now) ++ entry_lines c.args.entries.now) c.write_each.new.text
 whole c =
     let start = start_in c.args.out.now.items in
     let begun : HoldsText start [] c.begin.new.self = subst (λ v. HoldsText (start_in v.items) [] c.begin.new.self) c.out.view_is c.begin.ensures in

@@ -1,8 +1,8 @@
-use Rattle.std.proofs.Common.{◌≡◌, ◌≢◌, ℕ, suc, zero, List, [], ◌∷◌, ◌++◌, Bool, true, false, eqb, cond, Some, None, drop, refl, ap, ◌∙◌, arith}
+use Rattle.std.proofs.Common.{◌≡◌, ◌≢◌, ℕ, suc, List, [], ◌∷◌, ◌++◌, Bool, true, false, eqb, cond, Some, drop, refl, ap, ◌∙◌, arith}
 use Rattle.std.specs.Prelude.{unwrap_or}
 use Rattle.std.proofs.lemmas.Bool.{eqb-true}
 use Rattle.swp_frame.specs.Signal.{Symbol, bit_0, bit_1, break, run_of, Mark, no_mark, start_mark, end_mark, break_mark, mark_of}
-use Rattle.swp_decode.specs.Readings.{ReadSymbol, symbols, front_after, front_of, start_after, start_of}
+use Rattle.swp_decode.specs.Readings.{ReadSymbol, symbols, front_of, start_after, start_of}
 use Rattle.swp_decode.specs.Starts.{place_in_front, first_bit, IsSinceStart}
 use Rattle.swp_decode.proofs.laws.start_is_the_place_of_the_first_bit.Goals as goal
 
@@ -10,13 +10,7 @@ use Rattle.swp_decode.proofs.laws.start_is_the_place_of_the_first_bit.Goals as g
 -- the first 1 bit of a run
 front_of_one : (r : ReadSymbol) (older : List ReadSymbol) → r.symbol ≡ bit_1 → run_of (symbols older) ≡ 0
     → front_of (r ∷ older) ≡ Some (place_in_front (r ∷ older))
-front_of_one r [] is e = ap (λ s. front_after s r.place None) is
-front_of_one r (f ∷ older) is e = ap (λ s. front_after s r.place (front_of (f ∷ older))) is ∙ by_symbol f.symbol refl
-  where
-    by_symbol : (s : Symbol) → f.symbol ≡ s → Some (unwrap_or (front_of (f ∷ older)) r.place) ≡ Some (place_in_front (r ∷ f ∷ older))
-    by_symbol bit_0 same = rw same refl
-    by_symbol bit_1 same = let longer = ap (λ s. run_of (s ∷ symbols older)) same in absurd (omega (arith, longer, e))
-    by_symbol break same = rw same refl
+front_of_one r older is e = grind arith
 
 front_of_run : (n : ℕ) (readings : List ReadSymbol) → run_of (symbols readings) ≡ suc n → front_of readings ≡ Some (place_in_front (drop n readings))
 front_of_run n [] e = absurd (omega (arith, e))
@@ -25,14 +19,7 @@ front_of_run n (r ∷ older) e = by_symbol r.symbol refl n e (λ m run. front_of
     by_symbol : (s : Symbol) → r.symbol ≡ s → (n : ℕ) → run_of (symbols (r ∷ older)) ≡ suc n
         → ((m : ℕ) → run_of (symbols older) ≡ suc m → front_of older ≡ Some (place_in_front (drop m older)))
         → front_of (r ∷ older) ≡ Some (place_in_front (drop n (r ∷ older)))
-    by_symbol bit_0 same n e further = let none = ap (λ s. run_of (s ∷ symbols older)) same in absurd (omega (arith, none, e))
-    by_symbol break same n e further = let none = ap (λ s. run_of (s ∷ symbols older)) same in absurd (omega (arith, none, e))
-    by_symbol bit_1 same zero e further =
-        let longer = ap (λ s. run_of (s ∷ symbols older)) same in front_of_one r older same (omega (arith, longer, e))
-    by_symbol bit_1 same (suc m) e further =
-        let longer = ap (λ s. run_of (s ∷ symbols older)) same in
-        ap (λ s. front_after s r.place (front_of older)) same
-        ∙ ap (λ f. Some (unwrap_or f r.place)) (further m (omega (arith, longer, e)))
+    by_symbol s same n e further = grind arith
 
 start_at_first_bit : (readings : List ReadSymbol) → mark_of (symbols readings) ≡ start_mark → start_of readings ≡ first_bit readings
 start_at_first_bit [] h = absurd (cc)

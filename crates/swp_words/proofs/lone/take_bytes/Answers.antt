@@ -1,6 +1,5 @@
 -- A piece comes to a node alone.
-use Rattle.std.proofs.Common.{◌≡◌, ◌≤◌, ◌+◌, ◌++◌, ◌∙◌, ℕ, true, false, length, take, arith, subst, refl, ap}
-use Rattle.std.proofs.Common.{take_all}
+use Rattle.std.proofs.Common.{◌≡◌, ◌≤◌, ◌+◌, ◌++◌, ◌∙◌, ℕ, true, false, length, take, arith, subst, refl, ap, take_all}
 use Rattle.std.proofs.lemmas.List.{take-take, length-take-le}
 use Rattle.swp_words.specs.Records.{most_bytes}
 use Rattle.swp_words.specs.Ends.{IsWaitingAlone, IsCutAlone, HasHeardAlone}

@@ -23,8 +23,7 @@ returns-in_err-gather_hex-clause-ends g c =
     let tells = g.K.Sink.tells in
     let after = g.K.Sink.written c.gather_hex.new.sink in
     let k = c.in_ok-gather_head.ensures.goes least lines before h in
-    let enough : least ≤ length ((lines ++ head) ++ hex_of body) =
-    omega (arith, enough_text k, length-append (lines ++ head) (hex_of body)) in
+    let enough : least ≤ length ((lines ++ head) ++ hex_of body) = omega (arith, enough_text k, length-append (lines ++ head) (hex_of body)) in
     let front = c.in_err-gather_hex.ensures.ends least (lines ++ head) before k in
     subst (λ l. IsFront tells least l before after) (parts lines head (hex_of body) line_feed) (front_further line_feed enough front))
 

@@ -15,8 +15,7 @@ overwrite-requires c =
     let s = c.self.inside in
     let some : 0 < s.free_len = subst (λ (v : BlocksState). 0 < v.listed) (sym c.self.view_is) c.reach.ensures.listed in
     let first = first_free s.region.items s.next.items s.heads.items s.free s.free_len c.self.invariant.0 some in
-    let fits : 32 * s.free + length c.args.bytes.now ≤ length s.region.items =
-    omega (arith, first.0, c.self.invariant.0.bytes, c.requires.block) in
+    let fits : 32 * s.free + length c.args.bytes.now ≤ length s.region.items = omega (arith, first.0, c.self.invariant.0.bytes, c.requires.block) in
     subst (λ r. 32 * s.free + length c.args.bytes.now ≤ length r) (sym c.deref_mut.ensures.value) fits
 
 some_free : (c : goal.After-self-4-1) → 0 < c.self.inside.free_len

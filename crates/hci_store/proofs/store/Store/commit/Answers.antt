@@ -64,7 +64,8 @@ returns-in-Err-append-clause-cut g c = λ tells failed.
       room = omega (arith, ap length first, ap length second, rw (← c.self.view_is) at c.in-Ok.ensures.room);
     } in
     keeps_then left old.journal.state old.tables c.args.command.now first second (rw (← c.self.view_is) at c.in-Ok.ensures.state)
-    (subst (λ t. Keeps left t (count_of k.journal.state) ⊎ Keeps left (apply t c.args.command.now) (count_of (appended k.journal.state c.as_slice-in-Ok.result.now)))
+    (subst (λ t. Keeps left t (count_of k.journal.state) ⊎ Keeps left (apply t c.args.command.now)
+    (count_of (appended k.journal.state c.as_slice-in-Ok.result.now)))
     (rw (← c.self.view_is) at c.in-Ok.ensures.tables)
     (append_left (g.N.Nv.content k.journal.nv) left k.journal.state k.tables (c.in-Err-append.ensures.said tells)
     (c.self.invariant.holds (rw (← c.self.view_is) at c.in-Ok.ensures.live) tells) c.as_slice-in-Ok.result.now c.args.command.now fits second c.requires.command

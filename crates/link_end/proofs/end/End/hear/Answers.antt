@@ -6,8 +6,7 @@ use Rattle.link_messages.specs.declared.inbox.Inbox.{Inbox}
 use Rattle.link_messages.specs.Incoming.{IsInboxReady, messages_under_way}
 use Rattle.link_end.specs.Ends.{LeavesBoxes}
 use Rattle.link_end.proofs.HearLemmas.{over_stands, over_told, may_receive, is_of_frame, cut_enough, goes_on, breaks_off, fault_lies, broken_elsewhere}
-use Rattle.link_end.proofs.HearLemmas.{received_lies}
-use Rattle.link_end.proofs.HearLemmas.{some_brought}
+use Rattle.link_end.proofs.HearLemmas.{received_lies, some_brought}
 use Rattle.link_end.proofs.BoxLemmas.{leaves_more, leaves_same}
 use Rattle.link_end.proofs.«end».End.hear.Goals as goal
 

@@ -4,8 +4,7 @@ use Rattle.node_machine.specs.Parts.{Deed as DeedOf}
 use Rattle.node_deeds.specs.declared.deeds.Deed.{Deed}
 use Rattle.node_core.proofs.Steps.{GoesOn, goes_on, goes_no_further, all_gone, doable_then, split_at, none_left}
 use Rattle.node_core.proofs.Tasks.{next_doable, next_shown}
-use Rattle.node_core.proofs.Faults.{faults_then}
-use Rattle.node_core.proofs.Faults.{ran_is}
+use Rattle.node_core.proofs.Faults.{faults_then, ran_is}
 use Rattle.node_core.proofs.node.Node.carry_all.Goals as goal
 
 pub carry_out-requires-clause-doable : goal.carry_out-requires-clause-doable

@@ -1,7 +1,7 @@
 use Rattle.std.proofs.Common.{◌≡◌, ℕ, [], map, sym, ap, ◌∙◌, subst}
 use Rattle.std.specs.Prelude.{Option, Some, None, option_map, if◌then◌else◌}
-use Rattle.node_core.proofs.Words.{AreNotes, AtEnd, IsInStep, LinkInput, LinkReport, Port, TimePasses, Work, after_input, all_come, entries_for, got_at, has_come}
-use Rattle.node_core.proofs.Words.{input_of_end, own_side, port_at, report, report_told, told, unnumbered, whole_acked, with_port}
+use Rattle.node_core.proofs.Words.{AreNotes, AtEnd, IsInStep, LinkInput, LinkReport, Port, TimePasses, Work, after_input, all_come, entries_for, got_at}
+use Rattle.node_core.proofs.Words.{has_come, input_of_end, own_side, port_at, report, report_told, told, unnumbered, whole_acked, with_port}
 use Rattle.node_core.specs.declared.inputs.NodeInput.TheVariants.{At}
 use Rattle.node_core.specs.declared.inputs.Came.{Came}
 use Rattle.node_core.specs.Running.{becomes_active_by}

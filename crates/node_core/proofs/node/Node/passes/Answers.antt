@@ -3,8 +3,7 @@ use Rattle.node_core.proofs.Words.{Brings, IsInStep, got_at, have_turns}
 use Rattle.node_core.proofs.HavingTurns.{no_some}
 use Rattle.node_core.proofs.Elsewhere.{is_host_at}
 use Rattle.node_core.proofs.Passing.{PassesOn, pass_rests, pass_begins, next_few, pass_goes_on, pass_stops, pass_ends, pass_over, pass_full}
-use Rattle.node_core.proofs.Faults.{faults_stay, faults_then}
-use Rattle.node_core.proofs.Faults.{ran_is}
+use Rattle.node_core.proofs.Faults.{faults_stay, faults_then, ran_is}
 use Rattle.node_core.proofs.node.Node.passes.Goals as goal
 
 pub loop-i-init : goal.loop-i-init

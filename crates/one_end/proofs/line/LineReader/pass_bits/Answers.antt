@@ -1,19 +1,15 @@
 -- Periods with bits are taken at once.
-use Rattle.std.proofs.Common.{◌≡◌, ◌≢◌, ◌∙◌, ℕ, suc, ◌+◌, ◌-◌, ◌/◌, ◌%◌, ◌^◌, ◌<◌, ◌≤◌, Bool, true, false, cond, List, [], ◌∷◌, ◌++◌, Option, Some, None}
-use Rattle.std.proofs.Common.{length, reverse, take, refl, sym, ap, subst, arith, rules}
-use Rattle.std.specs.Prelude.{◌==◌, ◌&&◌, not, is_some, if◌then◌else◌}
-use Rattle.std.specs.List.{filter, cons_option}
-use Rattle.std.proofs.Math.Nat.{mod-eq_of_lt}
-use Rattle.std.proofs.lemmas.Bool.{ne_eqb}
+use Rattle.std.proofs.Common.{◌≡◌, ◌≢◌, ◌∙◌, ℕ, suc, ◌+◌, ◌-◌, ◌/◌, ◌%◌, ◌^◌, ◌<◌, ◌≤◌, Bool, true, false, List, [], ◌∷◌, ◌++◌, Option, Some, length, reverse}
+use Rattle.std.proofs.Common.{take, refl, sym, ap, subst, arith, rules}
+use Rattle.std.specs.Prelude.{◌==◌, ◌&&◌, is_some, if◌then◌else◌}
+use Rattle.std.specs.List.{cons_option}
 use Rattle.std.proofs.lemmas.List.{length-take-le}
-use Rattle.std.proofs.lemmas.Nat.{shr_below, pow_pos}
 use lib.Count.{count_leading_zeros}
 use Rattle.swp_line.specs.declared.period.Period.{Period}
-use Rattle.swp_line.specs.declared.period.Period.TheVariants.{Bits, Suspended, ResumeAsked, Deactivated}
 use Rattle.swp_line.specs.Periods.{period_at}
 use Rattle.swp_frame.specs.declared.fed.Fed.TheVariants.{Nothing}
 use Rattle.swp_frame.specs.declared.word.Word.{Word}
-use Rattle.swp_frame.specs.Signal.{Symbol, break, symbol_of, run_of, no_mark, mark_of, since_start, read_on, HasNoMark}
+use Rattle.swp_frame.specs.Signal.{Symbol, break, symbol_of, run_of, no_mark, mark_of, read_on, HasNoMark}
 use Rattle.swp_frame.specs.Verdicts.{verdict_after}
 use Rattle.swp_frame.specs.Words.{low_bits, word_bits, IsWordBehind, part_bits}
 use Rattle.swp_frame.proofs.Places.{marks_between, no_marks}
@@ -25,8 +21,8 @@ use Rattle.swp_decode.proofs.FurtherFrames.{reverse_onto, bits_of_word, AreBits-
 use Rattle.swp_decode.proofs.Marks.{IsNext, next_place, below_sooner}
 use Rattle.lone_laws.specs.alone.Lone.{LoneCause}
 use Rattle.lone_laws.specs.alone.Lone.LoneCause.{TickComes, StartComes, StopComes}
-use Rattle.lone_laws.specs.alone.Ends.{verdict_brings, wire_read, symbols_read, reading_brings, has_bits, is_deactivation, is_unstarted, comes_if}
-use Rattle.lone_laws.specs.alone.Ends.{periods_among, is_tick_period, line_brings, bytes_bring}
+use Rattle.lone_laws.specs.alone.Ends.{wire_read, symbols_read, reading_brings, has_bits, is_deactivation, is_unstarted, comes_if, periods_among, line_brings}
+use Rattle.lone_laws.specs.alone.Ends.{bytes_bring}
 use Rattle.lone_laws.specs.alone.Ends.EndForm.{OnLine}
 use Rattle.one_end.specs.Reading.{wire_of}
 use Rattle.one_end.proofs.line.LineReader.pass_bits.Goals as goal
@@ -35,8 +31,7 @@ use Rattle.one_end.proofs.line.LineReader.pass_bits.Goals as goal
 -- ---- the wire that is read
 
 wire_if : (b : Bool) → (if b then S2 else S1) ≡ wire_of b
-wire_if true = refl
-wire_if false = refl
+wire_if b = grind arith
 
 wire_is : (number : ℕ) (is_clf : Bool) → (number == 0) ≡ is_clf → wire_read number ≡ wire_of is_clf
 wire_is number is_clf role = wire_if (number == 0) ∙ ap wire_of role
@@ -53,11 +48,7 @@ are_read false given s1 s2 known bytes clf uicc first second =
 -- ---- no mark
 
 none_at_front : (n to : ℕ) → n < 2 ^ (64 - to) → n / 2 ^ (64 - to) % 2 ^ to ≡ 0
-none_at_front n to small =
-    let same : 64 - to ≡ 0 + (64 - to) = omega arith in
-    let less : n / 2 ^ (64 - to) < 1 = shr_below n 0 (64 - to) (subst (λ k. n < 2 ^ k) same small) in
-    let none : n / 2 ^ (64 - to) ≡ 0 = omega (arith, less) in
-    ap (λ m. m % 2 ^ to) none ∙ mod-eq_of_lt (pow_pos to)
+none_at_front n to small = grind arith
 
 -- no mark ends with the first bits of a word, up to its first mark
 quiet_front : (word : Word) (to : ℕ) (seen : List Symbol) → word.marks < 2 ^ 64 → to ≤ count_leading_zeros 64 word.marks → to ≤ 64
@@ -75,55 +66,36 @@ quiet_front word to seen fits sooner within behind =
 -- ---- one period
 
 no_break : (bit : Bool) → Some break ≡ Some (symbol_of bit) → ⊥
-no_break true e = absurd (cc)
-no_break false e = absurd (cc)
+no_break bit e = grind arith
 
 -- a period with a bit on a wire has bits
 with_bit : (wire : Wire) (p : Option Period) (bit : Bool) → symbol_on wire p ≡ Some (symbol_of bit)
     → (has_bits p ≡ true) × (is_deactivation p ≡ false) × (is_some p ≡ true)
-with_bit S1 (Some (Bits s1 s2)) bit e = (refl, refl, refl)
-with_bit S2 (Some (Bits s1 s2)) bit e = (refl, refl, refl)
-with_bit S1 (Some Suspended) bit e = absurd (cc)
-with_bit S2 (Some Suspended) bit e = absurd (cc)
-with_bit S1 (Some ResumeAsked) bit e = absurd (cc)
-with_bit S2 (Some ResumeAsked) bit e = absurd (cc)
-with_bit S1 (Some Deactivated) bit e = absurd (no_break bit e)
-with_bit S2 (Some Deactivated) bit e = absurd (no_break bit e)
-with_bit S1 None bit e = absurd (no_break bit e)
-with_bit S2 None bit e = absurd (no_break bit e)
+with_bit wire p bit e = grind arith
 
 one_more : (n : ℕ) → suc n ≡ n + 1
 one_more n = omega arith
 
 -- it is one period more
 period_more : (byte : ℕ) (older : List ℕ) → is_some (period_at byte) ≡ true → periods_among (byte ∷ older) ≡ periods_among older + 1
-period_more byte older is =
-    let rest : List ℕ = filter (λ b. is_some (period_at b)) older in
-    ap (λ b. length (cond b (byte ∷ rest) rest)) is ∙ one_more (length rest)
+period_more byte older is = grind arith
 
 bits_begin : (p : Option Period) (before : Bool) → has_bits p ≡ true → (if has_bits p then false else (if is_deactivation p then true else before)) ≡ false
 bits_begin p before is = ap (λ b. if b then false else (if is_deactivation p then true else before)) is
 
 quiet_verdict : (since : Option (List Symbol)) → verdict_after no_mark since ≡ Nothing
-quiet_verdict None = refl
-quiet_verdict (Some since) = refl
+quiet_verdict since = grind arith
 
 -- with a bit that ends no mark nothing is read
 no_reading : (o : Option Symbol) (bit : Bool) (seen : List Symbol) → o ≡ Some (symbol_of bit) → mark_of (symbol_of bit ∷ seen) ≡ no_mark
     → reading_brings o seen ≡ []
-no_reading o bit seen is none =
-    ap (λ s. reading_brings s seen) is
-    ∙ (ap (λ mark. verdict_brings (verdict_after mark (since_start seen))) none ∙ ap verdict_brings (quiet_verdict (since_start seen)))
+no_reading o bit seen is none = grind arith
 
 no_start : (a b c : Bool) → c ≡ false → (a && b && c) ≡ false
-no_start true true c e = e
-no_start true false c e = refl
-no_start false true c e = refl
-no_start false false c e = refl
+no_start a b c e = grind arith
 
 no_tick : (a : Bool) (n : ℕ) → n % 512 ≢ 0 → (a && n % 512 == 0) ≡ false
-no_tick true n other = ne_eqb (n % 512) 0 other
-no_tick false n other = refl
+no_tick a n other = grind arith
 
 not_512th : (p q : ℕ) → q ≡ p + 1 → p % 512 + 1 < 512 → q % 512 ≢ 0
 not_512th p q is few none = absurd (omega (arith, is, few, none))
@@ -136,16 +108,7 @@ nothing_comes a d t read no_a no_read no_d no_t = rw (no_a, no_read, no_d, no_t)
 one_passed : (number byte : ℕ) (older : List ℕ) (bit : Bool) → symbol_on (wire_read number) (period_at byte) ≡ Some (symbol_of bit)
     → mark_of (symbol_of bit ∷ symbols_read (wire_read number) older) ≡ no_mark → is_unstarted older ≡ false → periods_among older % 512 + 1 < 512
     → line_brings number byte older ≡ []
-one_passed number byte older bit is none started few =
-    let p : Option Period = period_at byte in
-    let has = with_bit (wire_read number) p bit is in
-    nothing_comes (not (number == 0) && has_bits p && is_unstarted older) (is_deactivation p) (is_tick_period byte older)
-    (reading_brings (symbol_on (wire_read number) p) (symbols_read (wire_read number) older))
-    (no_start (not (number == 0)) (has_bits p) (is_unstarted older) started)
-    (no_reading (symbol_on (wire_read number) p) bit (symbols_read (wire_read number) older) is none)
-    has.1
-    (no_tick (is_some p) (periods_among (byte ∷ older))
-    (not_512th (periods_among older) (periods_among (byte ∷ older)) (period_more byte older has.2) few))
+one_passed number byte older bit is none started few = grind arith
 
 -- ---- many periods
 

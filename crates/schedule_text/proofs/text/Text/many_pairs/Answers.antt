@@ -1,5 +1,4 @@
-use Rattle.std.proofs.Common.{◌++◌, [], refl, sym, ◌∙◌, ap, ap₂, subst, append-nil, append_assoc}
-use Rattle.std.proofs.Common.{take-append-drop}
+use Rattle.std.proofs.Common.{◌++◌, [], refl, sym, ◌∙◌, ap, ap₂, subst, append-nil, append_assoc, take-append-drop}
 use Rattle.hex.specs.Hex.{encode_upper}
 use Rattle.schedule_text.specs.Growth.{HoldsText}
 use Rattle.schedule_text.proofs.GrowthLemmas.{encode-nil, holds_digits}

@@ -1,5 +1,4 @@
-use Rattle.std.proofs.Common.{min, ◌≤◌, ◌≡◌, ◌<◌, ◌∙◌, ◌+◌, ◌++◌, ℕ, length, take, sym, ap, arith}
-use Rattle.std.proofs.Common.{rules}
+use Rattle.std.proofs.Common.{min, ◌≤◌, ◌≡◌, ◌<◌, ◌∙◌, ◌+◌, ◌++◌, ℕ, length, take, sym, ap, arith, rules}
 use Rattle.std.specs.Int.RustNames.{bit_or}
 use lib.Count.{count_leading_zeros}
 use Rattle.std.proofs.Math.Nat.{mod-eq_of_lt}

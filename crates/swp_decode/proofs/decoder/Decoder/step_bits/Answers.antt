@@ -1,5 +1,4 @@
-use Rattle.std.proofs.Common.{min, ◌≤◌, ◌≡◌, ◌<◌, ◌∙◌, ◌+◌, ◌-◌, ◌++◌, ℕ, List, false, length, take, get_or, Some, sym, ap, ap₂, arith}
-use Rattle.std.proofs.Common.{append-nil, rules}
+use Rattle.std.proofs.Common.{min, ◌≤◌, ◌≡◌, ◌<◌, ◌∙◌, ◌+◌, ◌-◌, ◌++◌, ℕ, List, false, length, take, get_or, Some, sym, ap, ap₂, arith, append-nil, rules}
 use Rattle.std.specs.Int.RustNames.{bit_or}
 use lib.Count.{count_leading_zeros}
 use Rattle.std.proofs.Math.Nat.{mod-eq_of_lt}

@@ -1,11 +1,10 @@
 use Rattle.std.proofs.Common.{◌≡◌, ℕ, suc, zero, ◌+◌, ◌-◌, ◌*◌, ◌/◌, ◌%◌, ◌^◌, ◌<◌, ◌≤◌, min, Bool, true, false, not, ◌&&◌, cond, eqb, ltb, List, [], ◌∷◌, ◌++◌}
 use Rattle.std.proofs.Common.{length, map, take, drop, bit_and, refl, sym, ap, ap₂, ◌∙◌, subst, arith, eqb-true, length-append}
 use Rattle.std.proofs.Math.Nat.{mod-eq_of_lt}
-use Rattle.std.proofs.lemmas.Bool.{eq-eqb, ne_eqb, cases_eq, agree_below, agree_below_at, and_parts}
+use Rattle.std.proofs.lemmas.Bool.{agree_below, agree_below_at, and_parts}
 use Rattle.std.proofs.lemmas.List.{length-map, length-take-le}
 use Rattle.std.proofs.lemmas.Nat.{and_block, mod_below, pow_pos}
 use mir.Val.{bool_byte}
-use mathlib.Core.Logic.{inl, inr}
 use Rattle.swp_crc.specs.Division.{spelled_number}
 use Rattle.swp_crc.proofs.Numbers.{number_of-lt, number_of-append, number_of-not}
 use Rattle.swp_frame.specs.Words.{low_bits, places_of_marks, places_put_in}
@@ -27,14 +26,10 @@ length-both (x ∷ xs) (y ∷ ys) zero l m = absurd (omega (arith, l))
 length-both (x ∷ xs) (y ∷ ys) (suc n) l m = ap suc (length-both xs ys n (omega (arith, l)) (omega (arith, m)))
 
 number_of-cons : (b : Bool) (bs : List Bool) → spelled_number (b ∷ bs) ≡ bool_byte b * 2 ^ length bs + spelled_number bs
-number_of-cons true bs = omega arith
-number_of-cons false bs = omega arith
+number_of-cons b bs = grind arith
 
 digit-and : (x y : Bool) → bool_byte (x && y) ≡ bit_and (bool_byte x) (bool_byte y)
-digit-and true true = refl
-digit-and true false = refl
-digit-and false true = refl
-digit-and false false = refl
+digit-and x y = grind arith
 
 number_of-both : (xs ys : List Bool) (n : ℕ) → length xs ≡ n → length ys ≡ n → spelled_number (both xs ys) ≡ bit_and (spelled_number xs) (spelled_number ys)
 number_of-both [] [] n l m = refl
@@ -60,48 +55,22 @@ abbrev run_of_seven : Bool → Bool → Bool → Bool → Bool → Bool → Bool
 run_of_seven a b c d e f g = cond g (cond f (cond e (cond d (cond c (cond b (cond a 7 6) 5) 4) 3) 2) 1) 0
 
 same_test : (k ones : ℕ) → k < 7 → eqb ones k ≡ eqb (min 7 ones) k
-same_test k ones h = elim (cases_eq ones k) [
-  | inl is ↦ eq-eqb ones k is ∙ sym (eq-eqb (min 7 ones) k (omega (arith, is, h)))
-  | inr other ↦ ne_eqb ones k other ∙ sym (ne_eqb (min 7 ones) k (λ e. other (omega (arith, e, h))))
-]
+same_test k ones h = grind arith
 
 five : (a b c d e f g : Bool) → eqb (run_of_seven a b c d e f g) 5 ≡ (((((g && f) && e) && d) && c) && not b)
-five a b c d e f false = refl
-five a b c d e false true = refl
-five a b c d false true true = refl
-five a b c false true true true = refl
-five a b false true true true true = refl
-five a false true true true true true = refl
-five false true true true true true true = refl
-five true true true true true true true = refl
+five a b c d e f g = grind arith
 
 six : (a b c d e f g : Bool) → eqb (run_of_seven a b c d e f g) 6 ≡ ((((((g && f) && e) && d) && c) && b) && not a)
-six a b c d e f false = refl
-six a b c d e false true = refl
-six a b c d false true true = refl
-six a b c false true true true = refl
-six a b false true true true true = refl
-six a false true true true true true = refl
-six false true true true true true true = refl
-six true true true true true true true = refl
+six a b c d e f g = grind arith
 
 one_more : (a b c d e f g : Bool) (ones : ℕ) → min 7 ones ≡ run_of_seven a b c d e f g → min 7 (suc ones) ≡ run_of_seven b c d e f g true
-one_more a b c d e f false ones h = omega (arith, h)
-one_more a b c d e false true ones h = omega (arith, h)
-one_more a b c d false true true ones h = omega (arith, h)
-one_more a b c false true true true ones h = omega (arith, h)
-one_more a b false true true true true ones h = omega (arith, h)
-one_more a false true true true true true ones h = omega (arith, h)
-one_more false true true true true true true ones h = omega (arith, h)
-one_more true true true true true true true ones h = omega (arith, h)
+one_more a b c d e f g ones h = grind arith
 
 and_false : (x : Bool) → false ≡ (x && false)
-and_false true = refl
-and_false false = refl
+and_false x = grind arith
 
 and_true : (x : Bool) → x ≡ (x && true)
-and_true true = refl
-and_true false = refl
+and_true x = grind arith
 
 -- the bits before each, where these stand in front
 abbrev earlier : List Bool → List Bool → List Bool
@@ -167,9 +136,7 @@ front_right : (ones : ℕ) → ones ≤ 7
     × (min 7 ones
     ≡ run_of_seven (front_bit ones 6) (front_bit ones 5) (front_bit ones 4) (front_bit ones 3) (front_bit ones 2) (front_bit ones 1) (front_bit ones 0))
 front_right ones h =
-    let parts = and_parts _ _ (agree_below_at (λ ones. eqb (spelled_number (front_of_seven ones)) (2 ^ ones - 1) && eqb (min 7 ones) (run_of_seven
-    (front_bit ones 6) (front_bit ones 5) (front_bit ones 4) (front_bit ones 3) (front_bit ones 2) (front_bit ones 1)
-    (front_bit ones 0))) (λ ones. true) 8 ones front_checks (omega arith)) in
+    let parts = and_parts _ _ (grind arith) in
     (eqb-true _ _ parts.0, eqb-true _ _ parts.1)
 
 -- the bits that stand so many places before each of a number's, from what the code computes

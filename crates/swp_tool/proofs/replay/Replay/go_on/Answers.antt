@@ -16,7 +16,8 @@ use Rattle.swp_tool.specs.declared.replay.Halt.{Halt}
 use Rattle.swp_tool.specs.declared.replay.Replay.{Replay}
 use Rattle.swp_tool.specs.Schedules.{Schedule, and_said}
 use Rattle.swp_tool.specs.Replays.{Runs, WasStepped, HasPlayed, HasFew, HaltsBefore, halt_of, HaltsOn}
-use Rattle.swp_tool.proofs.Playing.{few_more, has_room, has_rounds_left, settles_few, settles_not, settles_well, under_own_header, halts_on, went_on, halted_there}
+use Rattle.swp_tool.proofs.Playing.{few_more, has_room, has_rounds_left, settles_few, settles_not, settles_well, under_own_header, halts_on, went_on}
+use Rattle.swp_tool.proofs.Playing.{halted_there}
 use Rattle.swp_tool.proofs.Happened.{said_plays, said_text-push}
 use Rattle.swp_tool.proofs.RoundLemmas.{err_is}
 use Rattle.swp_tool.proofs.replay.Replay.go_on.Goals.{in-Settle+in_ok-settle-in-Settle}

@@ -36,7 +36,8 @@ parts-preserved g c =
             after_is = behind tells before under.text items was after under.after_is wrote;
             read = same (under.bytes ++ fed.front) under.text (fed.read under.bytes under.text under.read);
             gathered =
-                of_ok (c.flush.new.pieces.replay.text.items ≡ []) c.flush.result c.is_err.result c.is_err.ensures.value c.if-is_err.false c.flush.ensures.gathered;
+                of_ok (c.flush.new.pieces.replay.text.items
+                ≡ []) c.flush.result c.is_err.result c.is_err.ensures.value c.if-is_err.false c.flush.ensures.gathered;
           };
     }
 
