@@ -3,9 +3,9 @@
 #![tactic(auto)]
 
 use std::fs::{File, Files};
-use std::io;
 use std::process::ExitCode;
 use std::rt::Runtime;
+use std::{env, io};
 use swp_os::{Access, FileNv, StdinSource, StdoutSink, begin, words};
 use swp_tool::{Ended, Status, exit_code, run, status_text};
 
@@ -30,10 +30,13 @@ fn main(rt: HostRuntime) -> ExitCode {
 
 /// Runs the program over standard input and output.
 fn status_of_run<R: Runtime + Input + Print + AllocGlobal + Files<File = File>>(rt: &R) -> Status {
-    let words = match words(rt) {
-        Ok(words) => words,
+    let args = match env::args(rt) {
+        Ok(args) => args,
         Err(error) if error.kind() == io::ErrorKind::OutOfMemory => return Status::NoMemory,
         Err(_) => return Status::BadWords,
+    };
+    let Ok(words) = words(rt.alloc(), args) else {
+        return Status::NoMemory;
     };
     let nv = FileNv::new(rt, MEMORY, MADE_AS, LENGTH, access_for(words.as_slice()));
     let mut source = StdinSource::new(rt.reader());

@@ -11,6 +11,7 @@ ghost use Rattle.std.specs.Prelude.{◌<◌, ◌≤◌, ◌^◌, IfOk, IfSome};
 
 use capture::record_capture;
 use status::{Status, exit_code, status_text};
+use std::env;
 use std::fs::{File, Files};
 use std::io;
 use std::process::ExitCode;
@@ -35,10 +36,13 @@ fn main(rt: HostRuntime) -> ExitCode {
 
 /// Runs the program over standard input and output.
 fn status_of_run<R: Runtime + Input + Print + AllocGlobal + Files<File = File>>(rt: &R) -> Status {
-    let words = match words(rt) {
-        Ok(words) => words,
+    let args = match env::args(rt) {
+        Ok(args) => args,
         Err(error) if error.kind() == io::ErrorKind::OutOfMemory => return Status::NoMemory,
         Err(_) => return Status::BadWords,
+    };
+    let Ok(words) = words(rt.alloc(), args) else {
+        return Status::NoMemory;
     };
     let unit = match unit_asked(words.as_slice()) {
         Ok(unit) => unit,

@@ -4,6 +4,7 @@
 #![tactic(auto)]
 
 use flash_nv::FlashNv;
+use std::env;
 use std::fs::{File, Files};
 use std::io;
 use std::process::ExitCode;
@@ -29,10 +30,13 @@ fn main(rt: HostRuntime) -> ExitCode {
 
 /// Runs the program over standard input and output.
 fn status_of_run<R: Runtime + Input + Print + AllocGlobal + Files<File = File>>(rt: &R) -> Status {
-    let words = match words(rt) {
-        Ok(words) => words,
+    let args = match env::args(rt) {
+        Ok(args) => args,
         Err(error) if error.kind() == io::ErrorKind::OutOfMemory => return Status::NoMemory,
         Err(_) => return Status::BadWords,
+    };
+    let Ok(words) = words(rt.alloc(), args) else {
+        return Status::NoMemory;
     };
     let flash = FileFlash::new(rt, FLASH, MADE_AS, access_for(words.as_slice()));
     let nv = FlashNv::new(flash);

@@ -1,10 +1,11 @@
 //! What a program does before all else, and the words that it is given.
-ghost use Rattle.std.specs.Prelude.{pos, ◌≤ℤ◌, IfSome};
+ghost use Rattle.std.specs.Prelude.{pos, ◌≤ℤ◌, ◌≡◌, IfOk, IfSome, drop};
 ghost use Rattle.std.specs.Fd.{file_raw_fd};
+ghost use Rattle.std.specs.Vec.Iter.{into_iter_items};
 
-use std::env::{self, Env};
+use std::alloc::{AllocError, Global};
+use std::env::Args;
 use std::fs::{File, Files};
-use std::io;
 use std::os::fd::AsRawFd;
 use std::os::unix::fs::FileExt;
 
@@ -61,9 +62,17 @@ fn touch_stack(nothing: &File) {
 }
 
 /// The words behind the program's name.
-pub fn words<R: Env + AllocGlobal>(rt: &R) -> io::Result<Vec<String>> {
-    let mut words = Vec::new(rt.alloc());
-    for word in env::args(rt)?.skip(1) {
+///
+/// # Errors
+///
+/// No memory is left.
+pub fn words(alloc: Global, args: Args) -> Result<Vec<String>, AllocError>
+    ensures { IfOk result (λ words. words.items ≡ drop 1 (into_iter_items args)) }
+{
+    let mut words = Vec::new(alloc);
+    let mut left = args;
+    let _name = left.next();
+    'words: while let Some(word) = left.next() {
         words.push(word)?;
     }
     Ok(words)

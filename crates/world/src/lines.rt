@@ -43,7 +43,7 @@ pub(crate) fn send_line(
     bytes.extend_from_slice(message.as_slice())?;
     entries.push(Entry::Sent {
         at,
-        session: near.emitted.max(near.took),
+        session: near.session(),
         pid,
         message: Octets { bytes },
     })?;

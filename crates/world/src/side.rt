@@ -50,8 +50,15 @@ impl Side {
     {
         Place {
             at,
-            session: self.emitted.max(self.took),
+            session: self.session(),
         }
+    }
+
+    /// The number of the end's session: the greatest that it put on the link or took.
+    pub(crate) fn session(&self) -> u32
+        ensures { result ≡ max self.now.emitted self.now.took }
+    {
+        self.emitted.max(self.took)
     }
 
     /// Whether no frame is on its way to the end, and the end is at rest.

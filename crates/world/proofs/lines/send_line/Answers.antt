@@ -38,7 +38,7 @@ returns-clause-stands c l h =
     (c.send_all.ensures.stands k (turn m (Give x))
     (midway false h (rw c.as_slice.ensures at (c.give-refused.ensures.stands m h.here.has.node)) (give_most m x h.here.idle)))
     (λ r. happened_does
-    (gives (c.max.ensures ∙ session_is h)
+    (gives (c.session.ensures ∙ session_is h)
     (accepted c.give-refused.result (give_refusal m x) so (ap is_some c.in_default.is)) bytes c.in_ok-push-2.ensures.items r)
     c.requires.nothing
     (record { cause = Given c.args.at x; none = sym so ∙ c.in_default.is; causes = refl; is = refl }))
