@@ -1,5 +1,6 @@
 -- Appending a packet's data to the chain of its message.
 use Rattle.std.proofs.Common.{◌≡◌, ◌≢◌, ℕ, ◌+◌, ◌*◌, ◌≤◌, List, [], ◌∷◌, ◌++◌, length, sym, ap, ◌∙◌, subst, arith, length-append}
+use Rattle.std.specs.Prelude.{Result, Ok, Err, IsOk, OnOk}
 use Rattle.std.specs.List.{AllByRecursion}
 use Rattle.std.proofs.lemmas.List.{map_push}
 use Rattle.std.proofs.lemmas.List.Sums.{sum_by-cons, sum_by_push}
@@ -21,6 +22,10 @@ held_low pool owner (x ∷ xs) own =
     let rest = held_low pool owner xs own.1 in
     let short = own.0.short in
     omega (arith, rest, short, sum_by-cons (λ (y : Open). blocks_for (length (chain_bytes pool y.chain))) x xs)
+
+pub of_ok : {A E P : Type 0} (r : Result A E) → IsOk r → OnOk r P → P
+of_ok (Ok a) ok p = p
+of_ok (Err e) ok p = absurd (cc ok)
 
 -- there is room for each packet
 pub room_for : (pool : PoolState) (joiner : Joiner) (p : Packet) (chain : Chain) → CanGrow pool joiner p chain

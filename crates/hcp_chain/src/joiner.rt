@@ -51,7 +51,7 @@ impl Joiner {
     ghost use Rattle.hcp_packet.specs.Packets.{packet_seen};
     ghost use Rattle.hcp_chain.specs.Joining.{join_step, is_fifth};
     ghost use Rattle.hcp_chain.specs.Holding.{HoldsChains, IsJoinerReady, KeepsOtherChains, AnswersOutcome, open_messages, held_blocks, whole_in};
-    ghost use Rattle.hcp_chain.specs.TakingOut.{TakesOut, CanGrow, Grown};
+    ghost use Rattle.hcp_chain.specs.TakingOut.{TakesOut};
 
     /// A joiner that keeps its chains for an owner. Nothing is received yet.
     pub fn new(owner: u8) -> Joiner
@@ -95,17 +95,6 @@ impl Joiner {
             None if self.open.is_full() => None,
             None => Some(pool.chain(self.owner)),
         }
-    }
-
-    /// Appends a packet's data to the chain of its message. There is room for it.
-    fn append(&self, pool: &mut Pool, chain: Chain, packet: &PacketView<'_>) -> Chain
-        requires { CanGrow pool.old self.now (packet_seen packet.now) chain }
-        ensures { Grown pool.old pool.new self.now.owner packet.now.pipe chain result self.now.open.items
-            (chain_bytes pool.old chain ++ packet.now.bytes.now) }
-    {
-        let mut chain = chain;
-        let _ = pool.take(&mut chain, packet.bytes);
-        chain
     }
 
     /// Forgets everything at a fault.
@@ -152,7 +141,7 @@ impl Joiner {
         ensures ready { whole_in result ≡ [] → IsJoinerReady pool.new self.new }
     {
         let pipe = packet.pipe;
-        let Some(chain) = self.take_out(pool, pipe) else {
+        let Some(mut chain) = self.take_out(pool, pipe) else {
             return self.refuse(pool, ChainFault::TooManyChains { pipe });
         };
         let len = pool.len(&chain) + packet.bytes.len() as u32;
@@ -160,7 +149,7 @@ impl Joiner {
             pool.give(chain);
             return self.refuse(pool, ChainFault::MessageTooLong { len });
         }
-        let chain = self.append(pool, chain, packet);
+        let _ = pool.take(&mut chain, packet.bytes);
         if packet.last {
             return Joined::Whole { pipe, chain };
         }

@@ -92,9 +92,23 @@ pub refilled : (pool : PoolState) (k : End) (m : Machine) → (k.shdlc.phase ≢
 refilled pool k m (inl idle) h = record { halfway = h; full = inl (stands_idle k.shdlc (waiting_in pool k.outbox) m.shdlc h.link idle) }
 refilled pool k m (inr four) h = record { halfway = h; full = inr (h.link.kept.sender.offered ∙ ap (λ n. m.shdlc.session.acked + n) four) }
 
+-- the fragments that wait were offered, where some do
+pub record IsRefilled (old new : PoolState) (k box : End) : Type 0 where
+  pub stands : (m : Machine) → Halfway k old m → EndStandsFor box new m
+  pub queue : box.outbox.queue ≡ k.outbox.queue
+  pub owner : box.outbox.owner ≡ k.outbox.owner
+  pub inbox : box.inbox ≡ k.inbox
+  pub pool : new ≡ old
+
 -- nothing waits
-pub none_waits : (pool : PoolState) (k : End) (m : Machine) → waiting_in pool k.outbox ≡ [] → Halfway k pool m → EndStandsFor k pool m
-none_waits pool k m none h = record { halfway = h; full = inl none }
+pub refilled_none : (pool : PoolState) (k : End) → (OutboxLiesIn pool k.outbox → waiting_in pool k.outbox ≡ []) → IsRefilled pool pool k k
+refilled_none pool k none = record {
+  stands = λ m h. record { halfway = h; full = inl (none h.sends.lies) };
+  queue = refl;
+  owner = refl;
+  inbox = refl;
+  pool = refl;
+}
 
 -- ---- forgetting
 

@@ -1,5 +1,5 @@
 -- The input forms of a link end.
-use Rattle.std.proofs.Common.{◌≡◌, List, [], arith}
+use Rattle.std.proofs.Common.{◌≡◌, List, arith}
 use Rattle.std.specs.Prelude.{Some}
 use Rattle.swp_base.specs.declared.control_frames.Control.{Control}
 use Rattle.swp_lpdu.specs.Controls.{HasNumbers}

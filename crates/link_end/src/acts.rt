@@ -38,13 +38,11 @@ pub fn bring_to_front(acts: &mut ArrayVec<ActDue, 8>)
     *acts = moved;
 }
 
-// One SHDLC control frame fewer stands before each.
+// One SHDLC control frame fewer stands before each. Some wait, which they seldom do.
+#[inline(never)]
 fn bring_nearer(acts: &mut ArrayVec<ActDue, 8>)
     ensures { acts.new.items ≡ map kept_nearer acts.old.items }
 {
-    if acts.is_empty() {
-        return;
-    }
     let mut moved = ArrayVec::new();
     for act in acts.as_slice() {
         moved.push(ActDue {
@@ -55,21 +53,6 @@ fn bring_nearer(acts: &mut ArrayVec<ActDue, 8>)
     *acts = moved;
 }
 
-// Takes the first one out, where no SHDLC control frame stands before it.
-fn take_front(acts: &mut ArrayVec<ActDue, 8>) -> Option<Act>
-    ensures act { result ≡ front_act acts.old.items }
-    ensures rest { acts.new.items ≡ behind_front acts.old.items }
-{
-    let Some(due) = acts.as_slice().first().copied() else {
-        return None;
-    };
-    if due.behind > 0 {
-        return None;
-    }
-    acts.remove(0);
-    Some(due.frame)
-}
-
 /// Takes the first one out where no SHDLC control frame stands before it, and it is the next frame to be sent. Where there is none,
 /// one SHDLC control frame fewer stands before each.
 pub fn next_act(acts: &mut ArrayVec<ActDue, 8>) -> Option<Act>
@@ -77,24 +60,13 @@ pub fn next_act(acts: &mut ArrayVec<ActDue, 8>) -> Option<Act>
     ensures sent { IfSome result (λ _. acts.new.items ≡ behind_front acts.old.items) }
     ensures nearer { IfNone result (acts.new.items ≡ map kept_nearer (behind_front acts.old.items)) }
 {
-    if acts.is_empty() {
+    let Some(due) = acts.as_slice().first().copied() else {
+        return None;
+    };
+    if due.behind > 0 {
+        bring_nearer(acts);
         return None;
     }
-    next_of_some(acts)
-}
-
-// The same where some wait, which they seldom do.
-#[inline(never)]
-fn next_of_some(acts: &mut ArrayVec<ActDue, 8>) -> Option<Act>
-    ensures act { result ≡ front_act acts.old.items }
-    ensures sent { IfSome result (λ _. acts.new.items ≡ behind_front acts.old.items) }
-    ensures nearer { IfNone result (acts.new.items ≡ map kept_nearer (behind_front acts.old.items)) }
-{
-    match take_front(acts) {
-        Some(act) => Some(act),
-        None => {
-            bring_nearer(acts);
-            None
-        }
-    }
+    acts.remove(0);
+    Some(due.frame)
 }

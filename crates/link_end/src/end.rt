@@ -32,7 +32,7 @@ pub struct End {
 }
 
 impl End {
-    ghost use Rattle.std.specs.Prelude.{◌≡◌, ◌≢◌, ℕ, ◌+◌, ◌-◌, ◌<◌, ◌≤◌, [], List, map, length, true, false, None, Some, Ok, IfOk, IfErr, IfSome, OnOk, OnErr};
+    ghost use Rattle.std.specs.Prelude.{◌≡◌, ◌≢◌, ℕ, ◌+◌, ◌-◌, ◌<◌, ◌≤◌, List, length, true, false, None, Some, Ok, IfOk, IfErr, IfSome, OnOk, OnErr};
     ghost use Rattle.std.specs.Prelude.{is_some, option_map, if◌then◌else◌, IsTrue, OnSome};
     ghost use Rattle.std.specs.Bool.{OnTrue, OnFalse};
     ghost use Rattle.shdlc_core.specs.Kept.{frame_shown};
@@ -41,7 +41,7 @@ impl End {
     ghost use Rattle.hcp_packet.specs.Packets.{IsSendable};
     ghost use Rattle.swp_lpdu.specs.Controls.{lpdu_of, control_of};
     ghost use Rattle.link_laws.specs.machine.Machine.{LinkEnd as Machine, moved, put_down, if_up, with_act, activated, heard, report, after_input, next_frame};
-    ghost use Rattle.link_laws.specs.machine.Machine.{lpdu_input, is_held, oldest, new_link_end, in_front as due_in_front};
+    ghost use Rattle.link_laws.specs.machine.Machine.{lpdu_input, is_held, oldest, new_link_end};
     ghost use Rattle.link_laws.specs.machine.Machine.LinkInput.{Tick, Reset, Start, Stop, FromNode, Fetch};
     ghost use Rattle.link_laws.specs.machine.Machine.Turn.{Give, Hold, FetchMessage};
     ghost use Rattle.link_laws.specs.machine.AtRest.{end_rests};
@@ -91,22 +91,6 @@ impl End {
     }
 
     // Offers the fragments that wait, while there is room for them.
-    #[inline(always)]
-    fn refill(&mut self, pool: &mut Pool)
-        requires { OutboxLiesIn pool.old self.old.outbox }
-        ensures stands { (m : Machine) → Halfway self.old pool.old m → EndStandsFor self.new pool.new m }
-        ensures boxes { (self.new.outbox.queue ≡ self.old.outbox.queue) × (self.new.outbox.owner ≡ self.old.outbox.owner)
-            × (self.new.inbox ≡ self.old.inbox) }
-        ensures acts { self.new.acts ≡ self.old.acts }
-        ensures pool { pool.new ≡ pool.old }
-    {
-        if self.outbox.has_all_cut() {
-            return;
-        }
-        self.offer_more(pool);
-    }
-
-    // The same where some wait, as behind a message that was given.
     #[inline(never)]
     fn offer_more(&mut self, pool: &mut Pool)
         requires { OutboxLiesIn pool.old self.old.outbox }
@@ -163,15 +147,18 @@ impl End {
         self.shdlc.stop();
     }
 
-    // The link goes down. An end that is Down already only drops the control frames that it still has to send. Why a session
+    // The link goes down, where it does. An end that is Down already only drops the control frames that it still has to send. Why a session
     // ended, where one did.
-    fn put_down(&mut self, pool: &mut Pool) -> Option<Cause>
+    fn put_down(&mut self, pool: &mut Pool, down: bool) -> Option<Cause>
         requires { (m : Machine) × EndStandsFor self.old pool.old m }
-        ensures stands { (m : Machine) → EndStandsFor self.old pool.old m → EndStandsFor self.new pool.new (put_down true m) }
-        ensures cause { (m : Machine) → EndStandsFor self.old pool.old m → result ≡ if_up m.shdlc Cause.Act }
+        ensures stands { (m : Machine) → EndStandsFor self.old pool.old m → EndStandsFor self.new pool.new (put_down down m) }
+        ensures cause { (m : Machine) → EndStandsFor self.old pool.old m → result ≡ (if down then if_up m.shdlc Cause.Act else None) }
         ensures few { length self.new.acts.items ≡ length self.old.acts.items }
         ensures elsewhere { EndLeavesOthers pool.old pool.new self.old self.new }
     {
+        if !down {
+            return None;
+        }
         match self.shdlc.state() {
             LinkState::Up => {
                 self.drop_session(pool);
@@ -182,43 +169,10 @@ impl End {
                 None
             }
             LinkState::Down => {
-                self.drop_controls();
+                self.shdlc.drop_controls();
+                bring_to_front(&mut self.acts);
                 None
             }
-        }
-    }
-
-    // The link goes down, where it does. Why a session ended, where one did.
-    fn end_link(&mut self, pool: &mut Pool, down: bool) -> Option<Cause>
-        requires { (m : Machine) × EndStandsFor self.old pool.old m }
-        ensures stands { (m : Machine) → EndStandsFor self.old pool.old m → EndStandsFor self.new pool.new (put_down down m) }
-        ensures cause { (m : Machine) → EndStandsFor self.old pool.old m → result ≡ (if down then if_up m.shdlc Cause.Act else None) }
-        ensures few { length self.new.acts.items ≡ length self.old.acts.items }
-        ensures elsewhere { EndLeavesOthers pool.old pool.new self.old self.new }
-    {
-        if down { self.put_down(pool) } else { None }
-    }
-
-    // The control frames of SHDLC are dropped.
-    fn drop_controls(&mut self)
-        ensures stands { (pool : PoolState) (m : Machine) → EndStandsFor self.old pool m
-            → EndStandsFor self.new pool (record m { shdlc = record m.shdlc { due = [] }; acts = map due_in_front m.acts }) }
-        ensures boxes { (self.new.outbox ≡ self.old.outbox) × (self.new.inbox ≡ self.old.inbox) }
-        ensures few { length self.new.acts.items ≡ length self.old.acts.items }
-    {
-        self.shdlc.drop_controls();
-        bring_to_front(&mut self.acts);
-    }
-
-    // An ACT frame is due from now on, where there is one.
-    fn make_act(&mut self, send: Option<Act>)
-        requires { length self.old.acts.items < 8 }
-        ensures stands { (pool : PoolState) (m : Machine) → EndStandsFor self.old pool m → EndStandsFor self.new pool (with_act send m) }
-        ensures boxes { (self.new.outbox ≡ self.old.outbox) × (self.new.inbox ≡ self.old.inbox) }
-    {
-        if let Some(frame) = send {
-            let behind = self.shdlc.controls_due();
-            self.acts.push(ActDue { frame, behind });
         }
     }
 
@@ -232,8 +186,11 @@ impl End {
         ensures elsewhere { EndLeavesOthers pool.old pool.new self.old self.new }
     {
         let out = self.activation.step(event);
-        let ended = self.end_link(pool, out.ended_link);
-        self.make_act(out.send);
+        let ended = self.put_down(pool, out.ended_link);
+        if let Some(frame) = out.send {
+            let behind = self.shdlc.controls_due();
+            self.acts.push(ActDue { frame, behind });
+        }
         LinkReport {
             ended,
             became_active: out.became_active,
@@ -264,7 +221,9 @@ impl End {
         match receive(&mut self.inbox, pool, control, &taken) {
             Ok(()) => {
                 let acked = self.outbox.acknowledge(pool, taken.acked);
-                self.refill(pool);
+                if !self.outbox.has_all_cut() {
+                    self.offer_more(pool);
+                }
                 LinkReport {
                     began: taken.began,
                     acked,
@@ -514,7 +473,7 @@ impl End {
             }
             LinkState::Down => {
                 ask(&mut self.shdlc, window);
-                self.refill(pool);
+                self.offer_more(pool);
                 Ok(LinkReport::nothing())
             }
         }

@@ -1,5 +1,5 @@
 -- What calls on a pool leave of the messages that come.
-use Rattle.std.proofs.Common.{◌≡◌, ℕ, ◌+◌, ◌-◌, ◌<◌, ◌≤◌, Bool, true, false, List, [], ◌∷◌, ◌++◌, length, refl, sym, ap, ◌∙◌, subst, arith}
+use Rattle.std.proofs.Common.{◌≡◌, ℕ, ◌+◌, ◌-◌, ◌<◌, ◌≤◌, Bool, true, false, List, [], ◌∷◌, ◌++◌, length, min, take, drop, refl, sym, ap, ◌∙◌, subst, arith}
 use Rattle.std.specs.Prelude.{Option, Some, None, nat_lt, if◌then◌else◌}
 use Rattle.std.specs.List.{AllByRecursion}
 use Rattle.std.proofs.lemmas.List.{append-nil}
@@ -8,7 +8,7 @@ use Rattle.block_pool.specs.declared.chain.Chain.{Chain}
 use Rattle.block_pool.specs.Slots.{blocks_for}
 use Rattle.block_pool.specs.Owners.{owner_at, with_used}
 use Rattle.block_pool.specs.Pool.{PoolState, quota_of, used_of, IsApart, chain_bytes, KeepsOthers, Gives}
-use Rattle.block_pool.proofs.HoldingLemmas.{used-with_used, quota-with_used, length-with_used, with_used-with_used}
+use Rattle.block_pool.proofs.HoldingLemmas.{used-with_used, quota-with_used, length-with_used, with_used-with_used, with_used-same}
 use Rattle.hcp_packet.specs.declared.Packet.{Packet}
 use Rattle.hcp_packet.specs.Packets.{is_good, good_of}
 use Rattle.hcp_chain.specs.declared.joiner.Open.{Open}
@@ -151,6 +151,22 @@ dropped_bad old new before whole h none bad gives keeps =
       };
     }
 
+pub kept_good : (pool : PoolState) (box : Inbox) (whole : Open) → HoldsWhole pool box.joiner whole → is_good (chain_bytes pool whole.chain) ≡ true
+    → Keeps pool pool box (record box { got = Some (record { pipe = whole.pipe; chain = whole.chain }) }) whole
+kept_good pool box whole h good = record {
+  lies = record { holds = h.holds; has_quota = h.has_quota; quota = h.quota; used = omega (arith, h.used) };
+  under = refl;
+  got = sym (ap (λ b. if b then (whole.pipe, chain_bytes pool whole.chain) ∷ [] else []) good);
+  used = h.used;
+  elsewhere = record { owners = sym (with_used-same pool.owners box.joiner.owner); others = λ other live away. (live, refl, away) };
+}
+
+-- the first byte of a message tells whether it is a good one
+pub first_tells : (bytes : List ℕ) (count : ℕ) → count ≡ min (length bytes - 0) 1
+    → is_good (take count (take count (drop 0 bytes) ++ drop count (0 ∷ []))) ≡ is_good bytes
+first_tells [] count n = let none : count ≡ 0 = omega arith in rw none refl
+first_tells (b ∷ bytes) count n = let one : count ≡ 1 = omega arith in rw one refl
+
 -- ---- taking a packet
 
 -- what the joiner did with a packet
@@ -177,12 +193,20 @@ counts old new before joiner p whole lies t =
 step_given : (ms : List Message) (p : Packet) (o : JoinOutcome) → (join_step ms p).0 ≡ o → given_by ms (p ∷ []) ≡ message_in o
 step_given ms p o e = append-nil (message_in (join_step ms p).0) ∙ ap message_in e
 
+-- the chain of the message that came whole is still counted
+holds_whole : {old mid : PoolState} {before : Inbox} {joiner : Joiner} {p : Packet} {whole : Open} → InboxLiesIn old before
+    → TakesIn old mid before joiner p (whole ∷ []) → HoldsWhole mid joiner whole
+holds_whole {old} {mid} {before} {joiner} {p} {whole} lies t =
+    let c = counts old mid before joiner p (whole ∷ []) lies t in
+    record { holds = rw t.owner t.holds; has_quota = rw t.owner c.0; quota = rw t.owner c.1; used = rw t.owner c.2 }
+
 pub joins_whole : {old mid new : PoolState} {before after : Inbox} {joiner : Joiner} {p : Packet} {whole : Open} → InboxLiesIn old before
     → IsInboxReady old before → TakesIn old mid before joiner p (whole ∷ [])
     → (join_step (messages_under_way old before) p).0 ≡ Ended whole.pipe (chain_bytes mid whole.chain) → after.joiner ≡ joiner
-    → Keeps mid new (record before { joiner = joiner }) after whole → Joins old new before after (p ∷ [])
-joins_whole {old} {mid} {new} {before} {after} {joiner} {p} {whole} lies ready t outcome same k =
+    → (HoldsWhole mid joiner whole → Keeps mid new (record before { joiner = joiner }) after whole) → Joins old new before after (p ∷ [])
+joins_whole {old} {mid} {new} {before} {after} {joiner} {p} {whole} lies ready t outcome same keeps =
     let o = before.joiner.owner in
+    let k = keeps (holds_whole lies t) in
     let before_chains = only_under_way before ready.fetched in
     let owner : after.joiner.owner ≡ joiner.owner = ap (λ (j : Joiner). j.owner) same in
     record {

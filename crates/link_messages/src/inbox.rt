@@ -1,7 +1,4 @@
 //! The messages that come.
-ghost use Rattle.std.specs.Prelude.{◌≡◌, IsTrue, ◌↔◌, is_ok};
-ghost use Rattle.block_pool.specs.Pool.{IsLive, chain_bytes};
-ghost use Rattle.hcp_packet.specs.Packets.{is_good};
 
 use block_pool::{Chain, Pool};
 use hcp_chain::{ChainFault, Joined, Joiner};
@@ -26,13 +23,10 @@ pub struct Inbox {
 impl Inbox {
     ghost use Rattle.std.specs.Prelude.{◌≡◌, ◌+◌, ◌↔◌, [], ◌∷◌, ◌++◌, IsTrue, IsOk, OnOk, OnErr, IfSome, IfNone, None, is_some};
     ghost use Rattle.std.specs.Option.{option_to_list};
-    ghost use Rattle.block_pool.specs.Owners.{with_used};
-    ghost use Rattle.block_pool.specs.Pool.{used_of, IsLive, chain_bytes};
-    ghost use Rattle.hcp_packet.specs.Packets.{packet_of, good_of};
-    ghost use Rattle.hcp_chain.specs.Joining.{JoinOutcome, join_step, are_taken, message_in};
-    ghost use Rattle.hcp_chain.specs.Joining.JoinOutcome.{Message};
-    ghost use Rattle.hcp_chain.specs.declared.joiner.Open.{Open};
-    ghost use Rattle.hcp_chain.specs.Holding.{HoldsWhole, held_blocks, open_messages};
+    ghost use Rattle.block_pool.specs.Pool.{used_of};
+    ghost use Rattle.hcp_packet.specs.Packets.{packet_of};
+    ghost use Rattle.hcp_chain.specs.Joining.{are_taken};
+    ghost use Rattle.hcp_chain.specs.Holding.{held_blocks};
     ghost use Rattle.link_messages.specs.Incoming.{chains_in, messages_under_way, came_whole, InboxLiesIn, IsInboxReady, InboxLeavesOthers, Joins};
 
     /// Nothing came. What comes is kept in the blocks of this owner.
@@ -63,29 +57,16 @@ impl Inbox {
         match self.joiner.take_view(pool, &packet) {
             Joined::More => Ok(()),
             Joined::Whole { pipe, chain } => {
-                self.keep_good(pool, pipe, chain);
+                let mut first = [0; 1];
+                let count = pool.copy_out(&chain, 0, &mut first);
+                if read_header(&first[..count]).is_err() {
+                    pool.give(chain);
+                    return Ok(());
+                }
+                self.got = Some(Got { pipe, chain });
                 Ok(())
             }
             Joined::Fault(fault) => Err(fault),
-        }
-    }
-
-    // Keeps a message that came whole until it is fetched, where it is a good one.
-    fn keep_good(&mut self, pool: &mut Pool, pipe: u8, chain: Chain)
-        requires whole { HoldsWhole pool.old self.old.joiner (record { pipe = pipe; chain = chain }) }
-        requires fetched { self.old.got ≡ None }
-        ensures lies { InboxLiesIn pool.new self.new }
-        ensures joiner { self.new.joiner ≡ self.old.joiner }
-        ensures open { messages_under_way pool.new self.new ≡ messages_under_way pool.old self.old }
-        ensures got { came_whole pool.new self.new ≡ good_of (message_in (Message pipe (chain_bytes pool.old chain))) }
-        ensures used { used_of pool.new self.old.joiner.owner ≡ held_blocks pool.new (chains_in self.new) }
-        ensures elsewhere { InboxLeavesOthers pool.old pool.new self.old.joiner.owner
-            (self.old.joiner.open.items ++ record { pipe = pipe; chain = chain } ∷ []) (chains_in self.new) }
-    {
-        if is_good(pool, &chain) {
-            self.got = Some(Got { pipe, chain });
-        } else {
-            pool.give(chain);
         }
     }
 
@@ -121,14 +102,4 @@ impl Inbox {
     {
         self.joiner.clear(pool);
     }
-}
-
-// Whether a message isn't empty and its type isn't reserved.
-fn is_good(pool: &Pool, chain: &Chain) -> bool
-    requires { IsLive pool.now chain.now }
-    ensures { result ≡ is_good (chain_bytes pool.now chain.now) }
-{
-    let mut first = [0; 1];
-    let count = pool.copy_out(chain, 0, &mut first);
-    read_header(&first[..count]).is_ok()
 }

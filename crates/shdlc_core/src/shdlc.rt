@@ -341,26 +341,18 @@ impl Shdlc {
                 self.receiver.accept();
                 Some(info.copied())
             }
+            // A gap is answered by REJ, once while it is open.
             1..4 => {
-                self.reject_gap();
+                if !self.receiver.gap_is_open() {
+                    self.due.push(Due::Rej);
+                    self.receiver.open_gap();
+                }
                 None
             }
             _ => {
                 self.due.push(Due::Rr);
                 None
             }
-        }
-    }
-
-    // A gap is answered by REJ, once while it is open.
-    fn reject_gap(&mut self)
-        requires { length self.old.due < 8 }
-        ensures stands { (e : EndState) → ShdlcStandsFor self.old e → ShdlcStandsFor self.new (gap_found e) }
-        ensures added { length self.new.due ≤ length self.old.due + 1 }
-    {
-        if !self.receiver.gap_is_open() {
-            self.due.push(Due::Rej);
-            self.receiver.open_gap();
         }
     }
 

@@ -1,77 +1,96 @@
-use Rattle.std.proofs.Common.{◌≡◌, ◌≢◌, ℕ, ◌-◌, ◌∙◌, sym, ap, subst, List}
-use Rattle.std.specs.Prelude.{◌++◌, []}
+use Rattle.std.proofs.Common.{◌≡◌, ◌≢◌, ◌∙◌, sym, subst, List, arith, rules}
+use Rattle.std.specs.Prelude.{◌++◌, ◌∷◌, []}
+use Rattle.block_pool.specs.declared.chain.Chain.{Chain}
 use Rattle.std.proofs.lemmas.List.{append-nil}
-use Rattle.block_pool.specs.Owners.{with_used}
-use Rattle.block_pool.specs.Pool.{PoolState, IsLive, IsApart, chain_bytes, used_of, Gives, KeepsOthers}
+use Rattle.std.proofs.lemmas.Grind.{common_steps}
+use Rattle.block_pool.specs.Pool.{IsLive, IsApart, chain_bytes}
 use Rattle.hcp_chain.specs.declared.joiner.Open.{Open}
-use Rattle.hcp_chain.specs.Holding.{HoldsChains, IsApartFrom, held_blocks, whole_in}
+use Rattle.hcp_chain.specs.Holding.{IsApartFrom, whole_in}
 use Rattle.hcp_chain.proofs.HoldingLemmas.{all_map}
 use Rattle.hcp_chain.proofs.ClearLemmas.{HasOneMore, all_given, ready_again}
+use Rattle.hcp_packet.specs.Packets.{packet_seen}
+use Rattle.hcp_chain.specs.TakingOut.{CanGrow, Grown}
+use Rattle.hcp_chain.proofs.GrowLemmas.{of_ok, room_for, grows}
 use Rattle.hcp_chain.proofs.joiner.Joiner.take_view.Goals as goal
+use Rattle.hcp_chain.proofs.joiner.Joiner.take_view.Goals.{After-take}
 
 pub returns-then-len-gt-MAX_MESSAGE-clause-used : goal.returns-then-len-gt-MAX_MESSAGE-clause-used
 returns-then-len-gt-MAX_MESSAGE-clause-used c =
-    let pool = c.args.pool.now in
-    let owner = c.args.self.now.owner in
     let chain = c.in-Some.chain in
     let out = c.in-Some.ensures.some in
-    let left = c.take_out.new.self in
+    let xs = c.take_out.new.self.open.items in
     let done = c.refuse-then-len-gt-MAX_MESSAGE in
-    let same = c.take_out.ensures.pool in
-    let same_owner = c.take_out.ensures.owner in
-    let cleared : done.new.pool.owners ≡ with_used c.give.new.self.owners owner (used_of c.give.new.self owner - held_blocks c.give.new.self left.open.items) =
-    done.ensures.used
-    ∙ ap (λ (o : ℕ). with_used c.give.new.self.owners o (used_of c.give.new.self o - held_blocks c.give.new.self left.open.items)) same_owner in
-    let more : HasOneMore pool owner chain left.open.items = record {
+    let more : HasOneMore c.args.pool.now c.args.self.now.owner chain xs = record {
       has_quota = c.requires.has_quota;
       owned = out.owned;
-      holds = subst (λ (o : ℕ). HoldsChains pool o left.open.items) same_owner out.holds;
-      apart = all_map (λ x. (x.pipe ≢ c.args.packet.now.pipe) × IsApart x.chain chain) (λ x. IsApart x.chain chain) left.open.items (λ x a. a.1) out.apart;
+      holds = rw c.take_out.ensures.owner at out.holds;
+      apart = all_map (λ x. (x.pipe ≢ c.args.packet.now.pipe) × IsApart x.chain chain) (λ x. IsApart x.chain chain) xs (λ x a. a.1) out.apart;
       used = c.requires.used ∙ sym out.blocks;
     } in
-    let given = all_given done.new.pool more
-    (subst (λ (v : PoolState). Gives v c.give.new.self chain) same c.give.ensures.given)
-    (subst (λ (v : PoolState). KeepsOthers v c.give.new.self chain chain) same c.give.ensures.others) cleared in
-    let none : whole_in done.result ≡ [] = ap whole_in done.ensures.fault in
-    given ∙ (ap (λ (ys : List Open). with_used pool.owners owner (held_blocks done.new.pool (ys ++ []))) (sym done.ensures.«open»)
-    ∙ ap (λ (ys : List Open). with_used pool.owners owner (held_blocks done.new.pool (done.new.self.open.items ++ ys))) (sym none))
+    let same = c.take_out.ensures.pool in
+    let given = all_given done.new.pool more (rw same at c.give.ensures.given) (rw same at c.give.ensures.others)
+    (rw c.take_out.ensures.owner at done.ensures.used) in
+    rw (done.ensures.«open», done.ensures.fault) given
 
 pub returns-then-len-gt-MAX_MESSAGE-clause-others : goal.returns-then-len-gt-MAX_MESSAGE-clause-others
 returns-then-len-gt-MAX_MESSAGE-clause-others c other live away =
     let out = c.in-Some.ensures.some.outside other away in
     let done = c.refuse-then-len-gt-MAX_MESSAGE in
-    let given = c.give.ensures.others other (subst (λ (v : PoolState). IsLive v other) (sym c.take_out.ensures.pool) live) out.0 in
-    let cleared = done.ensures.others other given.1 out.1 in (
-      cleared.0,
-      cleared.1 ∙ (given.2 ∙ ap (λ (v : PoolState). chain_bytes v other) c.take_out.ensures.pool),
-      (let none : whole_in done.result ≡ [] = ap whole_in done.ensures.fault in
-          subst (λ (ys : List Open). IsApartFrom (done.new.self.open.items ++ ys) other) (sym none)
-          (subst (λ (ys : List Open). IsApartFrom (ys ++ []) other) (sym done.ensures.«open») tt)),
-    )
-
-pub returns-then-packet-clause-others : goal.returns-then-packet-clause-others
-returns-then-packet-clause-others c other live away =
-    let out = c.in-Some.ensures.some.outside other away in
-    let grown = c.append-chain.ensures.others other (subst (λ (v : PoolState). IsLive v other) (sym c.take_out.ensures.pool) live) out.1 out.0 in
-    (grown.0, grown.1 ∙ ap (λ (v : PoolState). chain_bytes v other) c.take_out.ensures.pool, grown.2)
-
-pub returns-clause-others : goal.returns-clause-others
-returns-clause-others c other live away =
-    let out = c.in-Some.ensures.some.outside other away in
-    let grown = c.append-chain.ensures.others other (subst (λ (v : PoolState). IsLive v other) (sym c.take_out.ensures.pool) live) out.1 out.0 in
-    let pushed = sym (append-nil c.push.new.self.items ∙ c.push.ensures.items) in (
-      grown.0,
-      grown.1 ∙ ap (λ (v : PoolState). chain_bytes v other) c.take_out.ensures.pool,
-      subst (λ (ys : List Open). IsApartFrom ys other) pushed grown.2,
-    )
+    let given = c.give.ensures.others other (rw c.take_out.ensures.pool live) out.0 in
+    let cleared = done.ensures.others other given.1 out.1 in
+    (cleared.0, cleared.1 ∙ (rw c.take_out.ensures.pool at given.2), rw (done.ensures.«open», done.ensures.fault) tt)
 
 pub returns-then-len-gt-MAX_MESSAGE-clause-ready : goal.returns-then-len-gt-MAX_MESSAGE-clause-ready
 returns-then-len-gt-MAX_MESSAGE-clause-ready c none =
     let done = c.refuse-then-len-gt-MAX_MESSAGE in
-    let owner = c.args.self.now.owner in
-    let empty : done.new.self.open.items ++ whole_in done.result ≡ [] =
-    ap (λ (ys : List Open). ys ++ whole_in done.result) done.ensures.«open» ∙ none in
     ready_again c.args.pool.now done.new.pool c.args.self.now done.new.self (whole_in done.result) c.requires
-    (done.ensures.owner ∙ c.take_out.ensures.owner) none
-    (subst (HoldsChains done.new.pool owner) (sym empty) (record { own = tt; apart = tt }))
+    (done.ensures.owner ∙ c.take_out.ensures.owner) none (rw (done.ensures.«open», none) (record { own = tt; apart = tt }))
     (returns-then-len-gt-MAX_MESSAGE-clause-used c)
+
+grown : (c : After-take) → Grown c.take_out.new.pool c.take.new.self c.take_out.new.self.owner c.args.packet.now.pipe c.in-Some.chain c.take.new.chain
+    c.take_out.new.self.open.items (chain_bytes c.take_out.new.pool c.in-Some.chain ++ c.args.packet.now.bytes.now)
+grown c =
+    let out = c.in-Some.ensures.some in
+    let can : CanGrow c.take_out.new.pool c.take_out.new.self (packet_seen c.args.packet.now) c.in-Some.chain = record {
+      room = out.room; live = grind (arith, common_steps); owned = grind (arith, common_steps); fits = grind (arith, common_steps); apart = out.apart;
+      holds = grind (arith, common_steps); quota = grind (arith, common_steps); used = grind (arith, common_steps);
+    } in
+    let t = c.take.ensures in
+    let ok = t.room.1 (room_for c.take_out.new.pool c.take_out.new.self (packet_seen c.args.packet.now) c.in-Some.chain can) in
+    grows can (of_ok c.take.result ok t.ok) (of_ok c.take.result ok t.appended) (of_ok c.take.result ok t.live) (of_ok c.take.result ok t.others)
+
+kept : (c : After-take) (other : Chain) → IsLive c.args.pool.now other → IsApartFrom c.args.self.now.open.items other
+    → IsLive c.take.new.self other × (chain_bytes c.take.new.self other ≡ chain_bytes c.args.pool.now other)
+    × IsApartFrom (c.take_out.new.self.open.items ++ record { pipe = c.args.packet.now.pipe; chain = c.take.new.chain } ∷ []) other
+kept c other live away =
+    let out = c.in-Some.ensures.some.outside other away in
+    rw (← c.take_out.ensures.pool) ((grown c).others other (rw c.take_out.ensures.pool live) out.1 out.0)
+
+pub returns-then-packet : goal.returns-then-packet
+returns-then-packet c =
+    let g = grown (goal.at.returns-then-packet c).After-take in
+    record {
+      owner = c.take_out.ensures.owner;
+      says = grind (arith, common_steps);
+      «open» = grind (arith, common_steps);
+      holds = grind (arith, common_steps);
+      used = grind (arith, common_steps);
+      others = kept (goal.at.returns-then-packet c).After-take;
+      ready = λ none. cc;
+    }
+
+pub returns : goal.returns
+returns c =
+    let g = grown (goal.at.returns c).After-take in
+    let pushed = sym (append-nil c.push.new.self.items ∙ c.push.ensures.items) in
+    record {
+      owner = c.take_out.ensures.owner;
+      says = grind (arith, common_steps);
+      «open» = grind (arith, common_steps);
+      holds = grind (arith, common_steps);
+      used = grind (arith, common_steps);
+      others = λ other live away.
+          let k = kept (goal.at.returns c).After-take other live away in
+          (k.0, k.1, subst (λ (ys : List Open). IsApartFrom ys other) pushed k.2);
+      ready = λ none. first_of (grind (arith, common_steps), search rules);
+    }

@@ -23,7 +23,7 @@ pub returns-in-Down-clause-stands : goal.returns-in-Down-clause-stands
 returns-in-Down-clause-stands c m h =
     let o : is_open m.role ≡ true = sym (ap is_open h.halfway.role) ∙ (sym c.is_open.ensures ∙ c.if-not-is_open.false) in
     let down : m.shdlc.phase ≡ Down = sym h.halfway.link.kept.phase ∙ sym c.in-Down.ensures.value in
-    let P : LinkEnd → Type 0 = λ x. EndStandsFor c.refill.new.self c.refill.new.pool x in
+    let P : LinkEnd → Type 0 = λ x. EndStandsFor c.offer_more.new.self c.offer_more.new.pool x in
     subst P (sym (reset_down m c.args.window o down))
-    (c.refill.ensures.stands _
+    (c.offer_more.ensures.stands _
     (reset_begins (record { before = h; small = c.requires.window; stands = c.ask-in-Down.ensures }) down))

@@ -1,12 +1,9 @@
 use Rattle.std.proofs.Common.{◌≡◌, ◌≤◌, ℕ, length, sym, ap, ◌∙◌, subst, refl}
 use Rattle.std.specs.Prelude.{Err}
 use Rattle.block_pool.specs.Slots.{blocks_for}
-use Rattle.block_pool.specs.Pool.{PoolState}
 use Rattle.shdlc_core.specs.declared.answers.LinkState.TheVariants.{Up}
-use Rattle.link_laws.specs.machine.Machine.{LinkEnd, Message, spare}
+use Rattle.link_laws.specs.machine.Machine.{Message, spare}
 use Rattle.link_laws.specs.machine.Machine.Refused.{TooLong, Full}
-use Rattle.link_messages.specs.declared.outbox.Outbox.{Outbox}
-use Rattle.link_end.specs.Ends.{EndStandsFor, LeavesBoxes}
 use Rattle.link_end.specs.Reports.{by_refusal_told}
 use Rattle.link_end.specs.declared.report.SendRefused.TheVariants.{Full as SendFull}
 use Rattle.link_end.proofs.NodeLemmas.{spare_is, refused_long, refused_full, refused_none, refusal_stays, gives, message_given}
@@ -17,17 +14,14 @@ pub returns-then-message-clause-stands : goal.returns-then-message-clause-stands
 returns-then-message-clause-stands c m h =
     let x : Message = (c.args.pipe, c.args.message.now) in
     let up : m.shdlc.phase ≡ Up = sym h.halfway.link.kept.phase ∙ (sym c.state.ensures.value ∙ c.in-Up.is) in
-    let P : LinkEnd → Type 0 = λ y. EndStandsFor c.args.self.now c.args.pool.now y in
-    subst P (sym (refusal_stays m x (TooLong (length x.1)) (refused_long m x up c.if-message.true))) h
+    rw (refusal_stays m x (TooLong (length x.1)) (refused_long m x up c.if-message.true)) h
 
 pub returns-in-Ok-clause-stands : goal.returns-in-Ok-clause-stands
 returns-in-Ok-clause-stands c m h =
     let x : Message = (c.args.pipe, c.args.message.now) in
     let up : m.shdlc.phase ≡ Up = sym h.halfway.link.kept.phase ∙ (sym c.state.ensures.value ∙ c.in-Up.is) in
-    let fits : blocks_for (length x.1) ≤ spare m =
-    subst (λ n. blocks_for (length x.1) ≤ n) (sym (spare_is c.args.pool.now c.args.self.now m h)) (c.in-Ok.ensures.room.0 refl) in
-    let P : LinkEnd → Type 0 = λ y. EndStandsFor c.offer_more.new.self c.offer_more.new.pool y in
-    subst P (sym (gives m x (refused_none m x up c.if-message.false fits)))
+    let fits : blocks_for (length x.1) ≤ spare m = rw (spare_is c.args.pool.now c.args.self.now m h) (c.in-Ok.ensures.room.0 refl) in
+    rw (gives m x (refused_none m x up c.if-message.false fits))
     (c.offer_more.ensures.stands _
     (message_given
     (record { before = h; up = sym c.state.ensures.value ∙ c.in-Up.is; sendable = c.requires.sendable; accepts = c.in-Ok.ensures.ok })
@@ -37,8 +31,7 @@ pub returns-in-Ok-clause-answer : goal.returns-in-Ok-clause-answer
 returns-in-Ok-clause-answer c m h =
     let x : Message = (c.args.pipe, c.args.message.now) in
     let up : m.shdlc.phase ≡ Up = sym h.halfway.link.kept.phase ∙ (sym c.state.ensures.value ∙ c.in-Up.is) in
-    let fits : blocks_for (length x.1) ≤ spare m =
-    subst (λ n. blocks_for (length x.1) ≤ n) (sym (spare_is c.args.pool.now c.args.self.now m h)) (c.in-Ok.ensures.room.0 refl) in
+    let fits : blocks_for (length x.1) ≤ spare m = rw (spare_is c.args.pool.now c.args.self.now m h) (c.in-Ok.ensures.room.0 refl) in
     sym (ap by_refusal_told (refused_none m x up c.if-message.false fits))
 
 pub returns-in-Ok-clause-elsewhere : goal.returns-in-Ok-clause-elsewhere
@@ -47,10 +40,7 @@ returns-in-Ok-clause-elsewhere c =
     (record { before = c.requires.stands.1; up = sym c.state.ensures.value ∙ c.in-Up.is; sendable = c.requires.sendable; accepts = c.in-Ok.ensures.ok })
     c.in-Ok.ensures.elsewhere in
     let boxes = c.offer_more.ensures.boxes in
-    let P : PoolState
-    → Type 0 = λ p. LeavesBoxes c.args.pool.now p c.args.self.now.outbox c.args.self.now.inbox c.offer_more.new.self.outbox c.offer_more.new.self.inbox in
-    subst P (sym c.offer_more.ensures.pool)
-    (leaves_same c.offer_more.new.self.outbox c.offer_more.new.self.inbox given.1 boxes.1 boxes.0 boxes.2)
+    rw c.offer_more.ensures.pool (leaves_same c.offer_more.new.self.outbox c.offer_more.new.self.inbox given.1 boxes.1 boxes.0 boxes.2)
 
 pub returns-in-Err-clause-stands : goal.returns-in-Err-clause-stands
 returns-in-Err-clause-stands c m h =
@@ -59,11 +49,7 @@ returns-in-Err-clause-stands c m h =
     let up : m.shdlc.phase ≡ Up = sym h.halfway.link.kept.phase ∙ (sym c.state.ensures.value ∙ c.in-Up.is) in
     let full = refused_full m x up c.if-message.false
     (λ fits. (let n = c.in-Err.ensures.room.1 (subst (λ n. blocks_for (length x.1) ≤ n) (spare_is c.args.pool.now k m h) fits) in cc)) in
-    let P : LinkEnd → Type 0 = λ y. EndStandsFor (record k { outbox = c.accept.new.self }) c.accept.new.pool y in
-    let Q : Outbox → Type 0 = λ b. EndStandsFor (record k { outbox = b }) c.accept.new.pool m in
-    let R : PoolState → Type 0 = λ p. EndStandsFor k p m in
-    subst P (sym (refusal_stays m x (Full (blocks_for (length x.1)) (spare m)) full))
-    (subst Q (sym c.in-Err.ensures.err.1) (subst R (sym c.in-Err.ensures.err.0) h))
+    rw (refusal_stays m x (Full (blocks_for (length x.1)) (spare m)) full, c.in-Err.ensures.err.1, c.in-Err.ensures.err.0) h
 
 pub returns-in-Err-clause-answer : goal.returns-in-Err-clause-answer
 returns-in-Err-clause-answer c m h =
