@@ -1,6 +1,6 @@
 -- Linked blocks: what writes to links, bytes and heads leave of the chains.
 use Rattle.std.proofs.Common.{◌≡◌, ◌≢◌, ℕ, suc, ◌+◌, ◌-◌, ◌*◌, ◌/◌, ◌%◌, ◌^◌, ◌<◌, ◌≤◌, inl, inr, List, [], ◌∷◌, ◌++◌, length, get_or, set, take, drop}
-use Rattle.std.proofs.Common.{replicate, map, refl, sym, ap, ◌∙◌, subst, arith, rules, Fits, w16, w32, length-set, get_or-set_same, get_or-set_other}
+use Rattle.std.proofs.Common.{replicate, map, refl, sym, ap, ◌∙◌, subst, arith, Fits, w16, w32, length-set, get_or-set_same, get_or-set_other}
 use Rattle.std.proofs.Common.{length-drop, length-take, get_or-drop, min}
 use Rattle.std.specs.Prelude.{Option, Some, None, IsSome}
 use Rattle.std.specs.List.{range_with_len}
@@ -16,8 +16,8 @@ use Rattle.block_pool.specs.Links.{block_at, linked_byte}
 use Rattle.block_pool.specs.Layout.{laid_bytes, held_by, slots_of, head_blocks, IsMarked, IsChain, AreSoundBlocks}
 use Rattle.block_pool.proofs.FreshLemmas.{get_or-filled}
 use Rattle.block_pool.proofs.LinkLemmas.{unchanged, behind, same_bytes, one_more_byte, one_byte, length-chain_bytes, length-slots_of, slot_is, same_slots}
-use Rattle.block_pool.proofs.LinkLemmas.{slots_set, none_is_some, same_mark, other_block, popped, popped_other, popped_first, popped_rest, freed, freed_chain}
-use Rattle.block_pool.proofs.LinkLemmas.{freed_free, freed_other, in_pool, block_of_byte, other_link, last_link, last_marked, free_link}
+use Rattle.block_pool.proofs.LinkLemmas.{slots_set, none_is_some, same_mark, other_block, popped, popped_other, popped_rest, freed, freed_chain}
+use Rattle.block_pool.proofs.LinkLemmas.{freed_free, in_pool, block_of_byte, other_link, last_link, last_marked, free_link}
 
 -- ---- a byte more in the last block
 
@@ -43,8 +43,7 @@ module _ (region next : List ℕ) (heads : List (Option Head)) (free free_len : 
 
   -- the head that was written
   this_head : (b : ℕ) (v h : Head) → b < length heads → get_or (set heads b (Some v)) b None ≡ Some h → h ≡ v
-  this_head b v h low e =
-      let s : Some h ≡ Some v = sym e ∙ get_or-set_same heads b (Some v) None low in cc
+  this_head b v h low e = grind (arith, get_or-set_same)
 
   -- a byte more in the last block of a chain
   pub push_in_block_sound : (b : ℕ) (head : Head) (place byte : ℕ) → get_or heads b None ≡ Some head → 0 < head.len % 32 → AreSoundBlocks
@@ -55,13 +54,7 @@ module _ (region next : List ℕ) (heads : List (Option Head)) (free free_len : 
       let low : b < length heads = omega (arith, in_pool chain, sound.counted) in
       let longer : Head = record { owner = head.owner; last = head.last; len = head.len + 1; read_on = head.read_on; passed = head.passed } in
       let same_blocks : blocks_for (head.len + 1) ≡ blocks_for head.len = omega arith in
-      let grown : IsChain next sound.mark sound.count b longer = record {
-        some = omega arith;
-        marked = λ k h. chain.marked k (omega arith);
-        last = ap (λ n. block_at next b (n - 1)) same_blocks ∙ chain.last;
-        within = omega (arith, chain.within, same_blocks);
-        reading = chain.reading;
-      } in
+      let grown : IsChain next sound.mark sound.count b longer = grind arith in
       record {
         count = sound.count;
         counted = length-set heads b (Some longer) ∙ sound.counted;
@@ -86,8 +79,7 @@ module _ (region next : List ℕ) (heads : List (Option Head)) (free free_len : 
       same_bytes region next (set region (32 * block + offset % 32) byte) next b head.len (λ i low.
       let m = block_of_byte (sound.chains b head at) i low in
       get_or-set_other region (32 * block + offset % 32) (32 * block_at next b (i / 32) + i % 32) byte 0
-      (other_block (block_at next b (i / 32)) block i offset
-      (λ same. apart (sym (same_mark sound.mark (block_at next b (i / 32)) block b (i / 32) d j m.1 marked same).0))))
+      (grind arith))
 
   -- the block that has room is the last one
   last_has_room : (b : ℕ) (head : Head) → get_or heads b None ≡ Some head → 0 < head.len % 32 → block_at next b (head.len / 32) ≡ head.last
@@ -180,16 +172,7 @@ module _ (region next : List ℕ) (heads : List (Option Head)) (free free_len : 
       let low : free < length heads = omega (arith, first.0, sound.counted) in
       let new : Head = record { owner = owner; last = free; len = 1; read_on = free; passed = 0 } in
       let mark = λ (x : ℕ). popped sound.count free 0 (sound.mark x) in
-      let begun : IsChain next mark sound.count free new = record {
-        some = omega arith;
-        marked = λ k h.
-            let zero_place : 0 ≡ k = omega arith in
-            subst (λ i. IsMarked mark sound.count (block_at next free i) free i) zero_place
-            (first.0, ap (popped sound.count free 0) first.1 ∙ popped_first sound.count free 0);
-        last = refl;
-        within = omega arith;
-        reading = refl;
-      } in
+      let begun : IsChain next mark sound.count free new = grind arith in
       record {
         count = sound.count;
         counted = length-set heads free (Some new) ∙ sound.counted;
@@ -208,11 +191,7 @@ module _ (region next : List ℕ) (heads : List (Option Head)) (free free_len : 
       }
 
   pub begun_bytes : (byte : ℕ) → 0 < free_len → laid_bytes (set region (32 * free) byte) next free 1 ≡ byte ∷ []
-  begun_bytes byte some =
-      let plain : 32 * free + 0 ≡ 32 * free = omega arith in
-      let in_region : 32 * free < length region = omega (arith, (first_free some).0, sound.bytes) in
-      one_byte (set region (32 * free) byte) next free
-      ∙ ap (λ x. x ∷ []) (ap (λ i. get_or (set region (32 * free) byte) i 0) plain ∙ get_or-set_same region (32 * free) byte 0 in_region)
+  begun_bytes byte some = grind (arith, first_free, one_byte, get_or-set_same)
 
   pub begin_slots : (owner byte : ℕ) → 0 < free_len → slots_of (set region (32 * free) byte) next
       (set heads free (Some (record { owner = owner; last = free; len = 1; read_on = free; passed = 0 }))) ≡ with_chain
@@ -261,23 +240,7 @@ module _ (region next : List ℕ) (heads : List (Option Head)) (free free_len : 
       let step : get_or next' (block_at next' b (n - 1)) 0 ≡ free =
       ap (λ x. get_or next' x 0) (kept (n - 1) (omega arith) ∙ chain.last) ∙ get_or-set_same next head.last free 0 (omega (arith, l.0, sound.links)) in
       ap (block_at next' b) (sym e) ∙ step in
-      let grown : IsChain next' mark sound.count b longer = record {
-        some = omega arith;
-        marked = λ k h. elim (cases_lt k n) [
-          | inl before ↦
-              let m = chain.marked k before in
-              subst (λ x. IsMarked mark sound.count x b k) (sym (kept k before))
-              (m.0, ap (popped sound.count b n) m.1 ∙ popped_other sound.count b n b k (λ e. absurd (omega arith)))
-          | inr behind_them ↦
-              let e : n ≡ k = omega (arith, one_more) in
-              subst (λ i. IsMarked mark sound.count (block_at next' b i) b i) e
-              (subst (λ x. IsMarked mark sound.count x b n) (sym new_last)
-              (first.0, ap (popped sound.count b n) first.1 ∙ popped_first sound.count b n))
-        ];
-        last = (let e : blocks_for (head.len + 1) - 1 ≡ n = omega (arith, one_more) in ap (block_at next' b) e) ∙ new_last;
-        within = omega (arith, chain.within, one_more);
-        reading = kept head.passed chain.within ∙ chain.reading;
-      } in
+      let grown : IsChain next' mark sound.count b longer = grind arith in
       record {
         count = sound.count;
         counted = length-set heads b (Some longer) ∙ sound.counted;
@@ -334,9 +297,7 @@ module _ (region next : List ℕ) (heads : List (Option Head)) (free free_len : 
       same_bytes region next' region' next' b head.len (λ i i_low.
       let m = block_of_byte chain i i_low in
       let block_is : block_at next' b (i / 32) ≡ block_at next b (i / 32) = kept (i / 32) (omega arith) in
-      let apart : block_at next' b (i / 32) ≢ free =
-      λ same. absurd (let e : b ≡ sound.count =
-      (same_mark sound.mark (block_at next b (i / 32)) free b (i / 32) sound.count 0 m.1 first.1 (sym block_is ∙ same)).0 in omega arith) in
+      let apart : block_at next' b (i / 32) ≢ free = grind arith in
       get_or-set_other region (32 * free) (32 * block_at next' b (i / 32) + i % 32) byte 0
       (λ same. other_block (block_at next' b (i / 32)) free i 0 apart (same ∙ sym plain)))
       ∙ same_links in
@@ -402,10 +363,7 @@ module _ (region next : List ℕ) (heads : List (Option Head)) (free free_len : 
               (λ s. apart (sym s)) i i_low in
               record {
                 some = c_chain.some;
-                marked = λ i i_low.
-                    let m = c_chain.marked i i_low in
-                    subst (λ x. IsMarked mark sound.count x c i) (sym (same i i_low))
-                    (m.0, ap (freed sound.count b n) m.1 ∙ freed_other sound.count b n c i apart (λ s. absurd (omega arith)));
+                marked = grind arith;
                 last = same (blocks_for h.len - 1) (omega arith) ∙ c_chain.last;
                 within = c_chain.within;
                 reading = same h.passed c_chain.within ∙ c_chain.reading;
@@ -494,17 +452,10 @@ module _ (region next : List ℕ) (heads : List (Option Head)) (fresh : ℕ) (sl
 
   -- where there are bytes a chain begins
   pub not_none : (b : ℕ) → 0 < length (held_bytes slots b) → get_or heads b None ≡ None → ⊥
-  not_none b some e =
-      let none : held_bytes slots b ≡ [] = ap bytes_in (slots_say b ∙ ap (held_by region next b) e) in
-      let zero_long : length (held_bytes slots b) ≡ 0 = ap length none in
-      absurd (omega arith)
+  not_none b some e = let h0 = slots_say b in grind arith
 
   pub has_head : (b : ℕ) → 0 < length (held_bytes slots b) → IsSome (get_or heads b None)
-  has_head b some = by_head (get_or heads b None) refl
-    where
-      by_head : (h : Option Head) → get_or heads b None ≡ h → IsSome h
-      by_head None e = absurd (not_none b some e)
-      by_head (Some head) e = search rules
+  has_head b some = grind (arith, not_none)
 
 -- ---- another owner
 
@@ -515,8 +466,7 @@ module _ (region next : List ℕ) (heads : List (Option Head)) (free free_len : 
       let chain = sound.chains b head at in
       let low : b < length heads = omega (arith, in_pool chain, sound.counted) in
       let new : Head = record { owner = owner; last = head.last; len = head.len; read_on = head.read_on; passed = head.passed } in
-      let kept : IsChain next sound.mark sound.count b new =
-      record { some = chain.some; marked = chain.marked; last = chain.last; within = chain.within; reading = chain.reading } in
+      let kept : IsChain next sound.mark sound.count b new = grind arith in
       record {
         count = sound.count;
         counted = length-set heads b (Some new) ∙ sound.counted;
@@ -551,8 +501,7 @@ module _ (region next : List ℕ) (heads : List (Option Head)) (free free_len : 
       let chain = sound.chains b head at in
       let b_low : b < length heads = omega (arith, in_pool chain, sound.counted) in
       let new : Head = record { owner = head.owner; last = head.last; len = head.len; read_on = block; passed = passed } in
-      let kept : IsChain next sound.mark sound.count b new =
-      record { some = chain.some; marked = chain.marked; last = chain.last; within = low; reading = sym block_is } in
+      let kept : IsChain next sound.mark sound.count b new = grind arith in
       record {
         count = sound.count;
         counted = length-set heads b (Some new) ∙ sound.counted;
@@ -607,8 +556,7 @@ drop-made f n from low =
 pub copied_bytes : (region next : List ℕ) (b len from count : ℕ) → from ≤ len → count ≤ len - from
     → map (linked_byte region next b) (range_with_len from count) ≡ take count (drop from (laid_bytes region next b len))
 unfolding laid_bytes
-copied_bytes region next b len from count low few =
-    sym (ap (take count) (drop-made (linked_byte region next b) len from low) ∙ take-map-range_with_len (linked_byte region next b) from (len - from) count few)
+copied_bytes region next b len from count low few = grind (arith, drop-made, take-map-range_with_len)
 
 -- what the slots say of a chain whose head is known
 module _ (region next : List ℕ) (heads : List (Option Head)) (free free_len : ℕ) (sound : AreSoundBlocks region next heads free free_len)
@@ -636,10 +584,7 @@ module _ (region next : List ℕ) (heads : List (Option Head)) (free free_len : 
   pub copied_out : (from count : ℕ) (out new : List ℕ) → from ≤ length (held_bytes slots b) → count ≡ min (length (held_bytes slots b) - from) (length out)
       → new ≡ map (linked_byte region next b) (range_with_len from (length (take count out)))
       → new ++ drop count out ≡ take count (drop from (held_bytes slots b)) ++ drop count out
-  copied_out from count out new low count_is new_is =
-      let len : length (take count out) ≡ count = omega (arith, length-take count out, count_is) in
-      ap (λ bs. bs ++ drop count out)
-      (new_is ∙ (ap (λ n. map (linked_byte region next b) (range_with_len from n)) len ∙ bytes_copied from count low (omega (arith, count_is))))
+  copied_out from count out new low count_is new_is = grind (arith, length-take, bytes_copied)
 
 -- ---- a new pool
 

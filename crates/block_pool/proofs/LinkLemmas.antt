@@ -128,9 +128,6 @@ popped count c k m = cond (eqb m.0 count) (cond (eqb m.1 0) (c, k) (count, m.1 -
 pub popped_other : (count c k d j : ℕ) → d ≢ count → popped count c k (d, j) ≡ (d, j)
 popped_other count c k d j apart = rw (ne_eqb d count apart) refl
 
-pub popped_first : (count c k : ℕ) → popped count c k (count, 0) ≡ (c, k)
-popped_first count c k = rw (eq-eqb count count refl) refl
-
 pub popped_rest : (count c k j : ℕ) → popped count c k (count, 1 + j) ≡ (count, j)
 popped_rest count c k j = grind arith
 
@@ -143,9 +140,6 @@ freed_chain count b n k = rw (eq-eqb b b refl) refl
 
 pub freed_free : (count b n k : ℕ) → count ≢ b → freed count b n (count, k) ≡ (count, k + n)
 freed_free count b n k apart = rw (ne_eqb count b apart, eq-eqb count count refl) refl
-
-pub freed_other : (count b n d k : ℕ) → d ≢ b → d ≢ count → freed count b n (d, k) ≡ (d, k)
-freed_other count b n d k apart below = rw (ne_eqb d b apart, ne_eqb d count below) refl
 
 -- ---- chains
 

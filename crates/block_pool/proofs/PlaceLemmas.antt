@@ -12,7 +12,7 @@ use Rattle.std.proofs.lemmas.List.FromFn.{length-map-range_with_len, get_or-map-
 use Rattle.block_pool.specs.declared.heads.Head.{Head}
 use Rattle.block_pool.specs.declared.chain.Chain.{Chain}
 use Rattle.block_pool.specs.Slots.{Held, BlocksState, ShareNoBlock, blocks_for, bytes_in, held_bytes}
-use Rattle.block_pool.specs.Names.{named_bytes, blocks_named}
+use Rattle.block_pool.specs.Names.{blocks_named}
 use Rattle.block_pool.specs.Pool.{PoolState, chain_bytes, chain_blocks}
 use Rattle.block_pool.specs.Links.{block_at, linked_byte}
 use Rattle.block_pool.specs.Layout.{laid_bytes as bytes_along, slots_of, blocks_by, chains_of, places_of, head_blocks, IsMarked, AreSoundBlocks}
@@ -28,12 +28,7 @@ length-chains_of next heads = length-map-range_with_len (λ b. blocks_by next b 
 
 pub chain_is : (next : List ℕ) (heads : List (Option Head)) (b : ℕ) → get_or (chains_of next heads) b [] ≡ blocks_by next b (get_or heads b None)
 unfolding chains_of
-chain_is next heads b = elim (cases_lt b (length heads)) [
-  | inl low ↦ get_or-map-range_with_len (λ c. blocks_by next c (get_or heads c None)) 0 (length heads) b b [] low (omega arith)
-  | inr high ↦ get_or_past (map (λ c. blocks_by next c (get_or heads c None)) (range_with_len 0 (length heads))) b []
-      (omega (arith, length-map-range_with_len (λ c. blocks_by next c (get_or heads c None)) 0 (length heads)))
-      ∙ sym (ap (blocks_by next b) (get_or_past heads b None high))
-]
+chain_is next heads b = grind (arith, cases_lt, get_or-map-range_with_len, get_or_past, length-map-range_with_len)
 
 length-blocks_by : (next : List ℕ) (b : ℕ) (h : Option Head) → length (blocks_by next b h) ≡ head_blocks h
 length-blocks_by next b None = refl
@@ -70,8 +65,7 @@ state slots memory chains frees n listed =
 pub same_state : (slots slots' : List (Option Held)) (memory : List ℕ) (chains chains' : List (List ℕ)) (frees : List ℕ) (n listed : ℕ) → slots' ≡ slots
     → chains' ≡ chains
     → state slots' memory chains' frees n listed ≡ state slots memory chains frees n listed
-same_state slots slots' memory chains chains' frees n listed same_slots same_places =
-    ap (λ ss. state ss memory chains' frees n listed) same_slots ∙ ap (λ cs. state slots memory cs frees n listed) same_places
+same_state slots slots' memory chains chains' frees n listed same_slots same_places = grind arith
 
 -- byte i of a chain lies in its block i / 32
 byte_along : (region next : List ℕ) (first len i : ℕ) → i < len → get_or (bytes_along region next first len) i 0 ≡ linked_byte region next first i
@@ -124,28 +118,13 @@ module _ (slots : List (Option Held)) (memory : List ℕ) (chains : List (List �
 
   apart : (first k j : ℕ) → k < length (get_or all_chains first []) → j < length all_free
       → get_or (get_or all_chains first []) k 0 ≢ get_or all_free j 0
-  apart first k j k_low j_low same = elim (free_is j j_low) [
-    | inl listed ↦ shares.not_free first k j (low_is first k k_low) listed.0 (sym (block_is first k) ∙ (same ∙ listed.1))
-    | inr behind ↦ absurd (omega (arith, shares.within first k (low_is first k k_low), block_is first k, same, behind.1))
-  ]
+  apart first k j k_low j_low same = let h0 = free_is j j_low in let h1 = low_is first k k_low in let h2 = block_is first k in grind arith
 
   once_free : (k j : ℕ) → k < length all_free → j < length all_free → get_or all_free k 0 ≡ get_or all_free j 0 → k ≡ j
-  once_free k j k_low j_low same = elim (free_is k k_low) [
-    | inl one ↦ elim (free_is j j_low) [
-      | inl two ↦ shares.free_once k j one.0 two.0 (sym one.1 ∙ (same ∙ two.1))
-      | inr two ↦ absurd (omega (arith, shares.free_within k one.0, one.1, same, two.1))
-    ]
-    | inr one ↦ elim (free_is j j_low) [
-      | inl two ↦ absurd (omega (arith, shares.free_within j two.0, two.1, same, one.1))
-      | inr two ↦ omega (arith, one.0, two.0, one.1, two.1, same)
-    ]
-  ]
+  once_free k j k_low j_low same = let h0 = free_is k k_low in let h1 = free_is j j_low in grind arith
 
   free_low : (k : ℕ) → k < length all_free → get_or all_free k 0 < length all_slots
-  free_low k low = elim (free_is k low) [
-    | inl listed ↦ omega (arith, shares.free_within k listed.0, listed.1, length-all_slots)
-    | inr behind ↦ omega (arith, behind.0, behind.1, low, length-all_free, length-all_slots)
-  ]
+  free_low k low = let h0 = free_is k low in let h1 = length-all_free in let h2 = length-all_slots in grind arith
 
   -- fresh blocks are free, and no chain lies in them
   with_fresh : ShareNoBlock (slots ++ replicate fresh None) (record {
@@ -213,9 +192,7 @@ module _ (region next : List ℕ) (heads : List (Option Head)) (free free_len : 
   in_free : (k : ℕ) → k < length (map (block_at next free) (range_with_len 0 free_len))
       → (get_or (map (block_at next free) (range_with_len 0 free_len)) k 0 ≡ block_at next free k)
       × IsMarked sound.mark sound.count (block_at next free k) sound.count k
-  in_free k low =
-      let inside : k < free_len = omega (arith, length-free) in
-      (get_or-map-range_with_len (block_at next free) 0 free_len k k 0 inside (omega arith), sound.spare k inside)
+  in_free k low = grind (arith, length-free, get_or-map-range_with_len)
 
   module _ (slots : List (Option Held)) (view : slots_of region next heads ≡ slots) where
     -- with no fresh blocks
@@ -262,8 +239,7 @@ module _ (region next : List ℕ) (heads : List (Option Head)) (free free_len : 
       not_free = λ first k j k_low j_low same.
           let one = in_chain first k k_low in
           let two = in_free j j_low in
-          let apart : first ≡ sound.count = (same_mark sound.mark (block_at next first k) (block_at next free j) first k sound.count j one.1.1 two.1.1
-          (sym one.0 ∙ (same ∙ two.0))).0 in
+          let apart : first ≡ sound.count = grind arith in
           absurd (omega (arith, one.2));
       free_once = λ k j k_low j_low same.
           let one = in_free k k_low in
@@ -285,11 +261,7 @@ module _ (region next : List ℕ) (heads : List (Option Head)) (free free_len : 
       let links : length next ≡ length used = omega (arith, sound.links, sound.counted, length-slots_of region next heads) in
       let more = with_fresh used region (chains_of next heads) (map (block_at next free) (range_with_len 0 free_len)) fresh (used_share_none used refl) in
       subst (λ ss. ShareNoBlock ss (places_of region next heads free free_len fresh)) view
-      (subst (λ n. ShareNoBlock (used ++ replicate fresh None) (record {
-        memory = region ++ replicate (32 * fresh) 0;
-        chains = chains_of next heads ++ replicate fresh [];
-        free = map (block_at next free) (range_with_len 0 free_len) ++ range_with_len n fresh;
-      })) (sym links) more)
+      (grind arith)
 
 -- ---- chains by their names
 
@@ -297,21 +269,13 @@ pub chains_apart : (pool : PoolState) (one other : Option ℕ) (k j : ℕ) → S
     → ((first : ℕ) → one ≡ Some first → other ≡ Some first → ⊥)
     → k < length (blocks_named pool.places one) → j < length (blocks_named pool.places other)
     → get_or (blocks_named pool.places one) k 0 ≢ get_or (blocks_named pool.places other) j 0
-chains_apart pool None other k j shares apart k_low j_low same = absurd (omega arith)
-chains_apart pool (Some first) None k j shares apart k_low j_low same = absurd (omega arith)
-chains_apart pool (Some first) (Some second) k j shares apart k_low j_low same =
-    apart first refl (ap Some (sym (shares.once first second k j k_low j_low same).0))
+chains_apart pool x1 other k j shares apart k_low j_low same = grind arith
 
 pub block_once : (pool : PoolState) (name : Option ℕ) (k j : ℕ) → ShareNoBlock pool.slots pool.places → k < length (blocks_named pool.places name)
     → j < length (blocks_named pool.places name)
     → get_or (blocks_named pool.places name) k 0 ≡ get_or (blocks_named pool.places name) j 0 → k ≡ j
-block_once pool None k j shares k_low j_low same = absurd (omega arith)
-block_once pool (Some first) k j shares k_low j_low same = (shares.once first first k j k_low j_low same).1
+block_once pool x1 k j shares k_low j_low same = grind arith
 
 pub blocks_of_chain : (pool : PoolState) (chain : Chain) → ShareNoBlock pool.slots pool.places
     → length (chain_blocks pool chain) ≡ blocks_for (length (chain_bytes pool chain))
-blocks_of_chain pool chain shares = by_name chain.first
-  where
-    by_name : (name : Option ℕ) → length (blocks_named pool.places name) ≡ blocks_for (length (named_bytes pool.slots name))
-    by_name None = refl
-    by_name (Some first) = shares.blocks first
+blocks_of_chain pool chain shares = grind arith

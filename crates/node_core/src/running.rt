@@ -10,7 +10,6 @@ ghost use Rattle.std.specs.List.{AllByRecursion};
 ghost use Rattle.node_core.specs.declared.node.Node.{Node as Kept};
 ghost use Rattle.node_core.specs.Running.{RunsAs, BeginsStep, SendsOneByOne, between, one_more_error};
 
-use crate::node::Node;
 use swp_base::Nv;
 
 /// How a step of a node ends.
@@ -41,25 +40,6 @@ impl Ran {
         match self {
             Ran::Done => true,
             Ran::Stopped => false,
-        }
-    }
-}
-
-impl<N: Nv + Drop> Node<N> {
-    ghost use Rattle.std.specs.Prelude.{◌≡◌, List, map};
-    ghost use Rattle.node_machine.specs.Parts.{Port};
-    ghost use Rattle.node_ends.specs.Ends.{EndsStandFor};
-    ghost use Rattle.node_core.specs.Running.{between};
-
-    /// A step ends: what was done to the ends in it isn't kept.
-    pub fn end_step(&mut self)
-        ensures ended { (ports : List Port) → EndsStandFor self.old.ends ports → EndsStandFor self.new.ends (map between ports) }
-        ensures store { self.new.store ≡ self.old.store }
-        ensures number { self.new.number ≡ self.old.number }
-        ensures tasks { self.new.tasks ≡ self.old.tasks }
-    {
-        for i in 0..self.ends.count() {
-            self.ends.begin_step(i);
         }
     }
 }

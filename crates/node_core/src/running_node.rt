@@ -162,7 +162,7 @@ impl<N: Nv + Drop> RunningNode<N> {
         let ran = self
             .node
             .finish(came.sync, came.lies, &mut self.buffer, watch);
-        self.node.end_step();
+        self.node.ends.begin_step();
         Ok(Stepped {
             ran,
             became_active: came.became_active,
@@ -269,7 +269,7 @@ impl<N: Nv + Drop> RunningNode<N> {
         if let Err(why) = self.node.give_step(pipe, message, watch) {
             return Err(why);
         }
-        self.node.end_step();
+        self.node.ends.begin_step();
         Ok(())
     }
 
@@ -302,7 +302,7 @@ impl<N: Nv + Drop> RunningNode<N> {
             return Err(why);
         }
         self.node.run_init(identity, pipes);
-        self.node.end_step();
+        self.node.ends.begin_step();
         Ok(())
     }
 }

@@ -1,8 +1,11 @@
 -- What a node looks at of its ends before it decides is what is kept of them.
-use Rattle.std.proofs.Common.{◌≡◌, ◌≢◌, ℕ, zero, suc, ◌+◌, ◌*◌, ◌/◌, ◌%◌, ◌≤◌, Bool, true, cond, eqb, List, [], ◌∷◌, map, refl, sym, ap, ap₂, ◌∙◌, arith}
+use Rattle.std.proofs.Common.{◌≡◌, ◌≢◌, ℕ, zero, suc, ◌+◌, ◌*◌, ◌/◌, ◌%◌, ◌≤◌}
+use Rattle.std.proofs.Common.{Bool, true, cond, eqb, List, [], ◌∷◌, ◌++◌, ◌<◌, map, length, take, get_or, refl, sym, ap, ap₂, ◌∙◌, arith}
 use Rattle.std.specs.Prelude.{Some, ◌==◌}
 use Rattle.std.specs.List.{AllByRecursion}
 use Rattle.std.proofs.lemmas.Bool.{eq-eqb}
+use Rattle.std.proofs.lemmas.Grind.{common_steps}
+use Rattle.std.proofs.lemmas.List.{take_all}
 use Rattle.shdlc_core.specs.declared.answers.LinkState.TheVariants.{Down, Up}
 use Rattle.link_laws.specs.sessions.Sessions.{is_up}
 use Rattle.gate_admin.specs.View.{has}
@@ -88,6 +91,16 @@ are_seen pool up desks seats ports is mask hosts e = record {
   same = each_seen pool up ports seats ports mask hosts (all_found pool seats ports e.hosts e.each) e.each
       ∙ ap (λ ds. map seen_at (ports_shown up ds)) (sym is);
 }
+
+-- the desks of the ends so far, and one more
+pub one_desk : (seats : List Seat) (i : ℕ) (s : Seat) (desks more : List Desk) → i < length seats → s ≡ get_or seats i s
+    → desks ≡ map (λ (t : Seat). t.desk) (take i seats) → more ≡ desks ++ s.desk ∷ [] → more ≡ map (λ (t : Seat). t.desk) (take (i + 1) seats)
+one_desk seats i s desks more inside is so_far pushed = grind (arith, common_steps)
+
+-- behind the last end they are all
+pub all_desks : {slice seats : List Seat} (i : ℕ) (desks : List Desk) → desks ≡ map (λ (t : Seat). t.desk) (take i slice) → length slice ≤ i
+    → slice ≡ seats → desks ≡ map (λ (t : Seat). t.desk) seats
+all_desks {slice} i desks so_far past same = so_far ∙ ap (map (λ (t : Seat). t.desk)) (take_all i slice past ∙ same)
 
 pub are_sound : (pool : PoolState) (seats : List Seat) (ports : List Port) → SeatsStandFor pool seats ports
     → AreSoundDesks (map (λ (s : Seat). s.desk) seats)

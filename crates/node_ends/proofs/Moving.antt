@@ -85,6 +85,10 @@ pub boxes_hold : (pool : PoolState) (before after : End) (waiting : Option Waiti
     → after.inbox ≡ before.inbox → EndStandsFor after pool (without_got n) → n.got ≡ m.got → HoldsEnd pool after waiting n
 boxes_hold pool before after waiting m n h into stands got = grind arith
 
+-- the chain of a message that waits
+pub waiting_live : {pool : PoolState} {k : End} {o : Option Waiting} {m : Machine} (w : Waiting) → o ≡ Some w → HoldsEnd pool k o m → IsLive pool w.chain
+waiting_live {pool} {k} w waits h = let P : Option Waiting → Type 0 = λ c. Accounts k pool (chain_of c) in (subst P waits h.accounts).fetched.live
+
 -- ## The message that waits is given back
 
 -- a chain went back to the pool: the ends beside its own are as they were

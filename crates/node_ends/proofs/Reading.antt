@@ -1,22 +1,27 @@
 -- A message that is read.
-use Rattle.std.proofs.Common.{◌≡◌, ◌==◌, ◌||◌, ◌&&◌, not, ◌∙◌, ℕ, List, [], ◌∷◌, take, zero, suc, length, ◌<◌, ◌≤◌, refl, ap, ap₂, arith}
+use Rattle.std.proofs.Common.{◌≡◌, ◌==◌, ◌||◌, ◌&&◌, not, ◌∙◌, ℕ, ◌-◌, min, List, [], ◌∷◌, ◌++◌, take, drop, zero, suc, length, ◌<◌, ◌≤◌, refl, ap, ap₂, arith}
+use Rattle.std.proofs.lemmas.Grind.{common_steps}
 use Rattle.std.specs.List.{list_any}
 use Rattle.std.specs.Option.{option_map_or}
-use Rattle.std.specs.Prelude.{Bool, false, Option, Some, None, IfSome, IfNone, is_some, option_map, slice_get, slice_index_or}
-use Rattle.link_laws.specs.machine.Machine.{Message, is_held}
-use Rattle.block_pool.specs.Pool.{PoolState}
+use Rattle.std.specs.Prelude.{Bool, false, Option, Some, None, is_some, option_map, slice_get, slice_index_or}
+use Rattle.link_laws.specs.machine.Machine.{LinkEnd as Machine, is_held}
+use Rattle.link_end.specs.declared.«end».End.{End}
+use Rattle.block_pool.specs.Pool.{PoolState, chain_bytes}
 use Rattle.node_machine.specs.Parts.{Port, Desk as DeskOf}
 use Rattle.node_machine.specs.Node.{is_over}
 use Rattle.node_ends.specs.declared.seat.Seat.{Seat}
 use Rattle.node_deeds.specs.declared.desks.Unanswered.{Unanswered}
 use Rattle.node_deeds.specs.Shown.{desk_shown, notice_shown}
 use Rattle.node_ends.specs.Desks.{have_notices}
-use Rattle.node_ends.specs.Holding.{HoldsSeat}
-use Rattle.node_ends.specs.Ends.{SeatStandsFor, SeatsStandFor, message_read, rests, is_idle}
+use Rattle.node_ends.specs.declared.seat.Waiting.{Waiting}
+use Rattle.node_ends.specs.Holding.{HoldsEnd, HoldsSeat}
+use Rattle.node_ends.specs.Ends.{SeatStandsFor, SeatsStandFor, rests, is_idle}
 
-pub read_is : (got : List Message) (o : Option (ℕ × ℕ)) (buffer : List ℕ) → IfSome o (λ x. got ≡ (x.0, take x.1 buffer) ∷ []) → IfNone o (got ≡ [])
-    → got ≡ message_read o buffer
-read_is got o buffer some none = grind arith
+-- the one that waits, whose bytes were copied into a buffer
+pub waits_read : {pool : PoolState} {k : End} {o : Option Waiting} {m : Machine} (w : Waiting) (len : ℕ) (old new : List ℕ) → o ≡ Some w
+    → HoldsEnd pool k o m → length old ≡ 4096 → len ≡ min (length (chain_bytes pool w.chain) - 0) (length old)
+    → new ≡ take len (drop 0 (chain_bytes pool w.chain)) ++ drop len old → m.got ≡ (w.pipe, take len new) ∷ []
+waits_read w len old new waits h whole is put = grind (arith, common_steps)
 
 -- what is kept at a place
 pub desk_is : (pool : PoolState) (seats : List Seat) (ports : List Port) (i : ℕ) → SeatsStandFor pool seats ports

@@ -122,6 +122,15 @@ pub lent_here : {pool : PoolState} {seats : List Seat} {ports : List Port} (i : 
 lent_here {pool} {seats} {ports} i s inside is e =
     let P : Seat → Type 0 = λ x. IsReadHere pool ports i x in subst P (sym is) (reads_here i s inside e)
 
+-- its owner for what goes out
+pub owner_here : {pool : PoolState} {seats : List Seat} {ports : List Port} (i : ℕ) (s : Seat) → i < length seats → s ≡ slice_index_or seats i s
+    → AreEnds pool seats ports → s.side.outbox.owner ≡ 2 * i
+owner_here {pool} {seats} {ports} i s inside is e =
+    let p = seated pool i seats ports inside e.each in
+    let o = (owners_at 0 i seats p.seat p.seat_is e.owners).0 in
+    let owner : p.seat.side.outbox.owner ≡ 2 * i = omega (arith, o) in
+    ap (λ (x : Seat). x.side.outbox.owner) (is ∙ read_at seats i p.seat s p.seat_is) ∙ owner
+
 -- what becomes of it becomes of its port
 pub becomes_here : {old new : PoolState} {seats : List Seat} {f : Port → Port} (ports : List Port) (i : ℕ) (s t : Seat) → i < length seats
     → s ≡ slice_index_or seats i s → SeatBecomes old new s t f → AreEnds old seats ports → AreEnds new (slice_set seats i t) (at_place i f ports)

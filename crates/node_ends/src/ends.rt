@@ -6,7 +6,7 @@ ghost use Rattle.node_ends.specs.Ends.{KeptEnds, AreEnds};
 use crate::inputs::LinkInput;
 use crate::new_seats::add_seats;
 use crate::places::place_of;
-use crate::seat::Seat;
+use crate::seat::{Seat, Waiting};
 use block_pool::Pool;
 use link_end::{LinkReport, ResetRefused, SendRefused};
 use node_deeds::Unanswered;
@@ -130,7 +130,9 @@ impl Ends {
     {
         if let Some(i) = place_of(self.seats.as_slice(), host) {
             let seat = &mut self.seats[i];
-            seat.give_back(&mut self.pool);
+            if let Some(Waiting { chain, pipe: _ }) = seat.waiting.take() {
+                self.pool.give(chain);
+            }
         }
     }
 
@@ -242,12 +244,12 @@ impl Ends {
         }
     }
 
-    /// A new step begins at the end at this place.
-    pub fn begin_step(&mut self, i: usize)
+    /// A new step begins at all ends.
+    pub fn begin_step(&mut self)
         ensures { (ports : List Port) → EndsStandFor self.old ports
-            → EndsStandFor self.new (at_place i (λ p. record p { late = false; ended = false; turns = [] }) ports) }
+            → EndsStandFor self.new (map (λ (p : Port). record p { late = false; ended = false; turns = [] }) ports) }
     {
-        if i < self.seats.len() {
+        for i in 0..self.seats.len() {
             let seat = &mut self.seats[i];
             seat.late = false;
             seat.ended = false;

@@ -1,20 +1,10 @@
 //! What is read at the ends of a node.
-ghost use Rattle.std.specs.Prelude.{◌≡◌, ◌<◌, ◌≤◌, List, length, false};
-ghost use Rattle.node_machine.specs.Parts.{Port};
-ghost use Rattle.node_ends.specs.Ends.{AreEnds, are_idle, are_at_rest};
-ghost use Rattle.std.specs.Prelude.{if◌then◌else◌, map};
-ghost use Rattle.node_ends.specs.declared.seat.Seat.{Seat as Kept};
-ghost use Rattle.std.specs.Prelude.{ℕ, get_or};
-ghost use Rattle.block_pool.specs.Pool.{PoolState};
-ghost use Rattle.std.specs.List.{AllByRecursion};
-ghost use Rattle.node_deeds.specs.Room.{AreSpares};
-ghost use Rattle.node_machine.specs.Controller.{has_link};
+ghost use Rattle.std.specs.Prelude.{◌≡◌, ◌≤◌, if◌then◌else◌};
 
 use crate::ends::Ends;
 use crate::places::place_of;
-use crate::seat::Seat;
 use arrayvec::ArrayVec;
-use block_pool::Pool;
+use node_deeds::Desk;
 
 /// What a node looks at of its ends before it decides.
 #[derive(Drop)]
@@ -24,8 +14,6 @@ pub struct Seen {
     /// The links that are up: bit h stands for the one with host h, 1 to 7.
     pub up: u8,
 }
-
-use node_deeds::Desk;
 
 impl Ends {
     ghost use Rattle.std.specs.Prelude.{◌≡◌, ◌≤◌, List, IfSome, length, option_map, slice_get, false};
@@ -52,7 +40,13 @@ impl Ends {
             return None;
         };
         let seat = &self.seats[i];
-        seat.read(&self.pool, buffer)
+        match &seat.waiting {
+            Some(waiting) => {
+                let len = self.pool.copy_out(&waiting.chain, 0, buffer);
+                Some((waiting.pipe, len))
+            }
+            None => None,
+        }
     }
 
     /// What is kept of the ends, and which links are up. They are links with hosts 01 to 07.
@@ -62,7 +56,15 @@ impl Ends {
         ensures few { length result.desks.items ≤ 7 }
         ensures sound { AreSoundDesks result.desks.items }
     {
-        let links = links_of(self.seats.as_slice());
+        let mut desks = ArrayVec::new();
+        let mut links = [false; 8];
+        for seat in self.seats.as_slice() {
+            desks.push(seat.desk);
+            let host = usize::from(seat.desk.host);
+            if host < 8 {
+                links[host] = seat.is_up();
+            }
+        }
         let up = 2 * bit(links[1])
             + 4 * bit(links[2])
             + 8 * bit(links[3])
@@ -70,17 +72,22 @@ impl Ends {
             + 32 * bit(links[5])
             + 64 * bit(links[6])
             + 128 * bit(links[7]);
-        Seen {
-            desks: desks_of(self.seats.as_slice()),
-            up,
-        }
+        Seen { desks, up }
     }
 
     /// How many blocks for messages are spare at the end of the link with each host, 0 to 7, by its number. No host is above 7.
     pub fn spares(&self) -> [u16; 8]
         ensures { (ports : List Port) → EndsStandFor self.now ports → AllByRecursion (λ (p : Port). p.desk.host ≤ 7) ports → AreSpares result ports }
     {
-        spares_of(self.seats.as_slice(), &self.pool)
+        let mut spares = [0; 8];
+        for i in 0..self.seats.len() {
+            let seat = &self.seats[i];
+            let host = usize::from(seat.desk.host);
+            if host < 8 {
+                spares[host] = self.pool.spare((2 * i) as u8);
+            }
+        }
+        spares
     }
 
     /// Whether the session of the end at this place ended in this step as something came there; `false` behind the last end.
@@ -109,14 +116,24 @@ impl Ends {
     pub fn are_at_rest(&self) -> bool
         ensures { (ports : List Port) → EndsStandFor self.now ports → result ≡ are_at_rest ports }
     {
-        all_at_rest(self.seats.as_slice())
+        for seat in self.seats.as_slice() {
+            if !seat.side.is_at_rest() {
+                return false;
+            }
+        }
+        true
     }
 
     /// Whether nothing is left to do at any end behind what came in a step: no session ended there, no message waits, and none is held.
     pub fn are_idle(&self) -> bool
         ensures { (ports : List Port) → EndsStandFor self.now ports → result ≡ are_idle ports }
     {
-        all_idle(self.seats.as_slice())
+        for seat in self.seats.as_slice() {
+            if !seat.is_idle() {
+                return false;
+            }
+        }
+        true
     }
 
     /// Whether the session of some end has ended in this step.
@@ -170,71 +187,6 @@ impl Ends {
             None => None,
         }
     }
-}
-
-// Whether all these ends are at rest.
-fn all_at_rest(seats: &[Seat]) -> bool
-    ensures { (pool : PoolState) (ports : List Port) → AreEnds pool seats.now ports → result ≡ are_at_rest ports }
-{
-    for seat in seats {
-        if !seat.side.is_at_rest() {
-            return false;
-        }
-    }
-    true
-}
-
-// Whether nothing is left to do at any of these ends.
-fn all_idle(seats: &[Seat]) -> bool
-    ensures { (pool : PoolState) (ports : List Port) → AreEnds pool seats.now ports → result ≡ are_idle ports }
-{
-    for seat in seats {
-        if !seat.is_idle() {
-            return false;
-        }
-    }
-    true
-}
-
-// What is kept of each of these ends.
-fn desks_of(seats: &[Seat]) -> ArrayVec<Desk, 7>
-    requires { length seats.now ≤ 7 }
-    ensures { result.items ≡ map (λ (s : Kept). s.desk) seats.now }
-{
-    let mut desks = ArrayVec::new();
-    for seat in seats {
-        desks.push(seat.desk);
-    }
-    desks
-}
-
-// Whether the link with each host, 0 to 7, is up, by its number.
-fn links_of(seats: &[Seat]) -> [bool; 8]
-    ensures { (pool : PoolState) (ports : List Port) → AreEnds pool seats.now ports → (h : ℕ) → h ≤ 7 → get_or result h false ≡ has_link ports h }
-{
-    let mut links = [false; 8];
-    for seat in seats {
-        let host = usize::from(seat.desk.host);
-        if host < 8 {
-            links[host] = seat.is_up();
-        }
-    }
-    links
-}
-
-// How many blocks for messages are spare at the end of the link with each host, 0 to 7, by its number.
-fn spares_of(seats: &[Seat], pool: &Pool) -> [u16; 8]
-    requires { (ports : List Port) × AreEnds pool.now seats.now ports }
-    ensures { (ports : List Port) → AreEnds pool.now seats.now ports → AllByRecursion (λ (p : Port). p.desk.host ≤ 7) ports → AreSpares result ports }
-{
-    let mut spares = [0; 8];
-    for i in 0..seats.len() {
-        let host = usize::from(seats[i].desk.host);
-        if host < 8 {
-            spares[host] = pool.spare((2 * i) as u8);
-        }
-    }
-    spares
 }
 
 // 1 where it is so.

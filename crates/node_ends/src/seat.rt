@@ -33,14 +33,14 @@ pub struct Seat {
 }
 
 impl Seat {
-    ghost use Rattle.std.specs.Prelude.{◌≡◌, ◌||◌, ◌&&◌, ◌≤◌, ◌<◌, ◌∷◌, ◌==◌, not, true, false, [], ℕ, List, None, is_some, length, take, IfSome, IfNone};
+    ghost use Rattle.std.specs.Prelude.{◌≡◌, ◌||◌, ◌&&◌, ◌≤◌, ◌<◌, ◌==◌, not, true, false, ℕ, List, None, is_some, length, IfSome};
     ghost use Rattle.std.specs.Prelude.{Some, Ok, MatchResult, OnOk};
     ghost use Rattle.block_pool.specs.Pool.{PoolState};
     ghost use Rattle.link_laws.specs.machine.Machine.{LinkEnd as Machine, is_held, after_input, lpdu_input, report};
     ghost use Rattle.swp_lpdu.specs.Controls.{control_of};
     ghost use Rattle.link_end.specs.Reports.{report_told, reset_told};
     ghost use Rattle.link_laws.specs.sessions.Sessions.{is_up};
-    ghost use Rattle.link_laws.specs.machine.Machine.Turn.{SetAside, Release, FetchMessage};
+    ghost use Rattle.link_laws.specs.machine.Machine.Turn.{SetAside, Release};
     ghost use Rattle.link_laws.specs.machine.Machine.LinkInput.{Tick, Reset, Start, Stop};
     ghost use Rattle.link_end.specs.Ends.{controls_in};
     ghost use Rattle.node_ends.specs.Desks.{grown_older, kept_notice, has_hundred_ticks, as_forgotten};
@@ -74,33 +74,6 @@ impl Seat {
         }
         pool.release(owner);
         self.aside -= 1;
-    }
-
-    /// The message that waits has its turn: its blocks are given back.
-    pub(crate) fn give_back(&mut self, pool: &mut Pool)
-        requires stands { (m : Machine) × HoldsSeat pool.old self.old m }
-        ensures { SeatBecomes pool.old pool.new self.old self.new (after_turn FetchMessage) }
-    {
-        if let Some(Waiting { chain, pipe: _ }) = self.waiting.take() {
-            pool.give(chain);
-        }
-    }
-
-    /// Copies the message that waits into the front of a buffer of 4,096 bytes. Its pipe, and how many bytes it has.
-    pub(crate) fn read(&self, pool: &Pool, buffer: &mut [u8]) -> Option<(u8, usize)>
-        requires stands { (m : Machine) × HoldsSeat pool.now self.now m }
-        requires buffer { length buffer.old ≡ 4096 }
-        ensures some { (m : Machine) → HoldsSeat pool.now self.now m → IfSome result (λ x. m.got ≡ (x.0, take x.1 buffer.new) ∷ []) }
-        ensures none { (m : Machine) → HoldsSeat pool.now self.now m → IfNone result (m.got ≡ []) }
-        ensures inside { IfSome result (λ x. x.1 ≤ 4096) }
-    {
-        match &self.waiting {
-            Some(waiting) => {
-                let len = pool.copy_out(&waiting.chain, 0, buffer);
-                Some((waiting.pipe, len))
-            }
-            None => None,
-        }
     }
 
     /// What comes to the end, and what it did to the session is kept. While a message waits here the end is held, and at most six control

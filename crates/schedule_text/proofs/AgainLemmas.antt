@@ -1,5 +1,5 @@
 -- What is written is read again.
-use Rattle.std.proofs.Common.{◌≡◌, ◌&&◌, ℕ, zero, suc, ◌*◌, ◌^◌, ◌/◌, ◌%◌, ◌<◌, ◌≤◌, Bool, true, false, not, cond, nat_lt, List, [], ◌∷◌, ◌++◌, length, get_or}
+use Rattle.std.proofs.Common.{◌≡◌, ◌&&◌, ℕ, zero, suc, ◌*◌, ◌^◌, ◌/◌, ◌%◌, ◌<◌, ◌≤◌, Bool, true, false, cond, nat_lt, List, [], ◌∷◌, ◌++◌, length, get_or}
 use Rattle.std.proofs.Common.{slice_index, refl, sym, ◌∙◌, ap, subst, arith, rules, Some, Ok, All, filter}
 use Rattle.std.specs.List.{list_all, slice_split, AllByRecursion}
 use Rattle.std.specs.Char.{is_ascii_digit}
@@ -24,11 +24,8 @@ use Rattle.schedule_text.proofs.WordsLemmas.{is_space, is_letter, kept}
 abbrev pub IsWord : List ℕ → Type 0
 IsWord word = (0 < length word) × (list_all is_letter word ≡ true)
 
-letter_no_space : (b : Bool) → not b ≡ true → b ≡ false
-letter_no_space b h = grind arith
-
 no_spaces : (word : List ℕ) → list_all is_letter word ≡ true → All (λ b. is_space b ≡ false) word
-no_spaces word h = λ k d within. letter_no_space _ (AllPass-from_list_all is_letter word h k d within)
+no_spaces word h = λ k d within. (let h0 = (AllPass-from_list_all is_letter word h k d within) in grind arith)
 
 -- words with one space between them are those words
 pub words-spaced : (ws : List (List ℕ)) → AllByRecursion IsWord ws → words (spaced ws) ≡ ws
@@ -75,14 +72,10 @@ byte_digits b = refl
 side_again : (at_host : Bool) → side_value (cond at_host 104 99) ≡ Some at_host
 side_again at_host = grind arith
 
--- an end is read again
-end_of_digits : (high low : ℕ) (e : End) → byte_value (high ∷ low ∷ []) ≡ Some e.link → end_value (high ∷ low ∷ cond e.at_host 104 99 ∷ []) ≡ Some e
-end_of_digits high low e h = rw (h, side_again e.at_host) refl
-
 pub end_again : (e : End) → e.link < 256 → end_value (end_text e) ≡ Some e
 end_again e h =
     ap (λ digits. end_value (digits ++ cond e.at_host 104 99 ∷ [])) (byte_digits e.link)
-    ∙ end_of_digits _ _ e (sym (ap byte_value (byte_digits e.link)) ∙ byte_again e.link h)
+    ∙ (rw ((sym (ap byte_value (byte_digits e.link)) ∙ byte_again e.link h), side_again e.at_host) refl)
 
 side_letter : (at_host : Bool) → is_letter (cond at_host 104 99) ≡ true
 side_letter at_host = grind arith
@@ -118,11 +111,7 @@ number_again n some fits =
 
 digit_letters : (ds : List ℕ) → all_ascii_digits ds ≡ true → list_all is_letter ds ≡ true
 digit_letters [] h = refl
-digit_letters (c ∷ cs) h = go (is_ascii_digit c) refl h (digit_letters cs)
-  where
-    go : (t : Bool) → is_ascii_digit c ≡ t → (t && all_ascii_digits cs) ≡ true → (all_ascii_digits cs ≡ true → list_all is_letter cs ≡ true)
-        → (is_letter c && list_all is_letter cs) ≡ true
-    go t e h k = grind arith
+digit_letters (c ∷ cs) h = (let h0 = (is_ascii_digit c) in let h1 = (digit_letters cs) in grind arith)
 
 pub number_word : (n : ℕ) → n < 2 ^ 64 → IsWord (decimal n)
 number_word n h = (decimal_nonempty n h, digit_letters (decimal n) (number_digits n h))

@@ -41,11 +41,6 @@ pub resets : (header : Header) (ws : List (List ℕ)) (a : List ℕ) → ws ≡ 
     → Ok (read.Line (line.Reset at.0 None)) ≡ by_row (Some header) (row_for (codes "reset") ws) ws
 resets header ws a is at = grind arith
 
--- the same where there are no nodes
-pub busies : (header : Header) (ws : List (List ℕ)) (a : List ℕ) → ws ≡ a ∷ [] → header.hci ≡ false → (at : Fits header.hci header.hosts.items 0 kind.End a)
-    → Ok (read.Line (line.Busy at.0)) ≡ by_row (Some header) (row_for (codes "busy") ws) ws
-busies header ws a is bare at = grind arith
-
 pub readies : (header : Header) (ws : List (List ℕ)) (a : List ℕ) → ws ≡ a ∷ [] → header.hci ≡ false → (at : Fits header.hci header.hosts.items 0 kind.End a)
     → Ok (read.Line (line.Ready at.0)) ≡ by_row (Some header) (row_for (codes "ready") ws) ws
 readies header ws a is bare at = grind arith

@@ -7,11 +7,10 @@ use Rattle.schedule_text.specs.declared.fault.LineFault.{LineFault}
 use Rattle.schedule_text.specs.declared.fault.LineFault.TheVariants as fault
 use Rattle.schedule_text.specs.declared.read.Read.{Read}
 use Rattle.schedule_text.specs.declared.read.Read.TheVariants as read
-use Rattle.schedule_text.specs.declared.forms.Kind.{Kind}
 use Rattle.schedule_text.specs.declared.forms.Kind.TheVariants as kind
 use Rattle.schedule_text.specs.Forms.{FormRow, rows, row_for, has_third, nodes_row, header_row, send_row, deliver_row, lose_row, damage_row, tick_row}
 use Rattle.schedule_text.specs.Forms.{reset_row, busy_row, ready_row, boot_row, cut_row, activate_row, arm_row, init_row, tables_row, settle_row}
-use Rattle.schedule_text.specs.Rules.{Slot, slots, rising, digits_fault, first_digits_fault, first_host_fault, is_well_formed, words_fault}
+use Rattle.schedule_text.specs.Rules.{Slot, slots, rising, first_digits_fault, first_host_fault, is_well_formed, words_fault}
 use Rattle.schedule_text.specs.Lines.{read_of, may_stand, has_nodes, hosts_of, unless_fault, by_row, is_comment}
 use Rattle.schedule_text.specs.Answers.{IsReadOrNoMemory, IsOutOfOrder}
 use Rattle.schedule_text.proofs.RowsLemmas.{row_cases}
@@ -32,15 +31,9 @@ AreLater (Some f) = IsLater f
 later_or : (a b : Option LineFault) → AreLater a → AreLater b → AreLater (option_or a b)
 later_or a b h k = grind arith
 
-later_digits : (at from : ℕ) (k : Kind) (word : List ℕ) → AreLater (digits_fault at from k word)
-later_digits at from k word = grind arith
-
 later_first : (at from : ℕ) (ss : List Slot) → AreLater (first_digits_fault at from ss)
 later_first at from [] = tt
-later_first at from (s ∷ ss) = later_or _ _ (later_digits at from s.kind s.word) (later_first (at + 1) (rising from s.kind s.word) ss)
-
-later_host : (o : Option ℕ) → AreLater (option_map fault.Host o)
-later_host o = grind arith
+later_first at from (s ∷ ss) = later_or _ _ (grind arith) (later_first (at + 1) (rising from s.kind s.word) ss)
 
 later_words : (hci : Bool) (hosts : List ℕ) (row : FormRow) (ws : List (List ℕ)) → AreLater (words_fault hci hosts row ws)
 later_words hci hosts row ws = go (is_well_formed hci row ws)
@@ -48,7 +41,7 @@ later_words hci hosts row ws = go (is_well_formed hci row ws)
     go : (t : Bool)
         → AreLater (cond t (option_or (first_digits_fault 2 0 (slots row.kinds ws)) (option_map fault.Host (first_host_fault hosts 0 (slots row.kinds ws))))
         (Some fault.Word))
-    go true = later_or _ _ (later_first 2 0 (slots row.kinds ws)) (later_host (first_host_fault hosts 0 (slots row.kinds ws)))
+    go true = later_or _ _ (later_first 2 0 (slots row.kinds ws)) (grind arith)
     go false = tt
 
 later_said : (o : Option LineFault) (said : Option Read) (f : LineFault) → AreLater o → unless_fault o said ≡ Err f → IsLater f
@@ -80,16 +73,13 @@ not_standing header row ws h = go (may_stand row.place header) h
 allowed : (header : Option Header) (row : FormRow) (ws : List (List ℕ)) → may_stand row.place header ≡ true → by_row header (Some row) ws ≡ Err fault.Order → ⊥
 allowed header row ws stands h = let not = not_standing header row ws h in cc
 
-not_bare : (hci : Bool) → not hci ≡ false → IsTrue hci
-not_bare hci h = grind arith
-
 first_order : (first : List ℕ) (ws : List (List ℕ)) → first ≢ codes "swp" → by_row None (row_for first ws) ws ≡ Err fault.Order
 first_order first ws other =
     row_cases (λ o. by_row None o ws ≡ Err fault.Order) rows first ws (grind arith) (λ e. refl)
 
 bare_forbidden : (header : Header) (row : FormRow) (ws : List (List ℕ)) → may_stand row.place (Some header) ≡ not header.hci
     → by_row (Some header) (Some row) ws ≡ Err fault.Order → IsTrue header.hci
-bare_forbidden header row ws stands h = not_bare header.hci (sym stands ∙ not_standing (Some header) row ws h)
+bare_forbidden header row ws stands h = let h0 = (sym stands ∙ not_standing (Some header) row ws h) in grind arith
 
 nodes_forbidden : (header : Header) (row : FormRow) (ws : List (List ℕ)) → may_stand row.place (Some header) ≡ header.hci
     → by_row (Some header) (Some row) ws ≡ Err fault.Order → header.hci ≡ false
@@ -148,10 +138,6 @@ later_order header first ws =
       ),
     ) (λ e h. cc)
 
-order_later : (header : Header) (first : List ℕ) (ws : List (List ℕ)) → IsOutOfOrder (Some header) (first ∷ ws)
-    → by_row (Some header) (row_for first ws) ws ≡ Err fault.Order
-order_later header first ws a = grind arith
-
 first_header : (ws : List (List ℕ)) (t : Bool) → by_row None (cond t (Some nodes_row) (Some header_row)) ws ≡ Err fault.Order → ⊥
 first_header ws true h = allowed None nodes_row ws refl h
 first_header ws false h = allowed None header_row ws refl h
@@ -164,15 +150,11 @@ header_stands first ws h e =
 pub order_iff : (header : Option Header) (first : List ℕ) (ws : List (List ℕ)) → is_comment first ≡ false
     → (by_row header (row_for first ws) ws ≡ Err fault.Order) ↔ IsOutOfOrder header (first ∷ ws)
 order_iff None first ws letter = (λ h. (λ t. cc, header_stands first ws h), λ h. first_order first ws h.1)
-order_iff (Some header) first ws letter = (later_order header first ws, order_later header first ws)
+order_iff (Some header) first ws letter = (later_order header first ws, λ a. grind arith)
 
 -- want of memory is no fault
 pub same_fault : (answer said : Result Read LineFault) (f : LineFault) → IsReadOrNoMemory answer said → (answer ≡ Err f) ↔ (said ≡ Err f)
 same_fault answer said f a = grind arith
-
--- nor is a line skipped for it
-pub same_skip : (answer said : Result Read LineFault) → IsReadOrNoMemory answer said → answer ≡ Ok read.Skip → said ≡ Ok read.Skip
-same_skip answer said a h = grind arith
 
 -- what holds of what is read holds of what is answered, if it holds of want of memory
 pub answer_fits : (P : Read → Type 0) (answer said : Result Read LineFault) → IsReadOrNoMemory answer said → ((r : Read) → said ≡ Ok r → P r)

@@ -1,5 +1,5 @@
 -- Which words are pairs of hexadecimal digits, and how many.
-use Rattle.std.proofs.Common.{◌≡◌, ◌+◌, ◌*◌, ◌%◌, ◌/◌, ◌<◌, ◌≤◌, IfSome, ℕ, true, List, [], ◌∷◌, length, slice_index, refl, sym, ◌∙◌, ap, ap₂, arith, Option}
+use Rattle.std.proofs.Common.{◌≡◌, ◌+◌, ◌*◌, ◌%◌, ◌/◌, ◌<◌, ◌≤◌, IfSome, ℕ, true, List, [], ◌∷◌, length, refl, sym, ◌∙◌, ap, ap₂, arith, Option}
 use Rattle.std.proofs.Common.{Some, None, Result, Ok, Err}
 use Rattle.std.specs.Result.{result_ok}
 use Rattle.std.specs.List.{list_all}
@@ -34,15 +34,11 @@ bytes_of_others word other = ap (option_map length) (no_bytes word (decode_of wo
 abbrev both_read : ℕ → ℕ → Option ℕ → Option ℕ → Result (List ℕ) FromHexError
 both_read high low x y = (digit_or_error high 0 x >>= (λ h. digit_or_error low 1 y >>= (λ l. Ok (h * 16 + l)))) >>= (λ byte. Ok (byte ∷ []))
 
-both_digits : (high low : ℕ) (x y : Option ℕ)
-    → option_map (λ bytes. slice_index bytes 0) (result_ok (both_read high low x y)) ≡ option_and_then (λ h. option_map (λ l. h * 16 + l) y) x
-both_digits high low x y = grind arith
-
 byte_of_two : (high low : ℕ) (x y : Option ℕ) → hex_digit_value high ≡ x → hex_digit_value low ≡ y
     → byte_value (high ∷ low ∷ []) ≡ option_and_then (λ h. option_map (λ l. h * 16 + l) y) x
 unfolding decode_pairs
 byte_of_two high low x y ex ey =
-    both_digits high low (hex_digit_value high) (hex_digit_value low) ∙ ap₂ (λ x y. option_and_then (λ h. option_map (λ l. h * 16 + l) y) x) ex ey
+    (grind arith) ∙ ap₂ (λ x y. option_and_then (λ h. option_map (λ l. h * 16 + l) y) x) ex ey
 
 pub no_high : (high low : ℕ) → hex_digit_value high ≡ None → None ≡ byte_value (high ∷ low ∷ [])
 no_high high low e = sym (byte_of_two high low None (hex_digit_value low) e refl)

@@ -1,7 +1,7 @@
 -- What is read is inside the grammar: a line for each form, by what its words are.
 use Rattle.std.proofs.Common.{◌≡◌, ◌==◌, ◌||◌, ℕ, zero, suc, ◌+◌, ◌<◌, ◌≤◌, Bool, true, false, not, cond, nat_lt, List, [], ◌∷◌, length, get_or}
 use Rattle.std.proofs.Common.{refl, sym, ◌∙◌, subst, ap, slice_index}
-use Rattle.std.proofs.Common.{inl, inr, arith, Option, Some, None, Result, Ok, Err, IfSome, Contains, All, IsTrue, IsSome, slice_get, eqb-true}
+use Rattle.std.proofs.Common.{inl, inr, arith, Option, Some, None, Result, Ok, Err, IfSome, Contains, All, IsSome, slice_get, eqb-true}
 use Rattle.std.specs.List.{list_any}
 use Rattle.std.specs.List.Sorted.{IsStrictlyIncreasing}
 use Rattle.std.specs.Option.{option_map_or}
@@ -40,9 +40,6 @@ pub contains_found : (xs : List ℕ) (q : ℕ) → list_any (λ x. x == q) xs �
 contains_found [] q h = cc
 contains_found (x ∷ xs) q h = found_at (x == q) x q xs refl (contains_found xs q) h
 
-implied : (a b : Bool) → (not a || b) ≡ true → IsTrue a → IsTrue b
-implied a b h t = grind arith
-
 pub ok_of : (r : Result (List ℕ) FromHexError) (bytes : List ℕ) → result_ok r ≡ Some bytes → r ≡ Ok bytes
 ok_of r bytes h = grind arith
 
@@ -69,7 +66,7 @@ says_send header (a ∷ b ∷ c ∷ ws) right =
       rw (at.1, pid.1, message.1) refl,
       record {
         known = contains_found header.hosts.items at.0.link at.2;
-        sender = implied header.hci at.0.at_host at.3;
+        sender = λ t. grind arith;
         pipe = pid.2;
         some = message.2;
         bytes = are_bytes c message.0 message.1;
@@ -216,9 +213,6 @@ pipes_read hci hosts from (w ∷ ws) h =
       all_more pipe.0 more.0 (long, are_bytes w pipe.0 pipe.1) more.3,
     )
 
-sender_hosts : (hci at_host : Bool) → hci ≡ true → (not hci || at_host) ≡ true → IsTrue at_host
-sender_hosts hci at_host nodes h = grind arith
-
 pub says_init : (header : Header) (ws : List (List ℕ)) → header.hci ≡ true → Says header init_row ws
 says_init header (a ∷ b ∷ ws) nodes right =
     let at = right.words.0 in
@@ -235,7 +229,7 @@ says_init header (a ∷ b ∷ ws) nodes right =
         nodes,
         record {
           known = contains_found header.hosts.items at.0.link at.2;
-          host = sender_hosts header.hci at.0.at_host nodes at.3;
+          host = grind arith;
           long = long;
           bytes = are_bytes b identity.0 identity.1;
           few = omega (arith, most, count);
@@ -442,15 +436,9 @@ fits_whole header said h = tt
 pub row_fits : (header : Option Header) (first : List ℕ) (ws : List (List ℕ)) (r : Read) → by_row header (row_for first ws) ws ≡ Ok r → IsInGrammar header r
 row_fits header first ws r h = fits_whole header r (row_whole header first ws r h)
 
-no_skip : (header : Option Header) → IsWhole header read.Skip → ⊥
-no_skip header h = grind arith
-
 -- a line of a form isn't skipped
 pub never_skipped : (header : Option Header) (first : List ℕ) (ws : List (List ℕ)) → by_row header (row_for first ws) ws ≡ Ok read.Skip → ⊥
-never_skipped header first ws h = no_skip header (row_whole header first ws read.Skip h)
-
-pub memory_fits : (header : Option Header) → IsInGrammar header read.NoMemory
-memory_fits header = grind arith
+never_skipped header first ws h = let h0 = (row_whole header first ws read.Skip h) in grind arith
 
 skip_fits : (header : Option Header) → IsInGrammar header read.Skip
 skip_fits header = grind arith

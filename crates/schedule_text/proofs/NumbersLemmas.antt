@@ -10,16 +10,13 @@ use Rattle.schedule_text.specs.Values.{option_if}
 abbrev pub onward : ℕ → List ℕ → Option ℕ
 onward n word = cond (all_ascii_digits word) (Some (digits_value_after 10 n word)) None
 
-onward_digit : (n c : ℕ) (cs : List ℕ) → is_ascii_digit c ≡ true → onward n (c ∷ cs) ≡ onward (n * 10 + (c - 48)) cs
-onward_digit n c cs h = grind arith
-
 onward_other : (n c : ℕ) (cs : List ℕ) → is_ascii_digit c ≡ false → onward n (c ∷ cs) ≡ None
 onward_other n c cs h = ap (λ b. cond (b && all_ascii_digits cs) (Some (digits_value_after 10 n (c ∷ cs))) None) h
 
 -- the next digit of a word
 pub onward_at : (n i : ℕ) (word : List ℕ) → i < length word → is_ascii_digit (get_or word i 0) ≡ true
     → onward n (drop i word) ≡ onward (n * 10 + (get_or word i 0 - 48)) (drop (i + 1) word)
-onward_at n i word within h = rw (add-one, drop-cons word i 0 within) (onward_digit n (get_or word i 0) (drop (suc i) word) h)
+onward_at n i word within h = rw (add-one, drop-cons word i 0 within) (grind arith)
 
 -- another letter
 pub onward_at_other : (n i : ℕ) (word : List ℕ) → i < length word → is_ascii_digit (get_or word i 0) ≡ false → onward n (drop i word) ≡ None

@@ -53,12 +53,9 @@ pub pairs_more : (digits bytes : List ℕ) (i : ℕ) (byte : ℕ) → 2 * i + 1 
 pairs_more digits bytes i byte fits pair h =
     let two : 2 * i + 1 + 1 ≡ 2 * (i + 1) = omega arith in
     let cut : take (2 * i) digits ++ (slice_index digits (2 * i) ∷ slice_index digits (2 * i + 1) ∷ []) ≡ take (2 * (i + 1)) digits =
-    cut_two digits (2 * i) fits ∙ ap (λ n. take n digits) two in
+    (rw (take_more digits ((2 * i) + 1) 0 fits, take_more digits (2 * i) 0 (omega arith), append_assoc) refl) ∙ ap (λ n. take n digits) two in
     subst (λ front. IsPairs front (bytes ++ byte ∷ [])) cut
     (pairs_append (take (2 * i) digits) bytes _ (byte ∷ []) h (pair, tt))
-  where
-    cut_two : (xs : List ℕ) (k : ℕ) → k + 1 < length xs → take k xs ++ (slice_index xs k ∷ slice_index xs (k + 1) ∷ []) ≡ take (k + 1 + 1) xs
-    cut_two xs k within = rw (take_more xs (k + 1) 0 within, take_more xs k 0 (omega arith), append_assoc) refl
 
 -- nothing is left of the digits
 pub pairs_all : (front left digits bytes : List ℕ) → front ++ left ≡ digits → length left ≡ 0 → IsPairs front bytes → bytes_value digits ≡ Some bytes

@@ -1,6 +1,6 @@
 -- What is written of a line or a header is read again as it: one lemma for each kind of word, and a line for each form.
 use Rattle.std.proofs.Common.{◌≡◌, ◌==◌, ◌||◌, ℕ, zero, suc, ◌+◌, ◌*◌, ◌/◌, ◌%◌, ◌^◌, ◌<◌, ◌≤◌, Bool, true, false, not, cond, inl, inr, eqb-true, List, []}
-use Rattle.std.proofs.Common.{◌∷◌, ◌++◌, length, get_or, slice_get, slice_index, map, refl, sym, ◌∙◌, ap, subst, arith, Option, Some, None, Ok, Err, IsTrue}
+use Rattle.std.proofs.Common.{◌∷◌, ◌++◌, length, get_or, slice_get, slice_index, map, refl, sym, ◌∙◌, ap, subst, arith, Option, Some, None, Ok, Err}
 use Rattle.std.proofs.Common.{IfSome, Contains, All, codes, length-append}
 use Rattle.std.specs.List.{list_any, AllByRecursion}
 use Rattle.std.specs.List.Sorted.{IsStrictlyIncreasing}
@@ -36,10 +36,7 @@ use Rattle.schedule_text.proofs.LinesLemmas.{contains_found, sized_read, HostsFr
 found : (xs : List ℕ) (q k : ℕ) → k < length xs → get_or xs k 0 ≡ q → list_any (λ x. x == q) xs ≡ true
 found [] q k h e = absurd (omega arith)
 found (x ∷ xs) q zero h e = rw (eq-eqb x q e) refl
-found (x ∷ xs) q (suc k) h e = go (x == q) (found xs q k (omega arith) e)
-  where
-    go : (t : Bool) → list_any (λ x. x == q) xs ≡ true → (t || list_any (λ x. x == q) xs) ≡ true
-    go t h = grind arith
+found (x ∷ xs) q (suc k) h e = (let h0 = (x == q) in let h1 = (found xs q k (omega arith) e) in grind arith)
 
 pub found_in : (xs : List ℕ) (q : ℕ) → Contains xs q → IsKnown xs q
 found_in xs q h = found xs q h.0 h.1 (get_or_default xs h.0 0 q h.1 ∙ h.2)
@@ -61,9 +58,6 @@ node_fits hosts n all h = go (n == 0) refl h
 -- the link of an end of a world is a byte
 link_fits : (header : Header) (e : End) → MayBegin header → Contains header.hosts.items e.link → e.link < 256
 link_fits header e known h = let small = host_fits header.hosts.items e.link (header_hosts header known) h in omega (arith, small)
-
-sender_again : (hci at_host : Bool) → (IsTrue hci → IsTrue at_host) → (not hci || at_host) ≡ true
-sender_again hci at_host h = grind arith
 
 -- an end that is written fits
 end_fits : (header : Header) (e : End) → MayBegin header → Contains header.hosts.items e.link → Fits header.hci header.hosts.items 0 kind.End (end_text e)
@@ -219,9 +213,6 @@ pipes_come_back (pipe ∷ pipes) h =
     let one = first_pipe pipe pipes h in
     rw (sized_read 3 (encode_upper pipe) pipe (bytes_again pipe one.1) one.0, pipes_come_back pipes (other_pipes pipe pipes h)) refl
 
-host_sends : (hci at_host : Bool) → IsTrue at_host → (not hci || at_host) ≡ true
-host_sends hci at_host h = grind arith
-
 -- a line
 pub line_again : (header : Header) (said : Line) → MayBegin header → MayFollow header said → length (line_text said) ≤ 9000
     → line_of (Some header) (line_text said) ≡ Ok (read.Line said)
@@ -236,7 +227,7 @@ line_again header (line.Send e pid message) world fits short =
       least = omega arith;
       most = omega arith;
       words = (
-        (e, end, found_in header.hosts.items e.link fits.known, sender_again header.hci e.at_host fits.sender),
+        (e, end, found_in header.hosts.items e.link fits.known, grind arith),
         ((pid, byte, fits.pipe), ((message, bytes, fits.some, message_fits e pid message short), tt)),
       );
     })
@@ -347,7 +338,7 @@ line_again header (line.Init e identity pipes) world fits short =
       least = omega arith;
       most = omega (arith, few, count);
       words = (
-        (e, end, found_in header.hosts.items e.link fits.1.known, host_sends header.hci e.at_host fits.1.host),
+        (e, end, found_in header.hosts.items e.link fits.1.known, grind arith),
         ((identity, bytes, omega (arith, long), omega (arith, long)), pipes_fit header.hci header.hosts.items 0 pipes.items fits.1.each),
       );
     })

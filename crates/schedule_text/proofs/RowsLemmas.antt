@@ -55,11 +55,6 @@ AllFit hci hosts from (s ∷ ss) = Fits hci hosts from s.kind s.word × AllFit h
 node_known : (hosts : List ℕ) (o : Option ℕ) → is_some o ≡ true → no_node hosts o ≡ None → (n : ℕ) × (o ≡ Some n) × IsNodeKnown hosts n
 node_known hosts o h none = grind arith
 
--- a word without fault fits its kind
-word_fits : (hci : Bool) (hosts : List ℕ) (at from : ℕ) (k : Kind) (word : List ℕ) → has_shape hci k word ≡ true → digits_fault at from k word ≡ None
-    → host_fault hosts from k word ≡ None → Fits hci hosts from k word
-word_fits hci hosts at from k word shape digits host = grind arith
-
 -- a word that fits its kind has no fault
 abbrev HasNoFault : Bool → List ℕ → ℕ → ℕ → Kind → List ℕ → Type 0
 HasNoFault hci hosts at from k word = (has_shape hci k word ≡ true) × (digits_fault at from k word ≡ None) × (host_fault hosts from k word ≡ None)
@@ -75,7 +70,7 @@ all_fit hci hosts at from (s ∷ ss) shapes digits host =
     let shape = and_parts _ _ shapes in
     let digit = or_none (digits_fault at from s.kind s.word) (first_digits_fault (at + 1) (rising from s.kind s.word) ss) digits in
     let known = or_none (host_fault hosts from s.kind s.word) (first_host_fault hosts (rising from s.kind s.word) ss) host in
-    (word_fits hci hosts at from s.kind s.word shape.0 digit.0 known.0, all_fit hci hosts (at + 1) (rising from s.kind s.word) ss shape.1 digit.1 known.1)
+    ((grind arith), all_fit hci hosts (at + 1) (rising from s.kind s.word) ss shape.1 digit.1 known.1)
 
 all_right : (hci : Bool) (hosts : List ℕ) (at from : ℕ) (ss : List Slot) → AllFit hci hosts from ss
     → (list_all (λ s. has_shape hci s.kind s.word) ss ≡ true) × (first_digits_fault at from ss ≡ None) × (first_host_fault hosts from ss ≡ None)

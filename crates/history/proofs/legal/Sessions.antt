@@ -2,23 +2,22 @@
 -- read.
 use Rattle.std.proofs.lemmas.Grind.{common_steps}
 use Rattle.std.proofs.lemmas.List.Concat.{flat_map-append}
-use Rattle.std.proofs.lemmas.List.Elements.{filter_map-append}
-use Rattle.history.proofs.Words.{Acked, ActDue, Active, AllAllowed, AllByRecursion, Asked, AsksReset, Begins, Book, Bool, Busy, ByAct, Cause, Caused, Chain}
+use Rattle.history.proofs.Words.{Acked, ActDue, Active, AllAllowed, AllByRecursion, Asked, AsksReset, Begins, Bool, Busy, ByAct, Cause, Chain}
 use Rattle.history.proofs.Words.{Control, Controller, Counts, Cut, CutOff, Damage, Deliver, Down, Emit, End, EndEvent, EndState, EndStep, Ends, Entry, Event}
 use Rattle.history.proofs.Words.{Follows, GaveUp, Gets, Given, GoesOut, Got, HasNumbers, HasTick, Header, History, Host, InOrderIn, IsBare, IsEvent, IsFrontOf}
 use Rattle.history.proofs.Words.{IsHeader, IsInOrder, IsLineOf, IsSendable, IsWindow, Line, Link, LinkEnd, LinkEvent, LinkInput, List, Lose, Loss, Lost}
-use Rattle.history.proofs.Words.{Message, NamedEnd, NextFrame, NoAnswer, NoCause, NoInput, None, Noted, NumberedEnd, OnWire, Option, Outcome, Peer, Prefix}
-use Rattle.history.proofs.Words.{Readied, Ready, Refused, Report, Reset, Restarted, Saying, Send, Sends, Sent, Side, Some, Starts, Step, StepsFollow, Stops}
-use Rattle.history.proofs.Words.{Take, Taken, Ticked, TooMany, Took, Turn, Up, Verdict, WasLost, WasReset, [], acked_after, acked_in, after_input}
+use Rattle.history.proofs.Words.{Message, NamedEnd, NextFrame, NoAnswer, NoInput, None, Noted, NumberedEnd, OnWire, Option, Outcome, Peer, Prefix}
+use Rattle.history.proofs.Words.{Readied, Ready, Report, Reset, Restarted, Saying, Send, Sends, Sent, Side, Some, Starts, Step, StepsFollow, Stops}
+use Rattle.history.proofs.Words.{Take, Taken, Ticked, Took, Turn, Up, Verdict, WasLost, WasReset, [], acked_after, acked_in, after_input}
 use Rattle.history.proofs.Words.{after_link_events, aged, aged_entries, all_entries, all_events, among, ap, arith, at, at_each_moment, at_end, bare_link}
 use Rattle.history.proofs.Words.{causes_in, causes_of, cons_option, damage_causes, drop, end_of, ended_by, entries, entries_for, entries_of, entry_of, event_at}
-use Rattle.history.proofs.Words.{event_entries, event_of, events_at, events_of, exchanged, false, far, fetched, first_lost, first_verdict, flat_map, fold}
+use Rattle.history.proofs.Words.{event_entries, event_of, events_at, events_of, exchanged, false, fetched, first_lost, first_verdict, flat_map, fold}
 use Rattle.history.proofs.Words.{frame_due, frames_of, frames_out, frames_to, good_of, got_in, got_in_session, happens, heard, here_entries, host_of, idle}
 use Rattle.history.proofs.Words.{if_so, if◌then◌else◌, is_chain_fault, is_some, left_after, length, link_acked, link_after, link_after_all, link_after_line}
 use Rattle.history.proofs.Words.{link_fault, link_got, link_sent, list_any, map, max, most_frames, nat_lt, number_of, opening_of, option_to_list, other_end}
-use Rattle.history.proofs.Words.{outcome_of, put, put_entries, puts_entries, read-append, refl, refusal, replicate, report, rest_entries, said_of, same_end}
+use Rattle.history.proofs.Words.{outcome_of, put, put_entries, puts_entries, refl, refusal, replicate, report, rest_entries, said_of, same_end}
 use Rattle.history.proofs.Words.{same_side, sent_by, sent_in, step_entries, subst, suc, sym, take, taken_entries, taken_of, tick_entries, ticks_at_controller}
-use Rattle.history.proofs.Words.{told, told_of, took_with, trace, true, turn, turn_entries, turn_entry, turned, unwrap_or, whole_acked, wire_with, with_ended}
+use Rattle.history.proofs.Words.{told, told_of, took_with, trace, true, turn, turn_entries, turn_entry, turned, unwrap_or, whole_acked, with_ended}
 use Rattle.history.proofs.Words.{zero, ℕ, ◌&&◌, ◌++◌, ◌-◌, ◌<◌, ◌==◌, ◌∙◌, ◌∷◌, ◌≡◌, ◌≤◌}
 use Rattle.link_laws.proofs.entries.Disturbing.{no_chain_noted}
 use Rattle.link_laws.proofs.entries.Hearing.{controller_heard as link_controller, host_heard as link_host}
@@ -51,10 +50,7 @@ sent-one h x who n = grind arith
 
 pub sent-all : (h : ℕ) (t : List Noted) (who : Side) (n : ℕ) → sent_in (entries_for h t) (end_of h who) n ≡ link_sent t who n
 sent-all h [] who n = refl
-sent-all h (x ∷ t) who n =
-    filter_map-append (λ entry. sent_by n (said_of (end_of h who) entry)) (entry_of h x) (entries_for h t)
-    ∙ (ap (λ ms. ms ++ sent_in (entries_for h t) (end_of h who) n) (sent-one h x who n)
-    ∙ (ap (λ ms. link_sent (x ∷ []) who n ++ ms) (sent-all h t who n) ∙ sym (ap (λ (b : Book). b.sent) (read-append (x ∷ []) t who n))))
+sent-all h (x ∷ t) who n = let h0 = end_of h who in let h1 = entries_for h t in let h2 = sent-one h x who n in let h3 = sent-all h t who n in grind arith
 
 -- ### Messages got
 
@@ -63,10 +59,7 @@ got-one h x who n = grind arith
 
 pub got-all : (h : ℕ) (t : List Noted) (who : Side) (n : ℕ) → got_in (entries_for h t) (end_of h who) n ≡ link_got t who n
 got-all h [] who n = refl
-got-all h (x ∷ t) who n =
-    filter_map-append (λ entry. got_in_session n (said_of (end_of h who) entry)) (entry_of h x) (entries_for h t)
-    ∙ (ap (λ ms. ms ++ got_in (entries_for h t) (end_of h who) n) (got-one h x who n)
-    ∙ (ap (λ ms. link_got (x ∷ []) who n ++ ms) (got-all h t who n) ∙ sym (ap (λ (b : Book). b.got) (read-append (x ∷ []) t who n))))
+got-all h (x ∷ t) who n = let h0 = end_of h who in let h1 = entries_for h t in let h2 = got-one h x who n in let h3 = got-all h t who n in grind arith
 
 -- ### Messages acknowledged
 
@@ -247,15 +240,9 @@ of_can h l (x ∷ xs) a = (a.1, of_can h (link_after l x.cause) xs a.2)
 
 -- the events of a line
 of_line : (header : Header) (h : ℕ) (l : Link) (line : Line) → IsLineOf header line → AreOf h l (events_of (outcome_of h l line))
-of_line header h l line is = go (refusal l line)
-  where
-    decided : Option NoCause → Outcome
-    decided (Some cause) = Refused cause
-    decided None = Caused (events_at h l (causes_in l line))
-
-    go : (o : Option NoCause) → AreOf h l (events_of (decided o))
-    go (Some cause) = tt
-    go None = of_causes h l (causes_in l line) (can_line header l line is)
+of_line header h l line is =
+    let h0 = refusal l line in let h1 = events_at h l (causes_in l line) in let h2 = of_causes h l (causes_in l line) (can_line header l line is) in
+    grind arith
 
 -- the events of steps
 abbrev pub events_in : List Step → List Event
@@ -288,10 +275,7 @@ front_given f one xs [] back q = ([], (xs, refl), refl)
 front_given f one [] (y ∷ front) back q = grind arith
 front_given {X} {Y} f one (x ∷ xs) (y ∷ front) back q = go (f x) refl (one x) (front_given f one xs)
   where
-    Given : List Y → Type 0
-    Given ys = (p : List X) × IsFrontOf p xs × (ys ≡ flat_map f p)
-
-    go : (ys : List Y) → f x ≡ ys → IsOneAtMost ys → ((fr bk : List Y) → flat_map f xs ≡ fr ++ bk → Given fr)
+    go : (ys : List Y) → f x ≡ ys → IsOneAtMost ys → ((fr bk : List Y) → flat_map f xs ≡ fr ++ bk → ((p : List X) × IsFrontOf p xs × (fr ≡ flat_map f p)))
         → (p : List X) × IsFrontOf p (x ∷ xs) × (y ∷ front ≡ flat_map f p)
     go [] e o later =
         let r = later (y ∷ front) back (sym (ap (λ z. z ++ flat_map f xs) e) ∙ q) in
@@ -422,10 +406,7 @@ HaveNumbers cs = AllByRecursion HasNumbers cs
 
 frames_numbers : (n : ℕ) (e : EndState) → HaveNumbers (frames_of n e)
 frames_numbers zero e = tt
-frames_numbers (suc n) e = go (frame_due e) refl (frames_numbers n (fetched e))
-  where
-    go : (o : Option Control) → frame_due e ≡ o → HaveNumbers (frames_of n (fetched e)) → HaveNumbers (frames_of (suc n) e)
-    go o q later = grind arith
+frames_numbers (suc n) e = let h0 = frame_due e in let h1 = frames_numbers n (fetched e) in grind arith
 
 take_numbers : (n : ℕ) (cs : List Control) → HaveNumbers cs → HaveNumbers (take n cs)
 take_numbers zero cs h = tt
@@ -502,21 +483,15 @@ plain_turns who n e (t ∷ ts) =
 plain_first : (who : Side) (why : Loss) (xs : List OnWire) → ArePlain (first_lost who why xs)
 plain_first who why xs = grind arith
 
-plain_pushed : (who : Side) (b : Bool) (xs : List OnWire) → ArePlain (if b then first_lost who TooMany xs else [])
-plain_pushed who b xs = grind arith
-
 plain_puts : (who : Side) (cs : List Control) (l : Link) → HaveNumbers cs → ArePlain (puts_entries who l cs)
 plain_puts who [] l h = tt
 plain_puts who (c ∷ cs) l h =
     plain-append (put_entries who l c) (puts_entries who (put l c) cs)
-    (h.0, plain_pushed (far who) (nat_lt 64 (length (wire_with l c))) (wire_with l c)) (plain_puts who cs (put l c) h.1)
+    (h.0, grind arith) (plain_puts who cs (put l c) h.1)
 
 plain_aged : (who : Side) (xs : List OnWire) → ArePlain (aged_entries who xs)
 plain_aged who [] = tt
-plain_aged who (x ∷ xs) = go (nat_lt x.age 4) refl (plain_aged who xs)
-  where
-    go : (b : Bool) → nat_lt x.age 4 ≡ b → ArePlain (aged_entries who xs) → ArePlain (aged_entries who (x ∷ xs))
-    go b q later = grind arith
+plain_aged who (x ∷ xs) = let h0 = plain_aged who xs in grind arith
 
 plain_rest : (who : Side) (l : Link) (e : LinkEnd) (ts : List Turn) → ArePlain (rest_entries who l e ts GoesOut)
 plain_rest who l e ts =

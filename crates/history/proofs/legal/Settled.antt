@@ -2,7 +2,7 @@
 -- ends up.
 use Rattle.std.proofs.lemmas.List.{map-append}
 use Rattle.history.proofs.Words.{Acked, Act, AllAllowed, AllByRecursion, AreActive, AreReadUpTogether, Begins, Bool, Busy, Cause, Caused, Clt, Complete}
-use Rattle.history.proofs.Words.{Contains, Control, Controller, Counts, Cut, Damage, Deliver, Down, Emit, End, Ends, Entry, Event, Follows, Gets, Good, Got}
+use Rattle.history.proofs.Words.{Contains, Control, Controller, Counts, Cut, Damage, Deliver, Down, Emit, End, Entry, Event, Follows, Gets, Good, Got}
 use Rattle.history.proofs.Words.{Header, History, Host, I, IsBare, IsComplete, IsDelivered, IsEndOf, IsHeader, IsLineOf, IsNoted, IsQuietSince, IsReadQuiet}
 use Rattle.history.proofs.Words.{Line, Link, LinkDelivered, LinkEvent, List, Lose, Loses, Loss, Lost, Message, NoCause, None, Noted, OnWire, Option, Outcome}
 use Rattle.history.proofs.Words.{Puts, Reached, Ready, Refused, Rej, Reset, Restarted, Rnr, Rr, Rset, S, Saying, Seen, Send, Sends, Sent, Settled, Side, Some}
@@ -39,12 +39,6 @@ session_from s e t = fold (λ session entry. session_after session (said_of e en
 unheard : (s : Option ℕ) (b : Bool) (x : Saying) → session_after s (Some x) ≡ s → session_after s (if_said b x) ≡ s
 unheard s b x q = grind arith
 
-begun_here : (s : Option ℕ) (k : ℕ) (b : Bool) → session_after s (if_said b (Begins k)) ≡ (if b then Some k else s)
-begun_here s k b = grind arith
-
-ended_here : (s : Option ℕ) (b : Bool) → session_after s (if_said b Ends) ≡ (if b then None else s)
-ended_here s b = grind arith
-
 passed_over : (h : ℕ) (t : List Noted) (who w : Side) (s : Option ℕ) (x : Saying) → session_after s (Some x) ≡ s
     → session_from (session_after s (if_said (same_end (end_of h w) (end_of h who)) x)) (end_of h who) (entries_for h t)
     ≡ session_from s (end_of h who) (entries_for h t)
@@ -54,11 +48,11 @@ session-from : (h : ℕ) (t : List Noted) (who : Side) (s : Option ℕ) → AreP
 session-from h [] who s p = refl
 session-from h (Up w k ∷ t) who s p =
     ap (λ z. session_from z (end_of h who) (entries_for h t))
-    (begun_here s k (same_end (end_of h w) (end_of h who)) ∙ ap (λ b. if b then Some k else s) (same_as h w who))
+    ((grind arith) ∙ ap (λ b. if b then Some k else s) (same_as h w who))
     ∙ session-from h t who (if same_side w who then Some k else s) p.1
 session-from h (Down w cause ∷ t) who s p =
     ap (λ z. session_from z (end_of h who) (entries_for h t))
-    (ended_here s (same_end (end_of h w) (end_of h who)) ∙ ap (λ b. if b then None else s) (same_as h w who))
+    ((grind arith) ∙ ap (λ b. if b then None else s) (same_as h w who))
     ∙ session-from h t who (if same_side w who then None else s) p.1
 session-from h (Acked w k count ∷ t) who s p = passed_over h t who w s (Counts k count) refl ∙ session-from h t who s p.1
 session-from h (Got w k m ∷ t) who s p = passed_over h t who w s (Gets k m) refl ∙ session-from h t who s p.1
@@ -109,9 +103,6 @@ record IsStill (wire : List (List ℕ)) (x : Saying) : Type 0 where
   here : wire_after wire (Some x) None ≡ wire
   there : wire_after wire None (Some x) ≡ wire
 
-unmoved : (wire : List (List ℕ)) (x : Saying) (b c : Bool) → IsStill wire x → wire_after wire (if_said b x) (if_said c x) ≡ wire
-unmoved wire x b c q = grind arith
-
 put_seen : (h : ℕ) (who w : Side) (s : Seen) (c : Control) → moved h who w (bytes_on (wire_seen who s)) (Puts (lpdu_of c))
     ≡ bytes_on (wire_seen who (see s (Emit w c)))
 put_seen h Controller Controller s c = let z = same_number h in rw z refl
@@ -136,20 +127,15 @@ wire-from : (h : ℕ) (who : Side) (t : List Noted) (s : Seen) → ArePlain t
     → wire_from (bytes_on (wire_seen who s)) (end_of h who) (entries_for h t) ≡ bytes_on (wire_seen who (see_all s t))
 wire-from h who [] s p = refl
 wire-from h who (Up w k ∷ t) s p =
-    ap (λ z. wire_from z (end_of h who) (entries_for h t)) (unmoved (bytes_on (wire_seen who s)) (Begins k) (same_end (end_of h w) (end_of h who))
-    (same_end (end_of h w) (other_end (end_of h who))) (record { both = refl; here = refl; there = refl })) ∙ wire-from h who t s p.1
+    let h0 = end_of h who in let h1 = entries_for h t in let h2 = wire-from h who t s p.1 in let h3 = same_end (end_of h w) (end_of h who) in grind arith
 wire-from h who (Down w cause ∷ t) s p =
-    ap (λ z. wire_from z (end_of h who) (entries_for h t)) (unmoved (bytes_on (wire_seen who s)) Ends (same_end (end_of h w) (end_of h who))
-    (same_end (end_of h w) (other_end (end_of h who))) (record { both = refl; here = refl; there = refl })) ∙ wire-from h who t s p.1
+    let h0 = end_of h who in let h1 = entries_for h t in let h2 = wire-from h who t s p.1 in let h3 = same_end (end_of h w) (end_of h who) in grind arith
 wire-from h who (Acked w k count ∷ t) s p =
-    ap (λ z. wire_from z (end_of h who) (entries_for h t)) (unmoved (bytes_on (wire_seen who s)) (Counts k count) (same_end (end_of h w) (end_of h who))
-    (same_end (end_of h w) (other_end (end_of h who))) (record { both = refl; here = refl; there = refl })) ∙ wire-from h who t s p.1
+    let h0 = end_of h who in let h1 = entries_for h t in let h2 = wire-from h who t s p.1 in let h3 = same_end (end_of h w) (end_of h who) in grind arith
 wire-from h who (Got w k m ∷ t) s p =
-    ap (λ z. wire_from z (end_of h who) (entries_for h t)) (unmoved (bytes_on (wire_seen who s)) (Gets k m) (same_end (end_of h w) (end_of h who))
-    (same_end (end_of h w) (other_end (end_of h who))) (record { both = refl; here = refl; there = refl })) ∙ wire-from h who t s p.1
+    let h0 = end_of h who in let h1 = entries_for h t in let h2 = wire-from h who t s p.1 in let h3 = same_end (end_of h w) (end_of h who) in grind arith
 wire-from h who (Sent w k m ∷ t) s p =
-    ap (λ z. wire_from z (end_of h who) (entries_for h t)) (unmoved (bytes_on (wire_seen who s)) (Sends k m) (same_end (end_of h w) (end_of h who))
-    (same_end (end_of h w) (other_end (end_of h who))) (record { both = refl; here = refl; there = refl })) ∙ wire-from h who t s p.1
+    let h0 = end_of h who in let h1 = entries_for h t in let h2 = wire-from h who t s p.1 in let h3 = same_end (end_of h w) (end_of h who) in grind arith
 wire-from h who (Emit w c ∷ t) s p =
     ap (λ z. wire_from z (end_of h who) (entries_for h t)) (put_seen h who w s c) ∙ wire-from h who t (see s (Emit w c)) p.1
 wire-from h who (Took w c ∷ t) s p =
@@ -175,21 +161,13 @@ begins_here h n k w = grind arith
 
 pub since-all : (h n : ℕ) (t : List Noted) → since_up h n (entries_for h t) ≡ entries_for h (since n t)
 since-all h n [] = refl
-since-all h n (Up w k ∷ t) =
-    ap (λ b. if b then entries_for h t else since_up h n (entries_for h t)) (begins_here h n k w) ∙ go (k == n) (since-all h n t)
-  where
-    go : (b : Bool) → since_up h n (entries_for h t) ≡ entries_for h (since n t)
-        → (if b then entries_for h t else since_up h n (entries_for h t)) ≡ entries_for h (if b then t else since n t)
-    go b q = grind arith
+since-all h n (Up w k ∷ t) = let h0 = begins_here h n k w in let h1 = since-all h n t in grind arith
 since-all h n (Down w cause ∷ t) = since-all h n t
 since-all h n (_ ∷ t) = since-all h n t
 
 plain_since : (n : ℕ) (t : List Noted) → ArePlain t → ArePlain (since n t)
 plain_since n [] p = tt
-plain_since n (e ∷ t) p = go (begins n e) refl (plain_since n t p.1)
-  where
-    go : (b : Bool) → begins n e ≡ b → ArePlain (since n t) → ArePlain (since n (e ∷ t))
-    go b q later = grind arith
+plain_since n (e ∷ t) p = let h0 = begins n e in let h1 = plain_since n t p.1 in grind arith
 
 -- ### What disturbs a link
 
@@ -389,12 +367,9 @@ IsNoReset _ = Unit {0}
 abbrev NoResets : List Cause → Type 0
 NoResets cs = AllByRecursion IsNoReset cs
 
-no_reset_asked : (h : ℕ) (l : Link) (c : Cause) → IsNoReset c → IsAsked h l c
-no_reset_asked h l c n = grind arith
-
 no_resets_asked : (h : ℕ) (l : Link) (cs : List Cause) → NoResets cs → AreAsked h l (events_at h l cs)
 no_resets_asked h l [] n = tt
-no_resets_asked h l (c ∷ cs) n = (no_reset_asked h l c n.0, no_resets_asked h (link_after l c) cs n.1)
+no_resets_asked h l (c ∷ cs) n = ((grind arith), no_resets_asked h (link_after l c) cs n.1)
 
 no_repeat : (c : Cause) → IsNoReset c → (n : ℕ) → NoResets (replicate n c)
 no_repeat c none zero = tt
@@ -481,10 +456,6 @@ always_active cs can =
 reset_ready : (l : Link) (e : End) (window : Option ℕ) → reset_refusal (machine_of l e) ≡ None → is_waiting (machine_of l (other_end e)).shdlc ≡ false
     → AreActive l → IsReset l (event_of (WasReset e window))
 reset_ready l e window r n o = grind arith
-
--- nothing is noted behind it in its event
-reset_alone : (l : Link) (e : End) (window : Option ℕ) → rest_of l (event_of (WasReset e window)) ≡ []
-reset_alone l e window = grind arith
 
 -- ### Runs
 
@@ -607,7 +578,7 @@ settled_of h t run asked before reset behind back e window q z =
     let law : (link_now xs).to_controller ≡ [] → (link_now xs).to_host ≡ [] → LinkTogether (link_now xs) =
     run_together before reset behind (of_allowed h bare_link xs a)
     (subst R (sym z.cause) (reset_ready l e window mine.1 other (always_active (causes_of before) can)))
-    (subst Alone (sym z.cause) (reset_alone l e window))
+    (subst Alone (sym z.cause) (grind arith))
     (none_withheld (entries m (link_events behind)) spared (plain_stands (entries m (link_events behind)) (plain_entries (causes_of behind) m))) in
     let is : t.opening ++ entries_of xs ≡ entries_for h (notes_of xs) = run_entries h t.opening xs run.opening a in
     let P : List Entry → Type 0 = λ y. AreReadUpTogether y e in

@@ -15,7 +15,7 @@ use Rattle.history.proofs.Words.{◌&&◌, ◌++◌, ◌∙◌, ◌∷◌, ◌�
 use Rattle.swp_act.specs.declared.ActEvent.{ActEvent}
 use Rattle.swp_act.specs.declared.ActEvent.TheVariants.{Tick as ActTick}
 use Rattle.shdlc_core.specs.declared.answers.LinkState.{LinkState}
-use Rattle.shdlc_core.specs.declared.answers.LinkState.TheVariants.{Down as IsDown, Waiting as IsWaitingNow}
+use Rattle.shdlc_core.specs.declared.answers.LinkState.TheVariants.{Down as IsDown}
 use Rattle.link_laws.proofs.places.Joined.{ready_cases, changed}
 use Rattle.link_laws.specs.sessions.Sessions.ShdlcTurn.{Offer, SetReady}
 use Rattle.link_laws.specs.machine.Machine.{Refused}
@@ -76,28 +76,11 @@ passes_last w who n r acked =
 
 -- nothing is told of the other end
 passes_told : (who : End) (n : ℕ) (r : Report) (acked : ℕ) → Passes (far who) (told who n r acked)
-passes_told who n r acked =
-    let q = same_far who in
-    let a = passes-append (far who) (map (GaveUp who) (option_to_list r.gave_up)) (told_last who n r acked)
-    (passes_map (far who) (GaveUp who) (option_to_list r.gave_up) (λ m b. rw q refl)) (passes_last (far who) who n r acked) in
-    let c = passes-append (far who) (if_so r.became_active (Active who)) (map (GaveUp who) (option_to_list r.gave_up) ++ told_last who n r acked)
-    (passes_so (far who) r.became_active (Active who) (λ b. refl)) a in
-    let d = passes-append (far who) (if_so r.began (Up who n))
-    (if_so r.became_active (Active who) ++ (map (GaveUp who) (option_to_list r.gave_up) ++ told_last who n r acked))
-    (passes_so (far who) r.began (Up who n) (λ b. rw q refl)) c in
-    passes-append (far who) (map (Down who) (option_to_list r.ended))
-    (if_so r.began (Up who n) ++ (if_so r.became_active (Active who) ++ (map (GaveUp who) (option_to_list r.gave_up) ++ told_last who n r acked)))
-    (passes_map (far who) (Down who) (option_to_list r.ended) (λ x b. refl)) d
+passes_told who n r acked = let h0 = far who in let h1 = passes_last (far who) who n r acked in grind arith
 
 -- an end whose session began or not, and which gave up or not
 abbrev pub after_told : Bool → Bool → Bool → Bool
 after_told began gave b = if gave then false else (if began then false else b)
-
-hark_up : (who : End) (c : Bool) (n : ℕ) (b : Bool) → harks who b (if_so c (Up who n)) ≡ (if c then false else b)
-hark_up who c n b = grind arith
-
-hark_given_up : (who : End) (o : Option ℕ) (b : Bool) → harks who b (map (GaveUp who) (option_to_list o)) ≡ (if is_some o then false else b)
-hark_given_up who o b = grind arith
 
 hark_told : (who : End) (n : ℕ) (r : Report) (acked : ℕ) (b : Bool) → harks who b (told who n r acked) ≡ after_told r.began (is_some r.gave_up) b
 hark_told who n r acked b =
@@ -109,11 +92,11 @@ hark_told who n r acked b =
     harks-append who b (map (Down who) (option_to_list r.ended)) (began ++ (active ++ (gave ++ last)))
     ∙ (ap (λ z. harks who z (began ++ (active ++ (gave ++ last)))) (passes_map who (Down who) (option_to_list r.ended) (λ x c. refl) b)
     ∙ (harks-append who b began (active ++ (gave ++ last))
-    ∙ (ap (λ z. harks who z (active ++ (gave ++ last))) (hark_up who r.began n b)
+    ∙ (ap (λ z. harks who z (active ++ (gave ++ last))) (grind arith)
     ∙ (harks-append who first active (gave ++ last)
     ∙ (ap (λ z. harks who z (gave ++ last)) (passes_so who r.became_active (Active who) (λ c. refl) first)
     ∙ (harks-append who first gave last
-    ∙ (passes_last who who n r acked (harks who first gave) ∙ hark_given_up who r.gave_up first)))))))
+    ∙ (passes_last who who n r acked (harks who first gave) ∙ (grind arith))))))))
 
 -- ## Turns and frames
 
@@ -127,39 +110,27 @@ passes_turns w who n e (t ∷ ts) =
 
 pub passes_aged : (w who : End) (xs : List OnWire) → Passes w (aged_entries who xs)
 passes_aged w who [] = λ b. refl
-passes_aged w who (x ∷ xs) = go (nat_lt x.age 4) refl (passes_aged w who xs)
-  where
-    go : (c : Bool) → nat_lt x.age 4 ≡ c → Passes w (aged_entries who xs) → Passes w (aged_entries who (x ∷ xs))
-    go c q later b = grind arith
+passes_aged w who (x ∷ xs) = let h0 = passes_aged w who xs in grind arith
 
 -- a frame that goes out
 put_harked : (who : End) (l : Link) (c : Control) (b : Bool) → harks who b (put_entries who l c) ≡ (if is_rset c then true else b)
 put_harked who l c b = grind arith
 
-put_far : (who : End) (l : Link) (c : Control) → Passes (far who) (put_entries who l c)
-put_far who l c b = grind arith
-
 puts_far : (who : End) (cs : List Control) (l : Link) → Passes (far who) (puts_entries who l cs)
 puts_far who [] l = λ b. refl
-puts_far who (c ∷ cs) l = passes-append (far who) (put_entries who l c) (puts_entries who (put l c) cs) (put_far who l c) (puts_far who cs (put l c))
+puts_far who (c ∷ cs) l = passes-append (far who) (put_entries who l c) (puts_entries who (put l c) cs) (λ b. grind arith) (puts_far who cs (put l c))
 
 -- where none of them is an RSET
 puts_none : (who : End) (cs : List Control) (l : Link) → NoRset cs → Passes who (puts_entries who l cs)
 puts_none who [] l none = λ b. refl
 puts_none who (c ∷ cs) l none =
-    passes-append who (put_entries who l c) (puts_entries who (put l c) cs)
-    (λ b. put_harked who l c b ∙ ap (λ x. if x then true else b) none.0)
-    (puts_none who cs (put l c) none.1)
+    let h0 = put_entries who l c in let h1 = puts_entries who (put l c) cs in let h2 = puts_none who cs (put l c) none.1 in grind arith
 
 -- where it waits already
 puts_waiting : (who : End) (cs : List Control) (l : Link) → harks who true (puts_entries who l cs) ≡ true
 puts_waiting who [] l = refl
 puts_waiting who (c ∷ cs) l =
-    harks-append who true (put_entries who l c) (puts_entries who (put l c) cs)
-    ∙ (ap (λ z. harks who z (puts_entries who (put l c) cs)) (put_harked who l c true ∙ either (is_rset c)) ∙ puts_waiting who cs (put l c))
-  where
-    either : (x : Bool) → (if x then true else true) ≡ true
-    either x = grind arith
+    let h0 = is_rset c in let h1 = put_harked who l c true in let h2 = puts_entries who (put l c) cs in let h3 = puts_waiting who cs (put l c) in grind arith
 
 -- where one of them is an RSET
 puts_some : (who : End) (cs : List Control) (l : Link) (b : Bool) → list_any is_rset cs ≡ true → harks who b (puts_entries who l cs) ≡ true
@@ -248,9 +219,6 @@ data Timed (s f : EndState) (gave : Bool) : Type 0 where
   AsksNow : is_waiting f ≡ true → f.due ≡ Rset_due ∷ [] → Timed s f gave
   Passed : after_told false gave (is_waiting s) ≡ is_waiting f → NoAsk f.due → Timed s f gave
 
-ticked_waits : (s : EndState) → s.due ≡ [] → Timed s (ticked s) (is_some (tick_answer s).gave_up)
-ticked_waits s due = grind arith
-
 tick_so : (l : Link) (ts : List Turn) → AreSendableTurns ts → Near l
     → EndsSo (after_input l.controller.side HasTick) ts (after_told false (is_some (gave_up_by l.controller.side HasTick)) (waits l.controller))
 tick_so l ts a n = go (is_open e.role) refl
@@ -290,7 +258,7 @@ tick_so l ts a n = go (is_open e.role) refl
         let gave : is_some (gave_up_by e HasTick) ≡ is_some (tick_answer e.shdlc).gave_up = rw o refl in
         let P : LinkEnd → Type 0 = λ f. EndsSo f ts (after_told false (is_some (gave_up_by e HasTick)) (is_waiting e.shdlc)) in
         let Q : Bool → Type 0 = λ x. EndsSo (moved e c s) ts (after_told false x (is_waiting e.shdlc)) in
-        subst P (sym is) (subst Q (sym gave) (open_one o (ticked_waits e.shdlc n.rests.due)))
+        subst P (sym is) (subst Q (sym gave) (open_one o (grind arith)))
     go false o =
         let is = (tick_closed e o).0 in
         let closed : e.shdlc.phase ≡ IsDown = n.tells.now.closed o in
@@ -328,9 +296,6 @@ reset_so l window ts a n = go (reset_refusal e) refl
     P : LinkEnd → Type 0
     P f = EndsSo f ts (is_waiting e.shdlc)
 
-    waiting : (s : EndState) → s.phase ≡ IsWaitingNow → is_waiting s ≡ true
-    waiting s p = rw p refl
-
     go : (o : Option Refused) → reset_refusal e ≡ o → EndsSo (after_input e (Reset window)) ts (is_waiting e.shdlc)
     go None q =
         let is : after_input e (Reset window) ≡ reset_by e w = rw q refl in
@@ -340,15 +305,11 @@ reset_so l window ts a n = go (reset_refusal e) refl
         let moved_is = shdlc_moved e c s in
         let now : Now (reset_by e w) = mid_moved e c s n.tells.now (reset_keeps e.shdlc w t.1 n.tells.now.idle) (opened e.role (s.phase ≡ IsDown) t.0) in
         subst P (sym is)
-        (Asks (ap is_waiting moved_is ∙ waiting s (reset_waits e.shdlc w t.1))
+        (Asks (ap is_waiting moved_is ∙ (rw (reset_waits e.shdlc w t.1) refl))
         (out_some (reset_by e w) ts a now (ap (λ (z : EndState). z.due) moved_is ∙ reset_due e.shdlc w t.1 n.rests.due)))
     go (Some why) q = let is : after_input e (Reset window) ≡ e = rw q refl in subst P (sym is) (idle_so l ts a n)
 
 -- ## Frames that come
-
-frame_waits : (l : Link) (x : OnWire) (xs : List OnWire) → ComesFirst l x xs
-    → after_told (began_by l.controller.side (Take x.frame)) false (waits l.controller) ≡ is_waiting (took l.controller.side x.frame).shdlc
-frame_waits l x xs comes = grind arith
 
 -- ## Steps
 
@@ -418,7 +379,7 @@ taken_harked : (who : End) (l : Link) (x : OnWire) (xs : List OnWire) (ts : List
     → Harked who l (has_taken l x xs ts ending) (taken_entries who l x xs ts ending)
 taken_harked who l x xs ts ending a comes =
     let both = input_harked who l (left_after l x xs) (took_with l.controller.took x) (Take x.frame) (waits l.controller) ts ending
-    (Quiet (frame_waits l x xs comes) (first_none l ts x xs a.0 comes)) in
+    (Quiet (grind arith) (first_none l ts x xs a.0 comes)) in
     record { here = both.0; there = both.1 }
 
 -- a step that takes no frame

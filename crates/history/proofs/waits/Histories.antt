@@ -2,13 +2,13 @@
 use Rattle.history.proofs.Words.{Act, AllAllowed, AllByRecursion, AreOwn, AtController, AtHost, Bool, CanStart, Cause, Control, Controller, Cut, Emit, End}
 use Rattle.history.proofs.Words.{EndEvent, Entry, Event, Follows, GaveUp, Good, HasNumbers, Header, History, Host, I, IsBare, IsEvent, IsHeader, IsInTick}
 use Rattle.history.proofs.Words.{IsLineOf, IsNode, IsStart, IsUicc, IsUnderWay, Line, Link, LinkEvent, List, Noted, NumberedEnd, Reached, Rej, Restarted, Rnr}
-use Rattle.history.proofs.Words.{Rr, S, Side, Some, Sound, Sounds, Srej, Starts, Tick, Ticks, TicksWithout, Up, [], after_link_events, after_tick, aged}
+use Rattle.history.proofs.Words.{Rr, S, Side, Sound, Sounds, Srej, Starts, Tick, Ticks, TicksWithout, Up, [], after_link_events, after_tick, aged}
 use Rattle.history.proofs.Words.{aged_entries, all_at_controller, all_events, all_in_tick, all_step, ap, arith, bare_link, before_here, before_there, can_start}
 use Rattle.history.proofs.Words.{causes_of, clf_starts, core_event, core_of, end_of, entries, entries_for, entries_of, entries_of_events, event_entries}
 use Rattle.history.proofs.Words.{event_of, event_step, exchanged, false, first_entries, fold, goes_on, happens, happens_at_controller, here_entries, host_here}
-use Rattle.history.proofs.Words.{host_in_tick, host_of, i_frame, if◌then◌else◌, is_rset, is_rset_lpdu, is_waiting, le-leb, link_after_all, lpdu_of, lpdu_row}
-use Rattle.history.proofs.Words.{lpdu_row_of, machine_of, map, nat_le, near_in_tick, own_in_tick, reached_more, refl, rests_of, safe_reached, same_side}
-use Rattle.history.proofs.Words.{slice_index, sound_here, start_under_way, started_clf, step_here, step_tick, subst, sym, tick_entries, ticks_at_controller}
+use Rattle.history.proofs.Words.{host_in_tick, host_of, if◌then◌else◌, is_rset, is_rset_lpdu, is_waiting, le-leb, link_after_all, lpdu_of}
+use Rattle.history.proofs.Words.{machine_of, map, nat_le, near_in_tick, own_in_tick, reached_more, refl, rests_of, safe_reached, same_side}
+use Rattle.history.proofs.Words.{sound_here, start_under_way, started_clf, step_here, step_tick, subst, sym, tick_entries, ticks_at_controller}
 use Rattle.history.proofs.Words.{ticks_host, trace, true, waits_after, waits_in, without_tick, ℕ, ◌&&◌, ◌*◌, ◌++◌, ◌+◌, ◌<◌, ◌∙◌, ◌∷◌, ◌≡◌}
 use Rattle.link_laws.proofs.sessions.Steps.{safe_aged}
 use Rattle.link_laws.specs.messages.Links.EndEvent.{Step}
@@ -169,15 +169,12 @@ both_harked l s events a = events_harked events (first_entries l.controller.side
 pub controller_harked : (l : Link) → IsStart l → (events : List LinkEvent) → AllAllowed l events
     → harks Controller false (trace l events) ≡ waits (after_link_events l events).controller
 controller_harked l s events a =
-    then_harked Controller false (waits l.controller) (waits (after_link_events l events).controller) (first_entries l.controller.side.role)
-    (entries l events)
-    (first_harked l s).0 (both_harked l s events a).controller
+    let h0 = after_link_events l events in let h1 = entries l events in let h2 = first_harked l s in let h3 = both_harked l s events a in grind arith
 
 pub host_harked : (l : Link) → IsStart l → (events : List LinkEvent) → AllAllowed l events
     → harks Host false (trace l events) ≡ waits (after_link_events l events).host
 host_harked l s events a =
-    then_harked Host false (waits l.host) (waits (after_link_events l events).host) (first_entries l.controller.side.role) (entries l events)
-    (first_harked l s).1 (both_harked l s events a).host
+    let h0 = after_link_events l events in let h1 = entries l events in let h2 = first_harked l s in let h3 = both_harked l s events a in grind arith
 
 -- ## Whether an end of a bare link waits for the answer to a reset is read off the entries of a history
 
@@ -187,15 +184,11 @@ host_harked l s events a =
 eight : (P : ℕ → Type 0) → P 0 → P 1 → P 2 → P 3 → P 4 → P 5 → P 6 → P 7 → (n : ℕ) → n < 8 → P n
 eight P a b c d e f g h n low = grind arith
 
--- an information frame is none
-other_row : (bytes : List ℕ) → lpdu_row_of (slice_index bytes 0) ≡ Some (lpdu_row 0x80 0xBF 2 30 i_frame) → is_rset_lpdu bytes ≡ false
-other_row bytes q = grind arith
-
 reads_fragment : (ns nr : ℕ) (info : List ℕ) → ns < 8 → nr < 8 → is_rset_lpdu (lpdu_of (I ns nr info)) ≡ false
 reads_fragment ns nr info low small =
     let first : nat_le 0x80 (0x80 + 8 * ns + nr) ≡ true = le-leb 0x80 (0x80 + 8 * ns + nr) (omega arith) in
     let last : nat_le (0x80 + 8 * ns + nr) 0xBF ≡ true = le-leb (0x80 + 8 * ns + nr) 0xBF (omega (arith, low, small)) in
-    other_row (lpdu_of (I ns nr info)) (rw (first, last) refl)
+    (grind arith)
 
 -- a frame whose numbers are below 8 is read as what it is
 reads_rset : (c : Control) → HasNumbers c → is_rset_lpdu (lpdu_of c) ≡ is_rset c

@@ -142,10 +142,7 @@ behind_fits k w h = go (nat_lt 64 (length w)) w h
 
 pub behind_aged : (k : ℕ) (w : List OnWire) → NoRnrBehind k w → NoRnrBehind k (aged_wire w)
 behind_aged k [] h = tt
-behind_aged zero (x ∷ xs) h = go (nat_lt x.age 4) refl (behind_aged zero xs h.1)
-  where
-    go : (b : Bool) → nat_lt x.age 4 ≡ b → NoRnrBehind zero (aged_wire xs) → NoRnrBehind zero (aged_wire (x ∷ xs))
-    go b p later = grind arith
+behind_aged zero (x ∷ xs) h = let h0 = behind_aged zero xs h.1 in grind arith
 behind_aged (suc k) (x ∷ xs) h = go (nat_lt x.age 4) refl (behind_aged k xs h)
   where
     go : (b : Bool) → nat_lt x.age 4 ≡ b → NoRnrBehind k (aged_wire xs) → NoRnrBehind (suc k) (aged_wire (x ∷ xs))
@@ -295,13 +292,7 @@ pub record SentSame (e f : EndState) : Type 0 where
 
 pub sent_same : (n : ℕ) (e : EndState) → SentSame e (after_frames n e)
 sent_same zero e = record { phase = refl; ready = refl; timer = refl; window = refl; acked = refl; out = refl; acc = refl }
-sent_same (suc n) e = go (one e) (sent_same n (fetched e))
-  where
-    one : (e : EndState) → SentSame e (fetched e)
-    one e = grind arith
-
-    go : {f g : EndState} → SentSame e f → SentSame f g → SentSame e g
-    go a b = grind arith
+sent_same (suc n) e = let h0 = sent_same n (fetched e) in grind arith
 
 -- ### What is left of the link
 
@@ -380,14 +371,8 @@ fragment_stands P no_act (d ∷ ds) (suc m) n e l info q i answers none is p =
 
 -- ### Where no RNR is due
 
-not_rnr : (e : EndState) (c : Control) → NoRnr e.due → AnswersOnly e.due → frame_due e ≡ Some c → is_rnr c ≡ false
-not_rnr e c none answers is = grind arith
-
 no_rnr_rest : (d : Due) (ds : List Due) → NoRnr (d ∷ ds) → NoRnr ds
 no_rnr_rest d ds h = grind arith
-
-fetched_no_rnr : (e : EndState) → NoRnr e.due → NoRnr (fetched e).due
-fetched_no_rnr e h = fetch_cases (λ f o. NoRnr f.due) e (λ d ds p. no_rnr_rest d ds (rw p at h)) (λ p q. h) (λ info p q. h)
 
 sent_no_rnr : (k m : ℕ) (e : EndState) (l : ShdlcLink) → AnswersOnly e.due → NoRnr e.due → NoRnrBehind k l.to_host
     → NoRnrBehind k (shdlc_put_all l (frames_of m e)).to_host
@@ -400,8 +385,8 @@ sent_no_rnr k m e l answers none h =
         let plain : is_rset c ≡ false = not_rset c (inl (data_due e c g.0 is).0) in
         let put : NoRnrBehind k (fits (with_frame l.to_host c)) =
         behind_fits k (with_frame l.to_host c)
-        (behind_push k l.to_host (record { frame = c; age = 0; number = 0 }) (not_rnr e c g.1 g.0 is) g.2) in
-        (fetched_answers e g.0, fetched_no_rnr e g.1, rw plain put)
+        (behind_push k l.to_host (record { frame = c; age = 0; number = 0 }) (grind arith) g.2) in
+        (fetched_answers e g.0, fetch_cases (λ f o. NoRnr f.due) e (λ d ds p. no_rnr_rest d ds (rw p at g.1)) (λ p q. g.1) (λ info p q. g.1), rw plain put)
 
 -- ## One end of a link has become e, has its turns and sends all that is due: how far this brings its own places, and those of the other end
 -- The controller's end is the near one.
@@ -437,10 +422,6 @@ pub get_some : {X : Type 0} (xs : List X) (k : ℕ) → k < length xs → (x : X
 get_some [] k i = absurd (omega (arith, i))
 get_some (x ∷ xs) zero i = (x, refl)
 get_some (x ∷ xs) (suc k) i = get_some xs k (omega (arith, i))
-
--- the first place that isn't acknowledged is sent
-due_again : (s : Session) (info : Fragment) → StartsAgain s → 0 < s.window → slice_get s.out s.next ≡ Some info → fragment_due s ≡ Some info
-due_again s info h wide is = grind arith
 
 module _ {a c t : ℕ} {m l : ShdlcLink} {e : EndState} (ts : List ShdlcTurn) (n : Losses) (none : (noted_out n l (shdlc_turned e ts)).lost ≡ false) where
   -- its own places
@@ -508,7 +489,7 @@ module _ {a c t : ℕ} {m l : ShdlcLink} {e : EndState} (ts : List ShdlcTurn) (n
               let some = get_some e.session.out g.session.next inside in
               let is : slice_get g.session.out g.session.next ≡ Some some.0 =
               rw turned.out (slice_get-append e.session.out turned.more g.session.next some.0 some.1) in
-              let due : fragment_due g.session ≡ Some some.0 = due_again g.session some.0 s (omega (arith, turned.window, h.wide)) is in
+              let due : fragment_due g.session ≡ Some some.0 = grind arith in
               let few : length g.due < 12 = omega (arith, few_turns ts e h.up (few_room e h.few)) in
               let place : g.session.next ≡ a = s.next ∙ (turned.acked ∙ same) in
               inl (fragment_stands (Brings a) (brings_no_act a) g.due 12 n g l some.0 refl few answers none due (ap (λ (k : ℕ). k % 8) place))

@@ -515,7 +515,4 @@ pub order_after : (l : ShdlcLink) → IsShdlcStart l → (before : List ShdlcLin
     → AreRounds k (shdlc_after l before) rounds → AreUndisturbed (shdlc_after l before) rounds
     → (let n : ShdlcLink = shdlc_after (shdlc_after l before) rounds in
     FragmentsInOrder n.controller.side.session n.host.side.session × FragmentsInOrder n.host.side.session n.controller.side.session)
-order_after l s before a k rounds r u =
-    let n : ShdlcLink = shdlc_after (shdlc_after l before) rounds in
-    let h = (led l s before a k rounds r u).2 in
-    (in_order n h, in_order (shdlc_exchanged n) (sound_exchanged h))
+order_after l s before a k rounds r u = let h0 = shdlc_after l before in let h1 = led l s before a k rounds r u in grind arith

@@ -8,7 +8,7 @@ use Rattle.lines_told.proofs.Words.{shdlc_becomes, shdlc_exchanged, shdlc_happen
 use Rattle.lines_told.proofs.Words.{shdlc_turned, subst, sym, take_answer, taken, taken_up, tick_answer, ticked, took_with, true, turned-phase, with_frame}
 use Rattle.lines_told.proofs.Words.{with_shdlc_ended, ℕ, ◌+◌, ◌<◌, ◌∙◌, ◌∷◌, ◌≡◌, ◌≤◌, ◌⊎◌}
 use Rattle.link_laws.proofs.sessions.Hand.{IsRset}
-use Rattle.lines_told.proofs.fragments.Becomes.{Advances, CountedAt, IsIdle, NoRnrBehind, Receives, Sends, StandsIn, StartsAgain, advances_other, advances_own}
+use Rattle.lines_told.proofs.fragments.Becomes.{Advances, CountedAt, NoRnrBehind, Receives, Sends, StandsIn, StartsAgain, advances_other, advances_own}
 use Rattle.lines_told.proofs.fragments.Becomes.{advances_then, behind_fits, behind_more, behind_push, behind_rest, get_some, in_more, in_rest, out_lost}
 use Rattle.lines_told.proofs.fragments.Becomes.{prefix_of, put_all_same, put_stands, sent_same}
 use Rattle.lines_told.proofs.fragments.Turns.{Answers, Brings, Differs, Took, answers_no_act, brings_no_act, took, turned_up}
@@ -64,14 +64,11 @@ wires_advance a c d m v w near far =
       out = omega arith;
       front = prefix_of refl;
       rnr = near.rnr;
-      idle = still;
+      idle = λ a. grind arith;
       answered = λ j k i low s. inl (near.stands (Answers a) (answers_no_act a) j k i s);
       sent = λ j k i low s. inl (far.stands (Brings a) (brings_no_act a) j k i s);
       waits = λ low more r idle. inl (record { timer = omega arith; below = λ i. absurd (omega (arith, i)) });
     }
-  where
-    still : IsIdle m ⊎ (0 < 0) → IsIdle m
-    still a = grind arith
 
 -- only both wires change
 pub did_wires : (c d : ℕ) (m : ShdlcLink) (v w : List OnWire) → Leaves c m.to_controller v → Leaves d m.to_host w
@@ -215,14 +212,11 @@ did_acts {m = m} h acts ts n none =
 pub did_loses : {m : ShdlcLink} (n : Losses) → (noted_here n m Lose).lost ≡ false → Did 1 0 0 0 m (shdlc_happens_at_controller m Lose)
 did_loses {m = m} n none = go m.to_controller (or_parts n.lost (counts_first m.to_controller) none).1
   where
-    act : (x : OnWire) (xs : List OnWire) → counts_first (x ∷ xs) ≡ false → is_act x.frame ≡ true
-    act x xs e = grind arith
-
     rest : (P : Control → Type 0) → ((c : Control) → is_act c ≡ true → P c → ⊥) → (j k : ℕ) → j ≤ k + 1 → (w : List OnWire) → counts_first w ≡ false
         → StandsIn P j w → StandsIn P k (drop 1 w)
     rest P plain j k i [] e s = absurd s
     rest P plain j k i (x ∷ xs) e s = elim (in_rest P j k x xs i s) [
-      | inl p ↦ absurd (plain x.frame (act x xs e) p)
+      | inl p ↦ absurd (plain x.frame (grind arith) p)
       | inr t ↦ t
     ]
 

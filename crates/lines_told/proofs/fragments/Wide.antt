@@ -1,12 +1,12 @@
 -- The window of a session isn't 0, whatever happened on the link before.
 use Rattle.std.specs.Prelude.{is_some}
-use Rattle.lines_told.proofs.Words.{Activation, Acts, AllShdlcAllowed, AreTurns, AtController, AtHost, Bool, Control, Cut, Deliver, Down, EndState, HasWindows}
+use Rattle.lines_told.proofs.Words.{Activation, Acts, AllShdlcAllowed, AreTurns, AtController, AtHost, Bool, Cut, Deliver, Down, EndState, HasWindows}
 use Rattle.lines_told.proofs.Words.{Ignore, IsShdlcStart, IsTurn, List, Lose, None, NumberedShdlc, OnWire, Option, Reset, SafeLink, ShdlcEndEvent, ShdlcLink}
-use Rattle.lines_told.proofs.Words.{ShdlcLinkEvent, ShdlcTurn, Some, Stop, Tick, TickWithout, Turns, Up, Waiting, [], act_frame, arith, false, frames_of, is_up}
-use Rattle.lines_told.proofs.Words.{is_waiting, map, refl, reset_with, safe_event, safe_start, shdlc_after, shdlc_aged, shdlc_all_at_controller, shdlc_becomes}
+use Rattle.lines_told.proofs.Words.{ShdlcLinkEvent, ShdlcTurn, Some, Stop, Tick, TickWithout, Turns, Up, Waiting, [], act_frame, arith, frames_of, is_up}
+use Rattle.lines_told.proofs.Words.{map, refl, reset_with, safe_event, safe_start, shdlc_after, shdlc_aged, shdlc_all_at_controller, shdlc_becomes}
 use Rattle.lines_told.proofs.Words.{shdlc_exchanged, shdlc_happens, shdlc_happens_at_controller, shdlc_put_all, shdlc_silent, shdlc_ticks_at_controller}
 use Rattle.lines_told.proofs.Words.{shdlc_turn, shdlc_turned, subst, sym, take_answer, taken, tick_answer, ticked, ticks_if_waiting, ticks_or_cut, took_with}
-use Rattle.lines_told.proofs.Words.{true, turned-phase, with_shdlc_ended, ℕ, ◌<◌, ◌∙◌, ◌∷◌, ◌≡◌}
+use Rattle.lines_told.proofs.Words.{turned-phase, with_shdlc_ended, ℕ, ◌<◌, ◌∙◌, ◌∷◌, ◌≡◌}
 use Rattle.shdlc_core.specs.declared.answers.LinkState.{LinkState}
 use Rattle.lines_told.proofs.fragments.Becomes.{put_all_same, sent_same}
 use Rattle.lines_told.proofs.fragments.NearSteps.{ended_wires}
@@ -21,12 +21,9 @@ pub record BothWide (l : ShdlcLink) : Type 0 where
 
 -- ## What an end becomes
 
-turn-window : (e : EndState) (t : ShdlcTurn) → (shdlc_turn e t).session.window ≡ e.session.window
-turn-window e t = grind arith
-
 turned-window : (ts : List ShdlcTurn) (e : EndState) → (shdlc_turned e ts).session.window ≡ e.session.window
 turned-window [] e = refl
-turned-window (t ∷ ts) e = turned-window ts (shdlc_turn e t) ∙ turn-window e t
+turned-window (t ∷ ts) e = turned-window ts (shdlc_turn e t) ∙ (grind arith)
 
 wide_becomes : (l : ShdlcLink) (ts : List ShdlcTurn) (e : EndState) → IsWide e → IsWide (shdlc_becomes l (shdlc_turned e ts)).controller.side
 wide_becomes l ts e h up =
@@ -38,22 +35,10 @@ wide_becomes l ts e h up =
 not_up : (e : EndState) (p : LinkState) → e.phase ≡ p → (p ≡ Up → ⊥) → IsWide e
 not_up e p q n up = absurd (n (sym q ∙ up))
 
-wide_taken : (e : EndState) (c : Control) → HasWindows e → IsWide e → IsWide (taken e c)
-wide_taken e c has h = grind arith
-
-wide_ticked : (e : EndState) → IsWide e → IsWide (ticked e)
-wide_ticked e h = grind arith
-
-wide_asked : (e : EndState) (w : ℕ) → IsWide e → IsWide (reset_with e w)
-wide_asked e w h = grind arith
-
 -- ## What happens at the controller's end
 
 pub silent_host : (l : ShdlcLink) (e : EndState) → (shdlc_silent l e).host ≡ l.host
 silent_host l e = grind arith
-
-silent_wide : (l : ShdlcLink) (e : EndState) → e.phase ≡ Down → IsWide (shdlc_silent l e).controller.side
-silent_wide l e down = grind arith
 
 -- what it does leaves it wide, and the other end as it is
 record WideHere (l n : ShdlcLink) : Type 0 where
@@ -88,7 +73,7 @@ wide_delivered l ts has h = go l.to_controller
         let m : ShdlcLink = with_shdlc_ended (record l { to_controller = xs }) (is_some (take_answer l.controller.side x.frame).ended) in
         let same = ended_wires (record l { to_controller = xs }) (is_some (take_answer l.controller.side x.frame).ended) in
         becomes_here l (record m { controller = record m.controller { took = took_with l.controller.took x } }) ts (taken l.controller.side x.frame) same.2
-        (wide_taken l.controller.side x.frame has h)
+        (grind arith)
 
 wide_acts : (l : ShdlcLink) (acts : List Activation) (ts : List ShdlcTurn) → IsWide l.controller.side
     → WideHere l (shdlc_happens_at_controller l (Acts acts ts))
@@ -97,10 +82,10 @@ wide_acts l acts ts h = becomes_here l (shdlc_put_all l (map act_frame acts)) ts
 wide_asks : (l : ShdlcLink) (w : ℕ) (ts : List ShdlcTurn) → IsWide l.controller.side → WideHere l (shdlc_happens_at_controller l (Reset w ts))
 wide_asks l w ts h =
     becomes_here l (with_shdlc_ended l (is_up l.controller.side.phase)) ts (reset_with l.controller.side w) (ended_wires l (is_up l.controller.side.phase)).2
-    (wide_asked l.controller.side w h)
+    (grind arith)
 
 wide_silent : (l : ShdlcLink) (e : EndState) → e.phase ≡ Down → WideHere l (shdlc_silent l e)
-wide_silent l e down = record { wide = silent_wide l e down; host = silent_host l e }
+wide_silent l e down = record { wide = grind arith; host = silent_host l e }
 
 wide_here : (l : ShdlcLink) (e : ShdlcEndEvent) → HasWindows l.controller.side → IsWide l.controller.side → WideHere l (shdlc_happens_at_controller l e)
 wide_here l (Turns ts) has h = becomes_here l l ts l.controller.side refl h
@@ -131,18 +116,14 @@ wide_turns (e ∷ es) l a h =
 wide_tick : (l : ShdlcLink) (ts : List ShdlcTurn) → IsWide l.controller.side → WideHere l (shdlc_ticks_at_controller l ts)
 wide_tick l ts h =
     let b : Bool = is_some (tick_answer l.controller.side).ended in
-    becomes_here l (with_shdlc_ended l b) ts (ticked l.controller.side) (ended_wires l b).2 (wide_ticked l.controller.side h)
+    becomes_here l (with_shdlc_ended l b) ts (ticked l.controller.side) (ended_wires l b).2 (grind arith)
 
 wide_tick_or_cut : (c : Option (List ShdlcTurn)) (l : ShdlcLink) → IsWide l.controller.side → WideHere l (ticks_or_cut c l)
 wide_tick_or_cut (Some ts) l h = wide_tick l ts h
 wide_tick_or_cut None l h = wide_silent l _ refl
 
 wide_if_waiting : (l : ShdlcLink) → IsWide l.controller.side → WideHere l (ticks_if_waiting l)
-wide_if_waiting l h = go (is_waiting l.controller.side) refl
-  where
-    go : (b : Bool) → is_waiting l.controller.side ≡ b → WideHere l (ticks_if_waiting l)
-    go true q = rw q (wide_tick l [] h)
-    go false q = rw q (record { wide = h; host = refl })
+wide_if_waiting l h = let h0 = ticks_if_waiting l in let h1 = wide_tick l [] h in grind arith
 
 -- ## Events
 
@@ -176,8 +157,5 @@ wide_after (e ∷ es) l a s h =
     let safe = safe_event l e es a s in
     wide_after es (shdlc_happens l e) safe.1 safe.0 (wide_event l e es a s h)
 
-wide_start : (l : ShdlcLink) → IsShdlcStart l → BothWide l
-wide_start l a = grind arith
-
 pub wide : (l : ShdlcLink) → IsShdlcStart l → (events : List ShdlcLinkEvent) → AllShdlcAllowed events → BothWide (shdlc_after l events)
-wide l s events a = wide_after events l a (safe_start l s) (wide_start l s)
+wide l s events a = wide_after events l a (safe_start l s) (grind arith)

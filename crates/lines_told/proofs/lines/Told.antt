@@ -40,9 +40,7 @@ round_first plays n = sym (append_assoc plays (Round ∷ []) (replicate n Round)
 
 pub round_last : (plays : List Play) (n : ℕ) → plays ++ replicate (suc n) Round ≡ (plays ++ replicate n Round) ++ Round ∷ []
 round_last plays zero = ap (λ (ps : List Play). ps ++ Round ∷ []) (sym (append-nil plays))
-round_last plays (suc n) =
-    round_first plays (suc n)
-    ∙ (round_last (plays ++ Round ∷ []) n ∙ ap (λ (ps : List Play). ps ++ Round ∷ []) (sym (round_first plays n)))
+round_last plays (suc n) = let h0 = round_first plays (suc n) in let h1 = round_last (plays ++ Round ∷ []) n in let h2 = round_first plays n in grind arith
 
 -- ### How many they are
 
@@ -235,8 +233,7 @@ module _ (header : Header) (bare : header.hci ≡ false) where
       ≡ after_steps (bare_round header) n (bare_link_behind header (lines_played header plays))
   bare_played_rounds zero plays = ap (λ (ps : List Play). bare_link_behind header (lines_played header ps)) (append-nil plays)
   bare_played_rounds (suc n) plays =
-      ap (λ (ps : List Play). bare_link_behind header (lines_played header ps)) (round_first plays n)
-      ∙ (bare_played_rounds n (plays ++ Round ∷ []) ∙ ap (after_steps (bare_round header) n) (bare_played_round plays))
+      let h0 = round_first plays n in let h1 = bare_played_rounds n (plays ++ Round ∷ []) in let h2 = bare_played_round plays in grind arith
 
 -- ## The lines of a round in a world of nodes do what the round does, and tell of it; and none of them is misread
 
@@ -337,14 +334,11 @@ round_told w =
 
 -- ### None is misread
 
-sure_taking : (w : NodeWorld) (e : End) → NoneIsMisread w (taking_in w e)
-sure_taking w e = grind arith
-
 pub sure_round : (ends : List End) (w : NodeWorld) → NoneIsMisread w (round_in w ends)
 sure_round [] w = (refl, tt)
 sure_round (e ∷ ends) w =
     let v : NodeWorld = world_after w (taking_in w e) in
-    sure-append (taking_in w e) (round_in v ends) w (sure_taking w e) (sure_round ends v)
+    sure-append (taking_in w e) (round_in v ends) w (grind arith) (sure_round ends v)
 
 -- ### Behind lines
 
@@ -370,9 +364,7 @@ module _ (header : Header) (nodes : header.hci ≡ true) where
   pub played_rounds : (n : ℕ) (plays : List Play)
       → nodes_behind header (lines_played header (plays ++ replicate n Round)) ≡ (rounds_of_world n (nodes_behind header (lines_played header plays))).0
   played_rounds zero plays = ap (λ (ps : List Play). nodes_behind header (lines_played header ps)) (append-nil plays)
-  played_rounds (suc n) plays =
-      ap (λ (ps : List Play). nodes_behind header (lines_played header ps)) (round_first plays n)
-      ∙ (played_rounds n (plays ++ Round ∷ []) ∙ ap (λ (w : NodeWorld). (rounds_of_world n w).0) (played_round plays))
+  played_rounds (suc n) plays = let h0 = round_first plays n in let h1 = played_rounds n (plays ++ Round ∷ []) in let h2 = played_round plays in grind arith
 
   -- none is misread over a round, nor below a line that isn't
   pub sure_with_round : (plays : List Play) → NoneIsMisread (new_world header.hosts.items) (lines_played header plays)
@@ -515,9 +507,7 @@ module _ (header : Header) where
 pub alike : {W V : Type 0} (rests : W → Bool) (next : W → W) (so : V → Bool) (on : V → V) (f : W → V) → ((x : W) → rests x ≡ so (f x))
     → ((x : W) → f (next x) ≡ on (f x)) → (n : ℕ) (x : W) → steps_to_rest rests next n x ≡ steps_to_rest so on n (f x)
 alike rests next so on f r s zero x = refl
-alike rests next so on f r s (suc n) x =
-    ap (λ (b : Bool). if b then 0 else suc (steps_to_rest rests next n (next x))) (r x)
-    ∙ ap (λ (k : ℕ). if so (f x) then 0 else suc k) (alike rests next so on f r s n (next x) ∙ ap (steps_to_rest so on n) (s x))
+alike rests next so on f r s (suc n) x = let h0 = steps_to_rest rests next n (next x) in let h1 = alike rests next so on f r s n (next x) in grind arith
 
 module _ (header : Header) where
   pub nodes_rest : header.hci ≡ true → (plays : List Play) → rests_behind header plays ≡ world_rests (nodes_behind header (lines_played header plays))

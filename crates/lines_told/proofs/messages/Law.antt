@@ -7,12 +7,12 @@ use Rattle.lines_told.proofs.Words.{CoreLinkEvent, CoreTick, CoreTurn, Down, Ear
 use Rattle.lines_told.proofs.Words.{IsLinkStretch, IsLinkUndisturbed, IsOrdinary, IsOrdinaryOnLink, IsPrefix, IsRound, IsStart, IsStretch, Link, LinkEnd}
 use Rattle.lines_told.proofs.Words.{LinkEvent, List, Message, NumberedEnd, Option, Reached, Some, Talk, Turn, Up, [], after_input, after_link_events, aged, ap}
 use Rattle.lines_told.proofs.Words.{append_assoc, arith, come_to_controller, come_to_host, core_after, core_all, core_event, core_events, core_of, core_tick}
-use Rattle.lines_told.proofs.Words.{core_tick_rest, core_turns, eqb-true, event_step, false, fragments_left, happens, happens_at_controller, is_open, leb-false}
+use Rattle.lines_told.proofs.Words.{core_tick_rest, core_turns, eqb-true, event_step, false, fragments_left, happens, happens_at_controller, is_open}
 use Rattle.lines_told.proofs.Words.{length, length-append, length-map, link_rests, map, messages_got, nat_le, reached_more, refl, run, steps_to_rest, subst}
 use Rattle.lines_told.proofs.Words.{suc, sym, take, take_all, taken_at_controller, taken_at_host, taken_here, talk_now, ticks_among, ticks_at_controller}
 use Rattle.lines_told.proofs.Words.{times_among, to_deliver, true, whole_acked, whole_among, zero, ℕ, ◌*◌, ◌++◌, ◌+◌, ◌-◌, ◌∙◌, ◌∷◌, ◌≡◌, ◌≤◌}
 use Rattle.hcp_packet.proofs.Joining.{joined_again, packets_are_counted, whole_messages_have_come}
-use Rattle.hcp_packet.specs.Packets.{IsFrontOf, fragments_of, good_messages_of, good_of, message_ended_by, messages_after, messages_of, packet_bytes}
+use Rattle.hcp_packet.specs.Packets.{IsFrontOf, fragments_of, good_messages_of, good_of, messages_after, messages_of, packet_bytes}
 use Rattle.hcp_packet.specs.Packets.{packet_count, packet_of, packets_in, packets_of}
 use Rattle.hcp_packet.specs.declared.Packet.{Packet}
 use Rattle.link_laws.proofs.machine.Sound.{whole_acked_before}
@@ -139,17 +139,6 @@ does_then es fs a b =
     times (CoreTick a b c ∷ es) = omega (arith, times es)
     times (_ ∷ es) = times es
 
--- an event and those behind it
-come_more : (l : Link) (e : LinkEvent) (es : List LinkEvent)
-    → come_to_controller l (e ∷ es) ≡ come_to_controller l (e ∷ []) + come_to_controller (happens l e) es
-come_more l e es = grind arith
-
-come_more_there : (l : Link) (e : LinkEvent) (es : List LinkEvent) → come_to_host l (e ∷ es) ≡ come_to_host l (e ∷ []) + come_to_host (happens l e) es
-come_more_there l e es = grind arith
-
-times_more : (e : LinkEvent) (es : List LinkEvent) → times_among (e ∷ es) ≡ times_among (e ∷ []) + times_among es
-times_more e es = grind arith
-
 does_as : {es : List CoreLinkEvent} {c h t c' h' t' : ℕ} → c ≡ c' → h ≡ h' → t ≡ t' → DoesOfProjected es c h t → DoesOfProjected es c' h' t'
 does_as p q r d = grind arith
 
@@ -176,7 +165,7 @@ all_does (e ∷ es) l a k u o =
     event_does l e o.0 (open_up l.controller k.good.controller.now.closed now.controller_up) (open_up l.host k.good.host.now.closed now.host_up) in
     let P : CoreLink → Type 0 = λ c. AreUndisturbed c (core_events (happens l e) es) in
     let rest = all_does es (happens l e) a.1 next.0 (subst P (sym next.1) parts.1) o.1 in
-    does_as (sym (come_more l e es)) (sym (come_more_there l e es)) (sym (times_more e es))
+    does_as (sym (grind arith)) (sym (grind arith)) (sym (grind arith))
     (does_then (core_event l e) (core_events (happens l e) es) first rest)
 
 -- ### Rounds
@@ -189,9 +178,7 @@ known_after es l a k =
 
 events-append : (es fs : List LinkEvent) (l : Link) → core_events l (es ++ fs) ≡ core_events l es ++ core_events (after_link_events l es) fs
 events-append [] fs l = refl
-events-append (e ∷ es) fs l =
-    ap (λ cs. core_event l e ++ cs) (events-append es fs (happens l e))
-    ∙ sym (append_assoc (core_event l e) (core_events (happens l e) es) (core_events (after_link_events (happens l e) es) fs))
+events-append (e ∷ es) fs l = let h0 = events-append es fs (happens l e) in grind arith
 
 pub after_events-append : (es fs : List LinkEvent) (l : Link) → after_link_events l (es ++ fs) ≡ after_link_events (after_link_events l es) fs
 after_events-append [] fs l = refl
@@ -271,10 +258,7 @@ rounds_core (suc n) l events a k u (first, rest, parts, one, more) =
 
 messages_after-append : (before q r : List Packet) → messages_after before (q ++ r) ≡ messages_after before q ++ messages_after (before ++ q) r
 messages_after-append before [] r = ap (λ b. messages_after b r) (sym (append-nil before))
-messages_after-append before (p ∷ q) r =
-    ap (λ ms. message_ended_by before p ++ ms) (messages_after-append (before ++ p ∷ []) q r)
-    ∙ (ap (λ b. message_ended_by before p ++ (messages_after (before ++ p ∷ []) q ++ messages_after b r)) (append_assoc before (p ∷ []) q)
-    ∙ sym (append_assoc (message_ended_by before p) (messages_after (before ++ p ∷ []) q) (messages_after (before ++ p ∷ q) r)))
+messages_after-append before (p ∷ q) r = let h0 = messages_after-append (before ++ p ∷ []) q r in let h1 = append_assoc before (p ∷ []) q in grind arith
 
 -- where the fragments of messages are a front of those of others, so are the messages
 sent_front : (early late : List Message) → AreShort early → AreShort late → IsFrontOf (fragments_of early) (fragments_of late) → IsFrontOf early late
@@ -298,13 +282,9 @@ fragments_counted m ms =
 -- messages of which all fragments are among so many are whole
 whole_front : (early later : List Message) (n : ℕ) → length (fragments_of early) ≤ n → length early ≤ whole_among (early ++ later) n
 whole_front [] later n i = omega arith
-whole_front (m ∷ ms) later n i = go (nat_le (packet_count (length m.1)) n) refl (whole_front ms later (n - packet_count (length m.1)))
-  where
-    go : (b : Bool) → nat_le (packet_count (length m.1)) n ≡ b
-        → (length (fragments_of ms) ≤ n - packet_count (length m.1) → length ms ≤ whole_among (ms ++ later) (n - packet_count (length m.1)))
-        → length (m ∷ ms) ≤ whole_among ((m ∷ ms) ++ later) n
-    go true q rest = rw q (let r = rest (omega (arith, i, fragments_counted m ms)) in omega (arith, r))
-    go false q rest = absurd (let z = leb-false (packet_count (length m.1)) n q in omega (arith, i, fragments_counted m ms, z))
+whole_front (m ∷ ms) later n i =
+    let h0 = nat_le (packet_count (length m.1)) n in let h1 = whole_front ms later (n - packet_count (length m.1)) in let h2 = fragments_counted m ms in
+    grind arith
 
 -- the near end's own messages
 in_messages : (before now other : Talk) → Says before → Says now → CoreInOrder now.session other.session

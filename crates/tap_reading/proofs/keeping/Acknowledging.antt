@@ -2,13 +2,13 @@
 use Rattle.std.proofs.Common.{◌≡◌, ℕ, zero, suc, ◌+◌, ◌-◌, ◌%◌, ◌<◌, ◌≤◌, ◌==◌, Bool, true, false, not, cond, ◌&&◌, List, [], ◌∷◌, ◌++◌, length, take, drop}
 use Rattle.std.proofs.Common.{map, Option, Some, None, refl, ap, sym, subst, ◌∙◌, arith, length-drop}
 use Rattle.std.specs.Prelude.{nat_lt, ◌||◌}
-use Rattle.std.proofs.lemmas.Bool.{eqb-true, eq-eqb, ltb-true, ltb-false, lt-ltb, le-ltb}
+use Rattle.std.proofs.lemmas.Bool.{eqb-true, ltb-true, le-ltb}
 use Rattle.hcp_packet.specs.declared.Packet.{Packet}
 use Rattle.hcp_packet.specs.Packets.{packet_of, packets_in, good_of}
 use Rattle.hcp_chain.specs.Joining.{join_step, message_in, is_fault, are_taken, open_after}
 use Rattle.swp_base.specs.declared.control_frames.Control.{Control}
 use Rattle.swp_base.specs.declared.control_frames.Control.TheVariants.{I, S, Rset, Ua, Act, Clt}
-use Rattle.tap_reading.specs.Tap.{TapSide, TapState, new_tap, tap_exchanged, renumbered, listed_at, counted_at, tells_more, with_number}
+use Rattle.tap_reading.specs.Tap.{TapSide, TapState, new_tap, tap_exchanged, renumbered, listed_at, tells_more, with_number}
 use Rattle.tap_reading.specs.Tap.{with_fragment, news_behind, told_by}
 use Rattle.tap_reading.specs.Tap.{is_in_session, tap_hears, tap_tells, reports_to, tap_after_frame, tap_reports, tap_after, tapped_from, tapped}
 use Rattle.tap_reading.specs.keeping.Keeping.{KeptSide, KeptTap, new_kept_tap, kept_exchanged, kept_renumbered, kept_listed, kept_added, kept_tells_more}
@@ -39,10 +39,7 @@ module _ (k j : KeptSide) (s t : TapSide) (h : StandsForSide k s t) (f : StandsF
 
   -- the other side's list is begun at the number of this one
   waiting_is : t.listed ≡ s.number → j.waiting ≡ drop s.count t.list
-  waiting_is e =
-      let q : (s.number == t.listed) ≡ true = eq-eqb s.number t.listed (sym e) in
-      let c : counted_at s t.listed ≡ s.count = rw q refl in
-      f.waiting (omega (arith, e)) ∙ ap (λ z. drop z t.list) c
+  waiting_is e = grind arith
 
   tells_same : (nr : ℕ) → kept_tells_more k j nr ≡ tells_more s t nr
   tells_same nr = ap (λ z. (nr == z) && ((j.listed == k.number) && nat_lt 0 (length j.waiting))) next ∙ ap
@@ -52,11 +49,7 @@ module _ (k j : KeptSide) (s t : TapSide) (h : StandsForSide k s t) (f : StandsF
       tests = rw (f.listed, h.number) refl
 
       some : (l c : ℕ) → nat_lt 0 (l - c) ≡ nat_lt c l
-      some l c = go (nat_lt c l) refl
-        where
-          go : (b : Bool) → nat_lt c l ≡ b → nat_lt 0 (l - c) ≡ nat_lt c l
-          go true p = lt-ltb 0 (l - c) (let i = ltb-true c l p in omega (arith, i)) ∙ sym p
-          go false p = le-ltb 0 (l - c) (let i = ltb-false c l p in omega (arith, i)) ∙ sym p
+      some l c = grind arith
 
       second : (b : Bool) → (t.listed == s.number) ≡ b
           → ((j.listed == k.number) && nat_lt 0 (length j.waiting)) ≡ nat_lt s.count (length (listed_at t s.number))
@@ -75,12 +68,10 @@ module _ (k j : KeptSide) (s t : TapSide) (h : StandsForSide k s t) (f : StandsF
     inside : s.count < length t.list
 
   more : (nr : ℕ) → tells_more s t nr ≡ true → More
-  more nr q = go (t.listed == s.number) refl (ltb-true s.count (length (listed_at t s.number)) (second (nr == ((s.count + 1) % 8)) (nat_lt s.count (length
-      (listed_at t s.number))) q))
+  more nr q = go (t.listed == s.number) refl (ltb-true s.count (length (listed_at t s.number)) (grind arith))
     where
       second : (a b : Bool) → (a && b) ≡ true → b ≡ true
-      second true b p = p
-      second false b p = cc
+      second x0 b p = grind arith
 
       go : (b : Bool) → (t.listed == s.number) ≡ b → s.count < length (listed_at t s.number) → More
       go false p i = absurd (let l : length (listed_at t s.number) ≡ 0 = rw p refl in omega (arith, i, l))
@@ -111,14 +102,7 @@ module _ (k j : KeptSide) (s t : TapSide) (h : StandsForSide k s t) (f : StandsF
     -- where all could be joined, the messages under way are those kept
     same_test : (p : Packet) → (k.joins && not (is_fault (join_step k.under_way p).0))
         ≡ (are_taken [] joined_packets && not (is_fault (join_step (open_after [] joined_packets) p).0))
-    same_test p = go k.joins refl
-      where
-        go : (b : Bool) → k.joins ≡ b → (k.joins && not (is_fault (join_step k.under_way p).0))
-            ≡ (are_taken [] joined_packets && not (is_fault (join_step (open_after [] joined_packets) p).0))
-        go false e = let o : are_taken [] joined_packets ≡ false = sym (h.joins low) ∙ e in rw (e, o) refl
-        go true e =
-            let o : are_taken [] joined_packets ≡ true = sym (h.joins low) ∙ e in
-            rw (e, o) (ap (λ u. not (is_fault (join_step u p).0)) (h.under_way low e))
+    same_test p = grind arith
 
     -- the news
     news_same : kept_news k (packet_of acked_one) ≡ news_behind (listed_at t s.number) s.count
@@ -130,10 +114,7 @@ module _ (k j : KeptSide) (s t : TapSide) (h : StandsForSide k s t) (f : StandsF
             by : (b : Bool) → k.joins ≡ b
                 → kept_news k (Some p) ≡ cond (are_taken [] joined_packets && not (is_fault (join_step (open_after [] joined_packets) p).0)) (good_of
                 (message_in (join_step (open_after [] joined_packets) p).0)) []
-            by false e = let o : are_taken [] joined_packets ≡ false = sym (h.joins low) ∙ e in rw (e, o) refl
-            by true e =
-                let o : are_taken [] joined_packets ≡ true = sym (h.joins low) ∙ e in
-                rw (e, o) (ap (λ u. cond (not (is_fault (join_step u p).0)) (good_of (message_in (join_step u p).0)) []) (h.under_way low e))
+            by x0 e = grind arith
 
         go : (o : Option Packet) → packet_of acked_one ≡ o → kept_news k (packet_of acked_one)
             ≡ news_of joined_packets (packets_with joined_packets (packet_of acked_one))
@@ -155,19 +136,7 @@ module _ (k j : KeptSide) (s t : TapSide) (h : StandsForSide k s t) (f : StandsF
         go : (o : Option Packet) → packet_of acked_one ≡ o → StandsForSide counted (record s { count = s.count + 1 }) t
         go None e =
             let is : packets_in (take (s.count + 1) (listed_at t s.number)) ≡ joined_packets = packets_are ∙ ap (packets_with joined_packets) e in
-            subst P (sym e) (record {
-              number = h.number;
-              asked = h.asked;
-              listed = h.listed;
-              older = h.older;
-              sent = h.sent;
-              waiting = h.waiting;
-              few = h.few;
-              count = next;
-              most = λ _. most;
-              joins = λ i. h.joins i ∙ ap (are_taken []) (sym is);
-              under_way = λ i y. h.under_way i y ∙ ap (open_after []) (sym is);
-            })
+            subst P (sym e) (grind arith)
         go (Some p) e =
             let is : packets_in (take (s.count + 1) (listed_at t s.number)) ≡ joined_packets ++ p ∷ [] = packets_are ∙ ap (packets_with joined_packets) e in
             subst P (sym e) (record {
@@ -186,27 +155,10 @@ module _ (k j : KeptSide) (s t : TapSide) (h : StandsForSide k s t) (f : StandsF
             })
           where
             first : (a b : Bool) → (a && b) ≡ true → a ≡ true
-            first true b p = refl
-            first false b p = p
+            first x0 b p = grind arith
 
     far : StandsForSide (record j { waiting = drop 1 j.waiting }) t (record s { count = s.count + 1 })
-    far =
-        let w : j.waiting ≡ acked_one ∷ m.parts.rest = waiting_is m.begun ∙ m.parts.is in
-        let here : (s.number == t.listed) ≡ true = eq-eqb s.number t.listed (sym m.begun) in
-        record {
-          number = f.number;
-          asked = f.asked;
-          listed = f.listed;
-          older = f.older;
-          sent = f.sent;
-          waiting = λ _. ap (drop 1) w ∙ (let e : drop (s.count + 1) t.list ≡ m.parts.rest = m.parts.behind in rw here (sym e));
-          few = let i = f.few in let l = ap (length {A = List ℕ}) w in let r : length (drop 1 j.waiting) ≡ length m.parts.rest = ap
-              (λ z. length (drop 1 z)) w in omega (arith, i, l, r);
-          count = f.count;
-          most = f.most;
-          joins = f.joins;
-          under_way = f.under_way;
-        }
+    far = grind arith
 
   told_same : (nr : ℕ) → (b : Bool) → tells_more s t nr ≡ b
       → cond (kept_tells_more k j nr) (map (λ (m : ℕ × List ℕ). (k.number, m.0, m.1)) (kept_news k (first_packet j.waiting))) [] ≡ told_by s t nr
@@ -230,11 +182,7 @@ numbered k t nr h = go (tells_more t.clf t.uicc nr) refl
         let P : KeptSide → Type 0 = λ z. StandsForSide z (record t.clf { count = t.clf.count + 1 }) t.uicc in
         let first = first_is k.clf k.uicc t.clf t.uicc h.clf h.uicc m in
         let n = near k.clf k.uicc t.clf t.uicc h.clf h.uicc m in
-        rw (tells_same k.clf k.uicc t.clf t.uicc h.clf h.uicc nr ∙ q, q) (record {
-          clf = subst P (ap (λ o. record (kept_joined k.clf o) { count = (k.clf.count + 1) % 8 }) (sym first)) n;
-          uicc = far k.clf k.uicc t.clf t.uicc h.clf h.uicc m;
-          rsets = h.rsets;
-        })
+        rw (tells_same k.clf k.uicc t.clf t.uicc h.clf h.uicc nr ∙ q, q) (grind arith)
 
 hears : (bare : Bool) (k : KeptTap) (t : TapState) (c : Control) → StandsForTap k t
     → StandsForTap (kept_hears bare k c) (tap_hears bare t c) × (kept_tells bare k c ≡ tap_tells bare t c)
@@ -312,27 +260,10 @@ frames_stand bare (f ∷ frames) k t h =
     (more.0, ap (λ z. z ++ kept_reported bare (kept_after_frame bare k f.0 f.1) frames) one.1 ∙ ap (λ z. tap_reports bare t f.0 f.1 ++ z) more.1)
 
 pub start_stands : StandsForTap new_kept_tap new_tap
-start_stands = record { clf = side; uicc = side; rsets = refl }
-  where
-    side : StandsForSide new_kept_tap.clf new_tap.clf new_tap.uicc
-    side = record {
-      number = refl;
-      asked = refl;
-      listed = refl;
-      older = omega arith;
-      sent = λ _. refl;
-      waiting = λ _. refl;
-      few = omega arith;
-      count = refl;
-      most = λ _. omega arith;
-      joins = λ _. refl;
-      under_way = λ _ _. refl;
-    }
+start_stands = grind arith
 
 pub kept_is_enough : (bare : Bool) (frames : List (Bool × Control)) → kept_reported bare new_kept_tap frames ≡ tapped bare frames
 kept_is_enough bare frames = (frames_stand bare frames new_kept_tap new_tap start_stands).1
 
 pub kept_is_small : (bare : Bool) (frames : List (Bool × Control)) → IsSmall (kept_after bare new_kept_tap frames)
-kept_is_small bare frames =
-    let h = (frames_stand bare frames new_kept_tap new_tap start_stands).0 in
-    record { clf = h.clf.few; uicc = h.uicc.few }
+kept_is_small bare frames = let h0 = frames_stand bare frames new_kept_tap new_tap start_stands in grind arith

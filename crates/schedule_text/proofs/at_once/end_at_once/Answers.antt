@@ -2,7 +2,7 @@
 use Rattle.std.proofs.Common.{◌≡◌, ◌-◌, List, ℕ, [], ◌∷◌, Some, length, take, drop, sym, ◌∙◌, arith}
 use Rattle.schedule_text.specs.Words.{words}
 use Rattle.schedule_text.specs.Values.{end_value}
-use Rattle.schedule_text.proofs.AtOnceLemmas.{end_alone, delivers, loses, resets, busies, readies}
+use Rattle.schedule_text.proofs.AtOnceLemmas.{end_alone, delivers, loses, resets, readies}
 use Rattle.schedule_text.proofs.at_once.end_at_once.Goals.{Then-knows}
 use Rattle.schedule_text.proofs.at_once.end_at_once.Goals as goal
 
@@ -29,7 +29,7 @@ returns-then-knows-clause-reset c =
 
 pub returns-then-knows-clause-busy : goal.returns-then-knows-clause-busy
 returns-then-knows-clause-busy c bare =
-    busies c.args.header.now (words c.args.rest.now) (word c) (alone c) bare (c.in_ok-at.at, is_end c, sym c.knows.ensures ∙ c.if-knows.true)
+    let h0 = (words c.args.rest.now) in let h1 = (word c) in let h2 = (alone c) in grind arith
 
 pub returns-then-knows-clause-ready : goal.returns-then-knows-clause-ready
 returns-then-knows-clause-ready c bare =

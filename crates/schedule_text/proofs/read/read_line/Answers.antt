@@ -4,14 +4,14 @@ use Rattle.schedule_text.specs.declared.fault.LineFault.TheVariants as fault
 use Rattle.schedule_text.specs.Words.{words}
 use Rattle.schedule_text.specs.Forms.{row_for}
 use Rattle.schedule_text.specs.Answers.{IsInGrammar, IsOutOfOrder, IsSkipped}
-use Rattle.schedule_text.proofs.FaultsLemmas.{not_too_long, order_iff, same_fault, same_skip, answer_fits}
-use Rattle.schedule_text.proofs.LinesLemmas.{row_fits, memory_fits, never_skipped}
+use Rattle.schedule_text.proofs.FaultsLemmas.{not_too_long, order_iff, same_fault, answer_fits}
+use Rattle.schedule_text.proofs.LinesLemmas.{row_fits, never_skipped}
 use Rattle.schedule_text.proofs.read.read_line.Goals as goal
 
 pub returns-clause-fits : goal.returns-clause-fits
 returns-clause-fits c =
     answer_fits (IsInGrammar (option_copied c.args.header)) c.read_by_form.result _ c.read_by_form.ensures
-    (row_fits (option_copied c.args.header) c.in-Some.first.now (words c.in-Some.rest.now)) (memory_fits (option_copied c.args.header))
+    (row_fits (option_copied c.args.header) c.in-Some.first.now (words c.in-Some.rest.now)) (grind arith)
 
 pub returns-clause-too_long : goal.returns-clause-too_long
 returns-clause-too_long c = (
@@ -23,7 +23,7 @@ returns-clause-too_long c = (
 pub returns-clause-skip : goal.returns-clause-skip
 returns-clause-skip c = (
   λ h. absurd
-      (never_skipped (option_copied c.args.header) c.in-Some.first.now (words c.in-Some.rest.now) (same_skip c.read_by_form.result _ c.read_by_form.ensures h)),
+      (never_skipped (option_copied c.args.header) c.in-Some.first.now (words c.in-Some.rest.now) (grind arith)),
   λ h. absurd (let comment = subst IsSkipped c.in-Some.ensures.some h.1 in let other = c.if-comment.ensures in cc),
 )
 

@@ -1,9 +1,9 @@
-use Rattle.std.proofs.Common.{◌≡◌, [], ◌∷◌, not, ◌∙◌, ap, sym, subst}
+use Rattle.std.proofs.Common.{◌≡◌, [], ◌∷◌, not, ◌∙◌, refl, ap, sym, subst}
 use Rattle.std.specs.Prelude.{Some, None, Result, Ok, Err, option_map, is_some}
 use Rattle.node_core.proofs.Words.{HasStepped, HostRefused, Init, IsAsked, IsInStep, Node, RunsAs, Work, all_done, between, give_refusal, if_waiting, port_at}
 use Rattle.node_core.proofs.Words.{refused_as, sending}
 use Rattle.node_machine.specs.world.World.{beginning}
-use Rattle.node_core.proofs.Between.{at_rest, rests_in_step, kept_at}
+use Rattle.node_core.proofs.Between.{at_rest, rests_in_step, kept_at, ends_kept}
 use Rattle.node_core.proofs.Asking.{not_zero, asked_in_step, has_begun_so}
 use Rattle.node_core.proofs.Sendings.{was_ok, where_ok, begun_so}
 use Rattle.node_core.proofs.running_node.RunningNode.init.Goals as goal
@@ -38,18 +38,18 @@ returns-clause-begun g c start w asked =
     let t = c.give_step in
     let ok = was_ok t.result c.in_default.not-Err in
     let F : Node g.row.N.Denot → Type 0 = λ n. IsAsked n (g.W.Watch.noted c.args.watch.now) (g.W.Watch.is_short c.args.watch.now) start w
-    → HasStepped c.end_step.new.self (g.W.Watch.noted t.new.watch) (g.W.Watch.is_short t.new.watch) start
+    → HasStepped (record c.run_init.new.self { ends = c.begin_step.new.self }) (g.W.Watch.noted t.new.watch) (g.W.Watch.is_short t.new.watch) start
     (all_done n.number (beginning c.args.identity.now c.args.pipes.now) w) in
     let whole : F c.self.inside.node = λ a. by ok a in
     subst F c.self.view_is whole asked
   where
     by : c.give_step.result ≡ Ok tt → IsAsked c.self.inside.node (g.W.Watch.noted c.args.watch.now) (g.W.Watch.is_short c.args.watch.now) start w
-        → HasStepped c.end_step.new.self (g.W.Watch.noted c.give_step.new.watch) (g.W.Watch.is_short c.give_step.new.watch) start
+        → HasStepped (record c.run_init.new.self { ends = c.begin_step.new.self })
+        (g.W.Watch.noted c.give_step.new.watch) (g.W.Watch.is_short c.give_step.new.watch) start
         (all_done c.self.inside.node.number (beginning c.args.identity.now c.args.pipes.now) w)
     by ok a =
         let t = c.give_step in
         let r = c.run_init in
-        let e = c.end_step.ensures in
         let h = c.self.inside.node.number in
         let noted = g.W.Watch.noted t.new.watch in
         let short = g.W.Watch.is_short t.new.watch in
@@ -60,4 +60,5 @@ returns-clause-begun g c start w asked =
         let P : Work → Type 0 = λ v. IsInStep r.new.self noted short start v in
         let u = asked_in_step a in
         let begun = subst P (begun_so h i w (u.power ∙ ap not a.runs.live)) (r.ensures.runs_it h noted short start first (given start w u)) in
-        has_begun_so c.args.identity.now c.args.pipes.now a nonzero begun (r.ensures.store ∙ t.ensures.store) e.ended e.store e.number e.tasks
+        has_begun_so {n2 = record r.new.self { ends = c.begin_step.new.self }} c.args.identity.now c.args.pipes.now a nonzero begun
+        (r.ensures.store ∙ t.ensures.store) (λ ports e. ends_kept c.begin_step.new.self ports (c.begin_step.ensures ports e)) refl refl refl

@@ -1,8 +1,8 @@
-use Rattle.std.proofs.Common.{◌≡◌, ◌&&◌, ◌∙◌, ap, sym, subst}
+use Rattle.std.proofs.Common.{◌≡◌, ◌&&◌, ◌∙◌, refl, ap, sym, subst}
 use Rattle.std.specs.Prelude.{Some, None, Result, Ok, Err, option_map, is_some, ◌==◌}
 use Rattle.node_core.proofs.Words.{HasStepped, HostRefused, IsAsked, Node, Port, RunsAs, all_done, between, give_refusal, if_waiting}
 use Rattle.node_core.proofs.Words.{is_command_message, port_at, refused_as, sending}
-use Rattle.node_core.proofs.Between.{at_rest, rests_in_step, kept_at}
+use Rattle.node_core.proofs.Between.{at_rest, rests_in_step, kept_at, ends_kept}
 use Rattle.node_core.proofs.Asking.{not_zero, asked_in_step, has_sent_so}
 use Rattle.node_core.proofs.Sendings.{was_ok, where_ok}
 use Rattle.node_core.proofs.running_node.RunningNode.send.Goals as goal
@@ -39,17 +39,17 @@ returns-clause-given g c start w asked =
     let t = c.give_step in
     let ok = was_ok t.result c.in_default.not-Err in
     let F : Node g.row.N.Denot → Type 0 = λ n. IsAsked n (g.W.Watch.noted c.args.watch.now) (g.W.Watch.is_short c.args.watch.now) start w
-    → HasStepped c.end_step.new.self (g.W.Watch.noted t.new.watch) (g.W.Watch.is_short t.new.watch) start
+    → HasStepped (record c.give_step.new.self { ends = c.begin_step.new.self }) (g.W.Watch.noted t.new.watch) (g.W.Watch.is_short t.new.watch) start
     (all_done n.number (sending n.number (c.args.pipe, c.args.message.now)) w) in
     let whole : F c.self.inside.node = λ a. by ok a in
     subst F c.self.view_is whole asked
   where
     by : c.give_step.result ≡ Ok tt → IsAsked c.self.inside.node (g.W.Watch.noted c.args.watch.now) (g.W.Watch.is_short c.args.watch.now) start w
-        → HasStepped c.end_step.new.self (g.W.Watch.noted c.give_step.new.watch) (g.W.Watch.is_short c.give_step.new.watch) start
+        → HasStepped (record c.give_step.new.self { ends = c.begin_step.new.self })
+        (g.W.Watch.noted c.give_step.new.watch) (g.W.Watch.is_short c.give_step.new.watch) start
         (all_done c.self.inside.node.number (sending c.self.inside.node.number (c.args.pipe, c.args.message.now)) w)
     by ok a =
         let t = c.give_step in
-        let e = c.end_step.ensures in
         let nonzero = not_zero c.self.inside.node.number (rw (c.self.view_is) c.requires.some) in
         let taken : (p : Port) → port_at w.ports c.self.inside.node.number ≡ Some p
         → None ≡ if_waiting ((c.args.pipe == 1 && is_command_message c.args.message.now) && is_some w.core.command)
@@ -57,4 +57,5 @@ returns-clause-given g c start w asked =
         λ p at. ap (λ (x : Result (Unit {0}) HostRefused). refused_as x) (sym ok)
         ∙ t.ensures.refusal (g.W.Watch.noted c.args.watch.now) (g.W.Watch.is_short c.args.watch.now) start w p (asked_in_step a) at in
         let given = where_ok ok t.ensures.given in
-        has_sent_so c.args.pipe c.args.message.now a nonzero taken (given start w (asked_in_step a)) t.ensures.store e.ended e.store e.number e.tasks
+        has_sent_so {n2 = record t.new.self { ends = c.begin_step.new.self }} c.args.pipe c.args.message.now a nonzero taken
+        (given start w (asked_in_step a)) t.ensures.store (λ ports e. ends_kept c.begin_step.new.self ports (c.begin_step.ensures ports e)) refl refl refl

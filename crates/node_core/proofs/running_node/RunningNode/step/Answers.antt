@@ -1,10 +1,10 @@
-use Rattle.std.proofs.Common.{ℕ, ◌≤◌, sym, ap, ◌∙◌, subst}
+use Rattle.std.proofs.Common.{ℕ, ◌≤◌, refl, sym, ap, ◌∙◌, subst}
 use Rattle.std.specs.Prelude.{Option, IfSome}
 use Rattle.node_core.proofs.Words.{NodeInput, Stored, all_come, sync_kept, times_out}
 use Rattle.node_core.specs.Inputs.{input_of_node}
 use Rattle.node_core.proofs.Elsewhere.{hosts_differ}
 use Rattle.node_core.proofs.Stepping.{whole_step}
-use Rattle.node_core.proofs.Between.{begins_in_step, at_rest, rests_in_step, runs_ready, kept_none_ended}
+use Rattle.node_core.proofs.Between.{begins_in_step, at_rest, rests_in_step, runs_ready, kept_none_ended, ends_kept}
 use Rattle.node_core.proofs.Behind.{ready_few, stepped}
 use Rattle.node_core.proofs.Asking.{begins_at_rest}
 use Rattle.node_core.proofs.SeenAsNode.{still_runs, seen_runs}
@@ -72,7 +72,6 @@ pub returns-clause-stepped : goal.returns-clause-stepped
 returns-clause-stepped g c = rw (← c.self.view_is) (λ start w b.
     let m = rw (← c.self.view_is) at c.requires in
     let i : NodeInput = input_of_node c.args.input in
-    let e = c.end_step.ensures in
     let n = c.self.inside.node.ends in
     let u = begins_in_step b in
     let more = node_more c.args.input m.1 m.4 in
@@ -82,4 +81,5 @@ returns-clause-stepped g c = rw (← c.self.view_is) (λ start w b.
     let behind = c.finish-ran.ensures.carried start (times_out i (all_come i w)) (c.comes.ensures.carried start w b)
     (came_order i w b.runs.order, came_few i more w (ready_few w.ports (runs_ready b.runs b.sent))) in
     let whole = whole_step g.N.Nv.writes i c.in-Ok.came.sync u b.runs.live c.comes.ensures.store (came_planned i w) (came_written i w) syncs behind in
-    stepped g.N.Nv.writes i more b whole e.ended e.store e.number e.tasks c.finish-ran.ensures.usable)
+    stepped g.N.Nv.writes {n2 = record c.finish-ran.new.self { ends = c.begin_step.new.self }} i more b whole
+    (λ ports e. ends_kept c.begin_step.new.self ports (c.begin_step.ensures ports e)) refl refl refl c.finish-ran.ensures.usable)

@@ -1,25 +1,51 @@
-use Rattle.std.proofs.Common.{[], false, arith}
+use Rattle.std.proofs.Common.{◌≡◌, ◌<◌, List, [], false, length, sym, ap, ◌∙◌, subst, arith, add-one, length-set}
+use Rattle.std.specs.Prelude.{slice_set}
 use Rattle.node_machine.specs.Parts.{Port}
+use Rattle.node_ends.specs.declared.seat.Seat.{Seat}
+use Rattle.node_ends.specs.Ends.{AreEnds, KeptEnds, EndsStandFor}
 use Rattle.node_ends.proofs.Opening.{opened}
-use Rattle.node_ends.proofs.Seated.{becomes_here, still_beyond}
+use Rattle.node_ends.proofs.Seated.{becomes_here, as_many, first_changed, none_changed, next_changed, all_changed}
 use Rattle.node_ends.proofs.Beside.{begun}
 use Rattle.node_ends.proofs.ends.Ends.begin_step.Goals as goal
 
-pub returns-else-i-len : goal.returns-else-i-len
-returns-else-i-len c ports stands =
-    still_beyond c.args.i (λ (p : Port). record p { late = false; ended = false; turns = [] })
-    (let l = c.len.ensures in let t = c.if-i-len.false in omega (arith, l, t)) c.self.view_is stands
+abbrev begins : Port → Port
+begins p = record p { late = false; ended = false; turns = [] }
 
-pub returns-then-i-len : goal.returns-then-i-len
-returns-then-i-len c ports stands =
-    becomes_here ports c.args.i c.index_mut-seat.result.now _ (let n = c.len.ensures in let t = c.if-i-len.true in omega (arith, n, t))
-    c.index_mut-seat.ensures.value (begun c.self.inside.pool c.index_mut-seat.result.now)
-    (opened c.self.view_is stands)
+pub loop-i-init : goal.loop-i-init
+loop-i-init c = record {
+  count = ap (λ (k : KeptEnds). length k.seats) c.self.view_is;
+  stands = λ ports stands. (let P : List Port → Type 0 = λ l. AreEnds c.self.inside.pool c.self.inside.seats.items l in
+      subst P (sym (none_changed begins ports)) (opened c.self.view_is stands));
+}
+
+pub loop-i-preserved : goal.loop-i-preserved
+loop-i-preserved c =
+    let i = c.loop-i.i in
+    let s = c.index_mut-seat.result.now in
+    let pool = c.loop-i.self-inside.pool in
+    let seats = c.loop-i.self-inside.seats.items in
+    let count : length seats ≡ length c.args.self.now.seats = c.loop-i.invariant.count in
+    let same : length c.self.inside.seats.items ≡ length c.args.self.now.seats = ap (λ (k : KeptEnds). length k.seats) c.self.view_is in
+    let inside : i < length seats = (let n = c.len-i-end.ensures in let t = c.loop-i-test.true in omega (arith, n, t, same, count)) in
+    record {
+      count = length-set {A = Seat} seats i _ ∙ count;
+      stands = λ ports stands.
+          (let P : List Port → Type 0 = λ l. AreEnds pool (slice_set seats i (record s { late = false; ended = false })) l in
+          subst P (next_changed i begins ports ∙ ap (λ m. first_changed m begins ports) (sym (add-one i)))
+          (becomes_here _ i s _ inside c.index_mut-seat.ensures.value (begun pool s) (c.loop-i.invariant.stands ports stands)));
+    }
+
+pub returns : goal.returns
+returns c ports stands =
+    let e = c.loop-i.invariant.stands ports stands in
+    let many = as_many c.self.inside.pool c.self.inside.seats.items ports (opened c.self.view_is stands).each in
+    let len = c.len-i-end.ensures in
+    let past = c.loop-i-test.false in
+    let P : List Port → Type 0 = λ l. AreEnds c.loop-i.self-inside.pool c.loop-i.self-inside.seats.items l in
+    subst P (all_changed c.loop-i.i begins ports (omega (arith, many, len, past))) e
 
 pub invariant_of-self : goal.invariant_of-self
 invariant_of-self c =
-    let i = c.self.invariant in (
-      _,
-      becomes_here i.0 c.args.i c.index_mut-seat.result.now _ (let n = c.len.ensures in let t = c.if-i-len.true in omega (arith, n, t))
-          c.index_mut-seat.ensures.value (begun c.self.inside.pool c.index_mut-seat.result.now) i.1,
-    )
+    let i = c.self.invariant in
+    let P : KeptEnds → Type 0 = λ k. EndsStandFor k i.0 in
+    (_, c.loop-i.invariant.stands i.0 (subst P c.self.view_is i.1))
