@@ -2,7 +2,7 @@
 use Rattle.std.specs.Prelude.{◌+◌}
 use Rattle.link_laws.proofs.Words.{Acked, Active, Bool, End, EndState, Entry, FetchMessage, GaveUp, Give, Got, Hold, IsSendable, LinkEnd, List, Message, None}
 use Rattle.link_laws.proofs.Words.{NumberedEnd, Option, Packet, Refused, Release, Report, Sent, Session, SetAside, Some, Talk, Turn, Up as IsUpNow, []}
-use Rattle.link_laws.proofs.Words.{acked_noted, ap, append-nil, append_assoc, arith, aside_refusal, common_steps, cond, drop, ended_talk, false, far}
+use Rattle.link_laws.proofs.Words.{acked_noted, ap, append-nil, append_assoc, arith, common_steps, cond, drop, ended_talk, false, far}
 use Rattle.link_laws.proofs.Words.{filter-append, filter_map-append, give_refusal, given, given_by, good_of, got_noted, if_so, is_good, join_step, length, map}
 use Rattle.link_laws.proofs.Words.{max, messages_got, nat_lt, news, no_talk, not, number_of, option_to_list, packet_count, packet_of, packets_in, refl}
 use Rattle.link_laws.proofs.Words.{sent_noted, sent_unless, subst, sym, talk_now, talk_of, told, true, turn, turn_entry, whole_acked, whole_among, with_ready}
@@ -56,12 +56,12 @@ plus-blank b = rw (append-nil b.sent, append-nil b.got, max_zero b.acked) refl
 pub blank-plus : (b : Book) → plus blank b ≡ b
 blank-plus b = rw (zero_max b.acked) refl
 
-pub plus_assoc : (a b c : Book) → plus a (plus b c) ≡ plus (plus a b) c
-plus_assoc a b c = rw (append_assoc a.sent b.sent c.sent, append_assoc a.got b.got c.got, max_assoc a.acked b.acked c.acked) refl
-
 -- one entry
 abbrev note : Entry → End → ℕ → Book
 note e who n = read (e ∷ []) who n
+
+pub plus_assoc : (a b c : Book) → plus a (plus b c) ≡ plus (plus a b) c
+plus_assoc a b c = rw (append_assoc a.sent b.sent c.sent, append_assoc a.got b.got c.got, max_assoc a.acked b.acked c.acked) refl
 
 read-one : (e : Entry) (t : List Entry) (who : End) (n : ℕ) → read (e ∷ t) who n ≡ plus (note e who n) (read t who n)
 read-one e t who n = grind arith
@@ -104,10 +104,6 @@ read_got who who' k n ms = go (same_link_end who who' && (k == n)) refl ms
         ∙ rw q (let z = go true q ms in ap (plus (record { sent = []; got = m ∷ []; acked = 0 })) (rw q at z))
     go false q (m ∷ ms) = read-one (Got who k m) (map (Got who k) ms) who' n ∙ rw q (let z = go false q ms in ap (plus blank) (rw q at z))
 
-read_acked : (who who' : End) (k n a : ℕ) (b : Bool)
-    → read (if_so b (Acked who k a)) who' n ≡ pick (same_link_end who who' && (k == n)) (record { sent = []; got = []; acked = cond b a 0 })
-read_acked who who' k n a b = grind arith
-
 -- what a report says of messages
 abbrev pub told_book : Report → ℕ → Book
 told_book r acked = record { sent = []; got = r.got; acked = cond (nat_lt 0 r.acked) acked 0 }
@@ -135,17 +131,13 @@ read_told who who' k n r acked =
     skip : (t u : List Entry) → Silent t → read (t ++ u) who' n ≡ read u who' n
     skip t u p = read-append t u who' n ∙ (ap (λ z. plus z (read u who' n)) (p who' n) ∙ blank-plus (read u who' n))
 
-    both : (x : Bool) → plus (pick x (record { sent = []; got = []; acked = cond (nat_lt 0 r.acked) acked 0 }))
-        (pick x (record { sent = []; got = r.got; acked = 0 })) ≡ pick x (told_book r acked)
-    both x = grind arith
-
     last : read e who' n ≡ pick (same_link_end who who' && (k == n)) (told_book r acked)
     last =
         read-append (if_so (nat_lt 0 r.acked) (Acked who k acked)) (map (Got who k) r.got) who' n
-        ∙ (ap (λ z. plus z (read (map (Got who k) r.got) who' n)) (read_acked who who' k n acked (nat_lt 0 r.acked))
+        ∙ (ap (λ z. plus z (read (map (Got who k) r.got) who' n)) (let h0 = (nat_lt 0 r.acked) in grind arith)
         ∙ (ap (plus (pick (same_link_end who who' && (k == n)) (record { sent = []; got = []; acked = cond (nat_lt 0 r.acked) acked 0 })))
         (read_got who who' k n r.got)
-        ∙ both (same_link_end who who' && (k == n))))
+        ∙ (grind arith)))
 
 -- ## An end and what was noted of it
 
@@ -223,13 +215,7 @@ noted t who k r acked n = grind (arith, read-append, told, read, read_told, pick
 -- a report that says nothing
 silent_report : (t : List Entry) (who : End) (k : ℕ) (r : Report) (acked n : ℕ)
     → r.got ≡ [] → nat_lt 0 r.acked ≡ false → read (t ++ told who k r acked) who n ≡ read t who n
-silent_report t who k r acked n got zero = noted t who k r acked n ∙ (ap (plus (read t who n)) (none (k == n)) ∙ plus-blank (read t who n))
-  where
-    none : (b : Bool) → pick b (told_book r acked) ≡ blank
-    none b = grind arith
-
-not_more : (a b : ℕ) → b ≡ 0 → nat_lt 0 (b - a) ≡ false
-not_more a b q = rw q (grind (arith, common_steps))
+silent_report t who k r acked n got zero = noted t who k r acked n ∙ (ap (plus (read t who n)) (grind arith) ∙ plus-blank (read t who n))
 
 -- an end without messages
 fresh_whole : (e : LinkEnd) → e.sent ≡ [] → whole_acked e ≡ 0
@@ -251,34 +237,25 @@ told_input t who h k ended began r i d b n = go i.becomes.shift
     result : List Entry
     result = t ++ told who j r (whole_acked k.side)
 
-    got : r.got ≡ news h.side.shdlc.session k.side.shdlc
-    got = i.becomes.got
-
     sent_false : ended ≡ false → k.side.sent ≡ h.side.sent
     sent_false q = subst (λ b. SentAfter b h.side k.side) q i.becomes.sent
 
     sent_true : ended ≡ true → k.side.sent ≡ []
     sent_true q = subst (λ b. SentAfter b h.side k.side) q i.becomes.sent
 
-    past_false : ended ≡ false → k.past ≡ h.past
-    past_false q = i.past ∙ ap (λ x. past_after x h) q
-
-    past_true : ended ≡ true → k.past ≡ (number_of h, talk_now h.side) ∷ h.past
-    past_true q = i.past ∙ ap (λ x. past_after x h) q
-
     -- nothing is told of messages
     nothing : k.side.shdlc.session.acc ≡ [] → k.side.sent ≡ [] → read result who n ≡ read t who n
     nothing acc sent =
         silent_report t who j r (whole_acked k.side) n
         (grind arith)
-        (ap (nat_lt 0) i.acked ∙ not_more (whole_acked h.side) (whole_acked k.side) (fresh_whole k.side sent))
+        (ap (nat_lt 0) i.acked ∙ (rw (fresh_whole k.side sent) (grind (arith, common_steps))))
       where
         drop_none : (m : ℕ) → drop {A = Message} m [] ≡ []
         drop_none m = grind (arith, common_steps)
 
     -- the sessions that ended before, and the one that ended now
     after_end : h.side.shdlc.phase ≡ IsUpNow → ended ≡ true → ended_talk k.past n ≡ talk_of h n
-    after_end up q = ap (λ p. ended_talk p n) (past_true q) ∙ sym (up_talk h n up)
+    after_end up q = ap (λ p. ended_talk p n) (i.past ∙ ap (λ x. past_after x h) q) ∙ sym (up_talk h n up)
 
     -- the session that begins has no messages yet, and none were noted of its number
     begins : (x : Bool) → (n == j) ≡ x → book_of (talk_now k.side) ≡ blank → talk_of h j ≡ no_talk → book_of (talk_of h n)
@@ -297,7 +274,7 @@ told_input t who h k ended began r i d b n = go i.becomes.shift
         let w : whole_acked k.side ≡ whole_among h.side.sent k.side.shdlc.session.acked = ap (λ ms. whole_among ms k.side.shdlc.session.acked) sent in
         omega (arith, z, w) in
         let now : plus (book_of (talk_now h.side)) (told_book r (whole_acked k.side)) ≡ book_of (talk_now k.side) =
-        book_is (append-nil h.side.sent ∙ sym sent) (ap (λ ms. messages_got h.side.shdlc.session ++ ms) got
+        book_is (append-nil h.side.sent ∙ sym sent) (ap (λ ms. messages_got h.side.shdlc.session ++ ms) (i.becomes.got)
         ∙ got_more h.side.shdlc.session k.side.shdlc g.more g.acc)
         (ap (λ x. max (whole_acked h.side) (cond (nat_lt 0 x) (whole_acked k.side) 0)) i.acked ∙ grows (whole_acked h.side) (whole_acked k.side) low) in
         let old : read t who n ≡ book_of (cond (n == j) (talk_now h.side) (ended_talk h.past n)) = grind arith in
@@ -324,7 +301,7 @@ told_input t who h k ended began r i d b n = go i.becomes.shift
         nothing new.acc (sent_false p ∙ d.forgot down) ∙ (b n ∙ (begins (n == j) refl none fresh ∙ ap book_of (sym is)))
     go (Rests p q down still s) =
         nothing (ap (λ (z : Session). z.acc) (s (d.none down))) (sent_false p ∙ d.forgot down)
-        ∙ (b n ∙ ap book_of (down_talk h n down ∙ sym (down_talk k n still ∙ ap (λ ps. ended_talk ps n) (past_false p))))
+        ∙ (b n ∙ ap book_of (down_talk h n down ∙ sym (down_talk k n still ∙ ap (λ ps. ended_talk ps n) (i.past ∙ ap (λ x. past_after x h) p))))
 
 -- ## Turns
 
@@ -389,11 +366,7 @@ told_turn t who h (Hold held) s d b =
     let r = ready_session h.side.shdlc (not held) in
     told_nothing t who (with_side h (turn h.side (Hold held)))
     (told_same t who h (with_side h (turn h.side (Hold held))) r.2 refl (λ _. refl) (rw (r.0, r.1) refl) b)
-told_turn t who h SetAside s d b =
-    by_option {P = Told (t ++ []) who (with_side h (turn h.side SetAside))} (aside_refusal h.side) (λ q.
-    rw q (told_nothing t who (with_side h (record h.side { aside = h.side.aside + 1 }))
-    (told_same t who h (with_side h (record h.side { aside = h.side.aside + 1 })) refl refl (λ _. refl) refl b)))
-    (λ why q. rw q (told_nothing t who h b))
+told_turn t who h SetAside s d b = let h0 = told_nothing t who h b in grind arith
 told_turn t who h c s d b =
     told_nothing t who (with_side h (turn h.side c)) (told_same t who h (with_side h (turn h.side c)) refl refl (λ _. refl) refl b)
 

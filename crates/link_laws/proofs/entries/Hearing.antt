@@ -1,17 +1,16 @@
 -- What is noted of the steps of an end, and of a link, says which session each end has.
 use Rattle.std.proofs.lemmas.List.Sums.{fold-append}
 use Rattle.std.specs.List.{fold}
-use Rattle.std.specs.Prelude.{length}
-use Rattle.link_laws.proofs.Words.{Acked, ActEvent, Activate, Active, AllAllowed, AreOwn, AsksReset, AtController, AtHost, Bool, CanStart, Cause as EndedBy}
+use Rattle.link_laws.proofs.Words.{Acked, ActEvent, Activate, Active, AllAllowed, AreOwn, AsksReset, AtController, AtHost, Bool, CanStart}
 use Rattle.link_laws.proofs.Words.{Control, Controller, Cut, CutOff, End, EndEvent, Ending, Entry, GaveUp, GoesOut, Got, HasTick, Host, IsAllowed, IsEvent}
 use Rattle.link_laws.proofs.Words.{IsNode, IsOwn, IsSettledSince, IsStart, IsUicc, Link, LinkEnd, LinkEvent, LinkInput, List, Lose, NextFrame, NoInput, Node}
-use Rattle.link_laws.proofs.Words.{None, NumberedEnd, OnWire, Option, Report, Reset, Seen, Some, Starts, Step, Stops, Take, Ticks, TicksWithout, TooMany, Turn}
+use Rattle.link_laws.proofs.Words.{None, NumberedEnd, OnWire, Option, Report, Reset, Seen, Some, Starts, Step, Stops, Take, Ticks, TicksWithout, Turn}
 use Rattle.link_laws.proofs.Words.{Up as IsUpNow, [], after_input, after_link_events, aged, aged_entries, all_at_controller, ap, arith, becomes, core_event}
-use Rattle.link_laws.proofs.Words.{core_of, ended_by, entries, entries_of_events, event_entries, exchanged, false, far, finished, first_entries, first_lost}
+use Rattle.link_laws.proofs.Words.{core_of, ended_by, entries, entries_of_events, event_entries, exchanged, false, far, finished, first_entries}
 use Rattle.link_laws.proofs.Words.{frames_out, happens, happens_at_controller, has_taken, here_entries, if_so, if◌then◌else◌, input_entries, is_some, is_up}
 use Rattle.link_laws.proofs.Words.{left_after, map, max, most_frames, nat_lt, number_now, number_of, option_to_list, put, put_entries, puts_entries, refl}
 use Rattle.link_laws.proofs.Words.{report, rest_entries, restart_entries, session_in, silent, step_entries, subst, sym, taken_entries, tick_entries}
-use Rattle.link_laws.proofs.Words.{ticks_at_controller, told, told_of, took, took_with, trace, turn, turn_entries, turn_entry, turned, whole_acked, wire_with}
+use Rattle.link_laws.proofs.Words.{ticks_at_controller, told, told_of, took, took_with, trace, turn, turn_entries, turn_entry, turned, whole_acked}
 use Rattle.link_laws.proofs.Words.{with_ended, ℕ, ◌++◌, ◌∙◌, ◌∷◌, ◌≡◌}
 use Rattle.link_laws.specs.entries.Entries.Entry.{Down, Tick, Up}
 use Rattle.link_laws.specs.entries.Sessions.{hear}
@@ -85,30 +84,19 @@ passes_told_rest w who n r acked = grind (arith, passes-append, passes_so, passe
 
 -- nothing is told of the other end
 passes_told : (who : End) (n : ℕ) (r : Report) (acked : ℕ) → Passes (far who) (told who n r acked)
-passes_told who n r acked =
-    let q = same_far who in
-    let b = passes-append (far who) (if_so r.began (Up who n)) (told_rest who n r acked) (passes_so (far who) r.began (Up who n) (λ s. rw q refl))
-    (passes_told_rest (far who) who n r acked) in
-    passes-append (far who) (map (Down who) (option_to_list r.ended)) (if_so r.began (Up who n) ++ told_rest who n r acked)
-    (passes_map (far who) (Down who) (option_to_list r.ended) (λ c s. rw q refl)) b
+passes_told who n r acked = let h0 = passes_told_rest (far who) who n r acked in grind arith
 
 -- the session of an end whose session ended or not, and where one with this number began or not
 abbrev pub after_told : Bool → Bool → ℕ → Option ℕ → Option ℕ
 after_told ended began n s = if began then Some n else (if ended then None else s)
 
-heard_down : (who : End) (o : Option EndedBy) (s : Option ℕ) → heard who s (map (Down who) (option_to_list o)) ≡ (if is_some o then None else s)
-heard_down who o s = grind arith
-
-heard_up : (who : End) (b : Bool) (n : ℕ) (s : Option ℕ) → heard who s (if_so b (Up who n)) ≡ (if b then Some n else s)
-heard_up who b n s = grind arith
-
 pub heard_told : (who : End) (n : ℕ) (r : Report) (acked : ℕ) (s : Option ℕ) → heard who s (told who n r acked) ≡ after_told (is_some r.ended) r.began n s
 heard_told who n r acked s =
     let first : Option ℕ = if is_some r.ended then None else s in
     heard-append who s (map (Down who) (option_to_list r.ended)) (if_so r.began (Up who n) ++ told_rest who n r acked)
-    ∙ (ap (λ z. heard who z (if_so r.began (Up who n) ++ told_rest who n r acked)) (heard_down who r.ended s)
+    ∙ (ap (λ z. heard who z (if_so r.began (Up who n) ++ told_rest who n r acked)) (grind arith)
     ∙ (heard-append who first (if_so r.began (Up who n)) (told_rest who n r acked)
-    ∙ (passes_told_rest who who n r acked (heard who first (if_so r.began (Up who n))) ∙ heard_up who r.began n first)))
+    ∙ (passes_told_rest who who n r acked (heard who first (if_so r.began (Up who n))) ∙ (grind arith))))
 
 -- what becomes of the session of h as it becomes k
 pub shifted : (h k : NumberedEnd) (ended began : Bool) → Shift h.side.shdlc k.side.shdlc ended began
@@ -125,21 +113,15 @@ passes_turns w who n e [] = λ s. refl
 passes_turns w who n e (t ∷ ts) =
     passes-append w (turn_entry who n e t) (turn_entries who n (turn e t) ts) (passes_turn w who n e t) (passes_turns w who n (turn e t) ts)
 
-passes_pushed : (w who : End) (b : Bool) (xs : List OnWire) → Passes w (if b then first_lost who TooMany xs else [])
-passes_pushed w who b xs = grind arith
-
 passes_puts : (w who : End) (cs : List Control) (l : Link) → Passes w (puts_entries who l cs)
 passes_puts w who [] l = λ s. refl
 passes_puts w who (c ∷ cs) l =
     passes-append w (put_entries who l c) (puts_entries who (put l c) cs)
-    (passes_pushed w (far who) (nat_lt 64 (length (wire_with l c))) (wire_with l c)) (passes_puts w who cs (put l c))
+    (grind arith) (passes_puts w who cs (put l c))
 
 pub passes_aged : (w who : End) (xs : List OnWire) → Passes w (aged_entries who xs)
 passes_aged w who [] = λ s. refl
-passes_aged w who (x ∷ xs) = go (nat_lt x.age 4) refl (passes_aged w who xs)
-  where
-    go : (b : Bool) → nat_lt x.age 4 ≡ b → Passes w (aged_entries who xs) → Passes w (aged_entries who (x ∷ xs))
-    go b q later s = grind arith
+passes_aged w who (x ∷ xs) = let h0 = passes_aged w who xs in grind arith
 
 passes_out : (w who : End) (l : Link) (e : LinkEnd) (ts : List Turn) → Passes w (rest_entries who l e ts GoesOut)
 passes_out w who l e ts = grind (arith, passes-append, number_of, turned, passes_turns, passes_puts)
@@ -226,13 +208,9 @@ taken_heard : (who : End) (l : Link) (x : OnWire) (xs : List OnWire) (ts : List 
 taken_heard who l x xs ts ending a n fr =
     let e : LinkEnd = l.controller.side in
     let i : LinkInput = Take x.frame in
-    let h = input_heard who l (left_after l x xs) (took_with l.controller.took x) i (take_so e x.frame n.sound) (number (is_some (ended_by e i)))
+    let h = input_heard who l (left_after l x xs) (took_with l.controller.took x) i (take_so e x.frame n.sound) (grind arith)
     (λ up q. ap (max l.controller.emitted) (fr.same up q)) (take_finishes l x ts ending a n fr) in
     record { here = h.here; there = h.there }
-  where
-    number : (c : Bool) → number_of (record (with_ended (record l { to_controller = xs }) c).controller { took = took_with l.controller.took x })
-        ≡ max l.controller.emitted (took_with l.controller.took x)
-    number c = grind arith
 
 -- a step that takes no frame
 pub own_heard : (who : End) (l : Link) (e : EndEvent) → IsOwn e → IsAllowed l e → Near l → Heard who l (happens_at_controller l e) (here_entries who l e)
@@ -429,15 +407,12 @@ both_heard l s events a = events_heard events (first_entries l.controller.side.r
 pub controller_heard : (l : Link) → IsStart l → (events : List LinkEvent) → AllAllowed l events
     → session_in (trace l events) Controller ≡ number_now (after_link_events l events).controller
 controller_heard l s events a =
-    then_heard Controller None (number_now l.controller) (number_now (after_link_events l events).controller) (first_entries l.controller.side.role)
-    (entries l events)
-    (first_heard l s).0 (both_heard l s events a).controller
+    let h0 = after_link_events l events in let h1 = entries l events in let h2 = first_heard l s in let h3 = both_heard l s events a in grind arith
 
 pub host_heard : (l : Link) → IsStart l → (events : List LinkEvent) → AllAllowed l events
     → session_in (trace l events) Host ≡ number_now (after_link_events l events).host
 host_heard l s events a =
-    then_heard Host None (number_now l.host) (number_now (after_link_events l events).host) (first_entries l.controller.side.role) (entries l events)
-    (first_heard l s).1 (both_heard l s events a).host
+    let h0 = after_link_events l events in let h1 = entries l events in let h2 = first_heard l s in let h3 = both_heard l s events a in grind arith
 
 -- ### A reset
 

@@ -31,10 +31,7 @@ use Rattle.link_laws.proofs.sessions.Sending.{SafeLink}
 -- turns leave the phase of an end
 pub turned_same : (ts : List Turn) (e : LinkEnd) → (turned e ts).shdlc.phase ≡ e.shdlc.phase
 turned_same [] e = refl
-turned_same (t ∷ ts) e = turned_same ts (turn e t) ∙ one t
-  where
-    one : (t : Turn) → (turn e t).shdlc.phase ≡ e.shdlc.phase
-    one t = grind arith
+turned_same (t ∷ ts) e = let h0 = turned_same ts (turn e t) in grind arith
 
 -- no RSET goes out where the end is Up
 abbrev pub IsQuietEnd : LinkEnd → List Turn → Type 0
@@ -52,7 +49,7 @@ quiet_reset : (l : Link) (window : Option ℕ) (ts : List Turn) → AreSendableT
 quiet_reset l window ts a h r =
     by_option {P = IsQuietEnd (after_input e (Reset window)) ts} (reset_refusal e) (λ q.
     let is : after_input e (Reset window) ≡ reset_by e (window_of e window) = rw q refl in
-    subst P (sym is) (not_up_quiet (reset_by e (window_of e window)) ts (waits q)))
+    subst P (sym is) (not_up_quiet (reset_by e (window_of e window)) ts (λ u. grind arith)))
     (λ why q. let is : after_input e (Reset window) ≡ e = rw q refl in subst P (sym is) (quiet_idle l ts a h r))
   where
     e : LinkEnd
@@ -60,9 +57,6 @@ quiet_reset l window ts a h r =
 
     P : LinkEnd → Type 0
     P f = IsQuietEnd f ts
-
-    waits : reset_refusal e ≡ None → IsNotUp (reset_by e (window_of e window)).shdlc
-    waits q u = grind arith
 
 restarted_down : (e : LinkEnd) (event : ActEvent) → Now e → IsNotUp (activated (moved e true (stopped e.shdlc)) event).shdlc
 restarted_down e event h u = let m = restart_mid e event h in let z = sym (ap (λ (s : EndState). s.phase) m.same) ∙ u in cc
@@ -333,11 +327,8 @@ step_told t who l NextFrame ts ending a n fr b =
     (λ x xs q.
     as_is (step_entries who l NextFrame ts ending) (taken_entries who l x xs ts ending) (steps_at_controller l NextFrame ts ending)
     (has_taken l x xs ts ending)
-    (some x xs q) (here x xs q) (taken_told l x xs ts ending a n (fr x xs q) b))
+    (rw q refl) (here x xs q) (taken_told l x xs ts ending a n (fr x xs q) b))
   where
-    some : (x : OnWire) (xs : List OnWire) → l.to_controller ≡ x ∷ xs → step_entries who l NextFrame ts ending ≡ taken_entries who l x xs ts ending
-    some x xs q = rw q refl
-
     here : (x : OnWire) (xs : List OnWire) → l.to_controller ≡ x ∷ xs → steps_at_controller l NextFrame ts ending ≡ has_taken l x xs ts ending
     here x xs q = rw q refl
 

@@ -1,15 +1,15 @@
 -- A quiet session has delivered all, as it is noted: losses are told, and each step keeps what is known of both ends.
 use Rattle.std.specs.Prelude.{◌||◌}
-use Rattle.link_laws.proofs.Words.{Acked, ActTick, Activation, Active, AreSendableTurns, Asked, AsksReset, Bool, ByAct, CanEnd, Comes, Controller, CoreActs}
+use Rattle.link_laws.proofs.Words.{Acked, ActTick, Activation, Active, AreSendableTurns, Asked, AsksReset, Bool, CanEnd, Comes, Controller, CoreActs}
 use Rattle.link_laws.proofs.Words.{CoreEndEvent, CoreLink, CoreTurn, Cut, CutOff, Down as IsDown, End, EndEvent, EndState, Ending, Entry, GaveUp, GoesOut, Got}
 use Rattle.link_laws.proofs.Words.{HasTick, Host, IsAllowed, IsNode, IsOwn, Link, LinkEnd, LinkInput, List, Lose, Loss, Losses, NextFrame, NoInput, Node, None}
-use Rattle.link_laws.proofs.Words.{NumberedEnd, OnWire, Option, Refused, Reset, Role, Some, Start, Starts, Step, Stop, Stops, Take, Took, Turn, Up as IsUpNow}
+use Rattle.link_laws.proofs.Words.{NumberedEnd, OnWire, Option, Refused, Reset, Some, Start, Starts, Step, Stop, Stops, Take, Took, Turn, Up as IsUpNow}
 use Rattle.link_laws.proofs.Words.{[], act_answer, activated, after_input, aged, aged_entries, ap, append-nil, append_assoc, arith, began_by, came_up}
-use Rattle.link_laws.proofs.Words.{common_steps, cond, core_all_here, core_end, core_ending, core_happens_here, core_here, core_of, core_reset, core_step}
+use Rattle.link_laws.proofs.Words.{common_steps, core_all_here, core_end, core_ending, core_happens_here, core_here, core_of, core_reset, core_step}
 use Rattle.link_laws.proofs.Words.{core_take, core_tick, core_tick_rest, core_ticks_or_cut, core_turned, core_turns, counts_first, ended_by, false, finished}
-use Rattle.link_laws.proofs.Words.{first_lost, frames_out, happens_at_controller, has_taken, here_entries, if_so, if_up, inl, inr, is_act, is_open, is_some}
-use Rattle.link_laws.proofs.Words.{is_up_with, left_after, list_any, loses_aged, map, max, most_frames, moved, nat_lt, new_link_end, no_losses, noted_aged}
-use Rattle.link_laws.proofs.Words.{noted_all, noted_here, noted_tick, noted_turns, number_of, option_to_list, put_all, refl, renewed, report, reset_by}
+use Rattle.link_laws.proofs.Words.{first_lost, frames_out, happens_at_controller, has_taken, here_entries, if_so, if_up, inl, inr, is_open, is_some}
+use Rattle.link_laws.proofs.Words.{is_up_with, left_after, list_any, loses_aged, map, max, most_frames, moved, nat_lt, no_losses, noted_aged}
+use Rattle.link_laws.proofs.Words.{noted_all, noted_here, noted_tick, noted_turns, number_of, option_to_list, put_all, refl, report, reset_by}
 use Rattle.link_laws.proofs.Words.{reset_refusal, rest_entries, sans, shdlc_ticks_at_controller as core_ticks_here, since, step_entries, steps_at_controller}
 use Rattle.link_laws.proofs.Words.{subst, sym, taken_entries, tick_answer, tick_entries, ticked, ticks_at_controller, told_of, took, took_with, true}
 use Rattle.link_laws.proofs.Words.{true≢false, turn_entries, turned, whole_acked, window_of, with_ended, ℕ, ◌++◌, ◌==◌, ◌∙◌, ◌∷◌, ◌≡◌, ◌⊎◌}
@@ -24,7 +24,7 @@ use Rattle.link_laws.proofs.entries.Running.{Before, comes_first, frame_facts, n
 use Rattle.link_laws.proofs.entries.Stepping.{CanFinish, host_finished, puts_number}
 use Rattle.link_laws.proofs.machine.Reports.{Reports, reset_so, shdlc_is as shdlc_moved, take_so, tick_so}
 use Rattle.link_laws.proofs.machine.Runs.{opened}
-use Rattle.link_laws.proofs.machine.Sound.{IsNotUp, Shift}
+use Rattle.link_laws.proofs.machine.Sound.{Shift}
 use Rattle.link_laws.proofs.messages.Project.{Now, Tells, frames_alike, mid_moved, ticked_keeps, turns_mid}
 use Rattle.link_laws.proofs.messages.Finishing.{core_tick_rests, rests, tick_closed, tick_open, tick_role}
 use Rattle.link_laws.proofs.messages.Steps.{Rests, act_mid, tick_closes}
@@ -53,16 +53,13 @@ has_up n who t v = has_later n t (Up who n ∷ v) (let z = same_number n in rw z
 
 since-append : (n : ℕ) (t u : List Entry) → Has n t → since n (t ++ u) ≡ since n t ++ u
 since-append n [] u h = absurd (true≢false (sym h))
-since-append n (e ∷ t) u h =
-    by_test {P = since n (e ∷ (t ++ u)) ≡ since n (e ∷ t) ++ u} (begins n e) (λ q. rw q refl) (λ q. rw q ((since-append n t u) (let z = h in rw q at z)))
+since-append n (e ∷ t) u h = let h0 = since-append n t u in grind arith
 
 -- what is noted behind the entry of an end is noted since the first that came up with its number
 since_up : (n : ℕ) (who : End) (t v : List Entry) → Disturbed v → Disturbed (since n (t ++ (Up who n ∷ v)))
 since_up n who [] v d = let z = same_number n in rw z d
-since_up n who (e ∷ t) v d = by_test {P = Disturbed (since n (e ∷ (t ++ (Up who n ∷ v))))} (begins n e) (λ q. rw q all) (λ q. rw q (since_up n who t v d))
-  where
-    all : Disturbed (t ++ (Up who n ∷ v))
-    all = disturbed_right t (Up who n ∷ v) d
+since_up n who (e ∷ t) v d =
+    let h0 = since n (e ∷ (t ++ (Up who n ∷ v))) in let h1 = since_up n who t v d in let h2 = disturbed_right t (Up who n ∷ v) d in grind arith
 
 -- what is known of the session of an end
 pub record Knows (t : List Entry) (n : Losses) (h : NumberedEnd) : Type 0 where
@@ -132,9 +129,6 @@ rest_grows n m who k e ts q b = grind (arith, flush_grows, turned, disturbed_rig
 grows_right : (n m : Losses) (u v : List Entry) → Grows n m v → Grows n m (u ++ v)
 grows_right n m u v g b = grind (arith, disturbed_right)
 
-came_bad : (n : Losses) (l : CoreLink) (b : Bool) → bad (came_up n l b) ≡ true → bad n ≡ true
-came_bad n l b q = grind arith
-
 pub noted-append : (n : Losses) (c : CoreLink) (es fs : List CoreEndEvent)
     → noted_turns n c (es ++ fs) ≡ noted_turns (noted_turns n c es) (core_all_here c es) fs
 noted-append n c [] fs = refl
@@ -150,10 +144,7 @@ pub taken_noted : (n : Losses) (l : Link) (ts : List Turn) (ending : Ending) (x 
     ≡ noted_all (came_up n (core_of (left_after l x xs)) (began_by l.controller.side (Take x.frame))) (core_of (left_after l x xs))
     (frames_out (turned (took l.controller.side x.frame) ts))
 taken_noted n l ts ending x xs w a b =
-    noted-append n (core_of l) (core_take l.controller.side x.frame ts) (core_ending ending)
-    ∙ (ending_noted (noted_turns n (core_of l) (core_take l.controller.side x.frame ts))
-    (core_all_here (core_of l) (core_take l.controller.side x.frame ts)) ending
-    ∙ take_noted n l ts x xs a (comes_first l x xs w b))
+    let h0 = core_ending ending in let h1 = core_of l in let h2 = take_noted n l ts x xs a (comes_first l x xs w b) in grind arith
 
 -- ## Each step keeps what is known of the sessions of both ends
 
@@ -220,10 +211,6 @@ own_grows n who l _ ts ending o a h = λ b. inr refl
 
 -- ### An end that is Up behind a step in which no session began
 
--- the new end of a node that lost power isn't Up
-pub new_not_up : (r : Role) → CanEnd r CutOff → IsNotUp (new_link_end (renewed r)).shdlc
-new_not_up r can u = grind arith
-
 went_on : (e f : EndState) (ended began : Bool) → Shift e f ended began → began ≡ false → f.phase ≡ IsUpNow → (e.phase ≡ IsUpNow) × (ended ≡ false)
 went_on e f ended began a n up = grind arith
 
@@ -233,7 +220,7 @@ was_up : (k : Link) (g : LinkEnd) (ending : Ending) → CanEnd g.role ending
     → (finished k g ending).controller.side.shdlc.phase ≡ IsUpNow → (g.shdlc.phase ≡ IsUpNow)
     × (number_of (finished k g ending).controller ≡ number_of k.controller)
 was_up k g GoesOut can number up = let p : g.shdlc.phase ≡ IsUpNow = sym (frames_alike most_frames g.shdlc).phase ∙ up in (p, number p)
-was_up k g CutOff can number up = absurd (new_not_up g.role can up)
+was_up k g CutOff can number up = absurd (grind arith)
 
 near_same : (l k : Link) (i : LinkInput) (ts : List Turn) (ending : Ending) → Reports l.controller.side i → began_by l.controller.side i ≡ false
     → (l.controller.side.shdlc.phase ≡ IsUpNow → is_some (ended_by l.controller.side i) ≡ false → number_of k.controller ≡ number_of l.controller)
@@ -357,7 +344,7 @@ taken_knows {t} {n} who l x xs ts ending w a b both = go (began_by e i) refl
           where
             which : (bad (came_up n (core_of k) (began_by e i)) ≡ true) ⊎ Disturbed (told_of who h i ++ rest_entries who k f ts GoesOut)
                 → (bad n ≡ true) ⊎ Disturbed (taken_entries who l x xs ts GoesOut)
-            which (inl z) = inl (came_bad n (core_of k) (began_by e i) z)
+            which (inl z) = inl (let h0 = (core_of k) in let h1 = (began_by e i) in grind arith)
             which (inr z) = inr z
 
     number : (c : Bool) → number_of (record (with_ended (record l { to_controller = xs }) c).controller { took = took_with l.controller.took x })
@@ -387,7 +374,7 @@ taken_knows {t} {n} who l x xs ts ending w a b both = go (began_by e i) refl
               finishes) grows both.here;
           there = there;
         }
-    go true q = record { here = new; there = there }
+    go true q = record { here = record { has = λ up. (at_j (up_number up)).has up; tells = λ up z. (at_j (up_number up)).tells up z }; there = there }
       where
         j : ℕ
         j = number_of h
@@ -439,9 +426,6 @@ taken_knows {t} {n} who l x xs ts ending w a b both = go (began_by e i) refl
             let R : ℕ → Type 0 = λ z. is_up_with (core_end l.host) z ≡ false → bad m ≡ true → Disturbed v in
             subst P (sym split) (knows_new pre v who both.there (subst Q split grows) (subst R (sym r) first))
 
-        new : Knows (t ++ u) m m'.controller
-        new = record { has = λ up. (at_j (up_number up)).has up; tells = λ up z. (at_j (up_number up)).tells up z }
-
 frame_knows : (t : List Entry) (n : Losses) (who : End) (l : Link) (ts : List Turn) (ending : Ending) → IsNode l ts ending → Before l → Both t n l
     → Both (t ++ step_entries who l NextFrame ts ending) (noted_turns n (core_of l) (core_step l NextFrame ts ending))
     (steps_at_controller l NextFrame ts ending)
@@ -449,7 +433,7 @@ frame_knows t n who l ts ending a b both =
     by_list l.to_controller (λ q.
     let z = none q in
     as_is (step_entries who l NextFrame ts ending) [] (noted_turns n (core_of l) (core_step l NextFrame ts ending)) n
-    (steps_at_controller l NextFrame ts ending) l z.0 z.1 z.2 same)
+    (steps_at_controller l NextFrame ts ending) l z.0 z.1 z.2 (let P : List Entry → Type 0 = λ z. Both z n l in subst P (sym (append-nil t)) both))
     (λ x xs q.
     let k : Losses = noted_all (came_up n (core_of (left_after l x xs)) (began_by l.controller.side (Take x.frame))) (core_of (left_after l x xs))
     (frames_out (turned (took l.controller.side x.frame) ts)) in
@@ -469,9 +453,6 @@ frame_knows t n who l ts ending a b both =
         ≡ core_take l.controller.side x.frame ts ++ core_ending ending
     list x xs q = rw q refl
 
-    same : Both (t ++ []) n l
-    same = let P : List Entry → Type 0 = λ z. Both z n l in subst P (sym (append-nil t)) both
-
 -- ## A quiet session has delivered all, as it is noted
 
 -- ### Ticks
@@ -481,10 +462,6 @@ abbrev pub tick_flags : Losses → Link → Node → Losses
 tick_flags n l node =
     let t : Option (List CoreTurn) = core_tick l.controller.side node.turns node.ending in
     noted_turns (noted_tick n t (core_of l)) (core_ticks_or_cut t (core_of l)) (core_tick_rest l.controller.side node.turns node.ending)
-
--- nothing goes out of an end that rests
-rest_noted : (n : Losses) (c : CoreLink) → c.controller.side.phase ≡ IsDown → Rests c.controller.side → noted_tick n (Some []) c ≡ n
-rest_noted n c p r = grind arith
 
 tick_grows : (n : Losses) (who : End) (l : Link) (ts : List Turn) (ending : Ending) → AreSendableTurns ts → Tells l.controller → Rests l.controller.side.shdlc
     → Grows n (tick_flags n l (record { turns = ts; ending = ending })) (tick_entries who l (record { turns = ts; ending = ending }))
@@ -507,9 +484,6 @@ tick_grows n who l ts GoesOut a h r = go (is_open e.role) refl
 
     flags : Option (List CoreTurn) → List CoreEndEvent → Losses
     flags t us = noted_turns (noted_tick n t c) (core_ticks_or_cut t c) us
-
-    flags_as : (t : Option (List CoreTurn)) (us : List CoreEndEvent) → core_tick e ts GoesOut ≡ t → core_tick_rest e ts GoesOut ≡ us → m ≡ flags t us
-    flags_as t us p q = ap (λ z. flags z (core_tick_rest e ts GoesOut)) p ∙ ap (flags t) q
 
     entries_as : (b : Bool) (f : LinkEnd) → is_some (ended_by e HasTick) ≡ b → after_input e HasTick ≡ f
         → Grows n m (told_of who l.controller HasTick ++ rest_entries who (with_ended l b) f ts GoesOut) → Grows n m (tick_entries who l node)
@@ -542,13 +516,13 @@ tick_grows n who l ts GoesOut a h r = go (is_open e.role) refl
         let tm = turns_mid act f ts a mid.mid in
         let s : EndState = core_turned e.shdlc us in
         let is : (turned f ts).shdlc ≡ s = tm.is ∙ ap (λ z. core_turned z us) mid.same in
-        let ended : is_some (ended_by e HasTick) ≡ false = ap (λ z. is_some z) t.1 ∙ none (act_answer e.role ActTick).ended_link (tick_closes e.role o) in
+        let ended : is_some (ended_by e HasTick) ≡ false = ap (λ z. is_some z) t.1 ∙ (rw (tick_closes e.role o) refl) in
         let first : core_tick e ts GoesOut ≡ Some [] = rw o refl in
         let rest : core_tick_rest e ts GoesOut ≡ CoreActs (option_to_list act) us ∷ [] = grind arith in
         let p = h.now.closed o in
         let flag : m ≡ noted_all n c (frames_out (turned f ts)) =
-        flags_as (Some []) (CoreActs (option_to_list act) us ∷ []) first rest
-        ∙ (ap (λ z. noted_here z (core_ticks_here c []) (CoreActs (option_to_list act) us)) (rest_noted n c p r)
+        (ap (λ z. flags z (core_tick_rest e ts GoesOut)) first ∙ ap (flags (Some [])) rest)
+        ∙ (ap (λ z. noted_here z (core_ticks_here c []) (CoreActs (option_to_list act) us)) (grind arith)
         ∙ (ap (λ z. noted_here n z (CoreActs (option_to_list act) us)) (core_tick_rests c p r)
         ∙ out_noted n c act (turned f ts) s tm.mid.acts is)) in
         entries_as false f ended t.0 (input_grows n m who l.controller HasTick l f ts flag)
@@ -556,9 +530,6 @@ tick_grows n who l ts GoesOut a h r = go (is_open e.role) refl
         acts_rest : is_open e.role ≡ false → core_tick_rest e ts GoesOut
             ≡ CoreActs (option_to_list (act_answer e.role ActTick).send) (core_turns (after_input e HasTick) ts) ∷ []
         acts_rest o = rw o refl
-
-        none : (b : Bool) → b ≡ false → is_some (cond b (if_up e.shdlc ByAct) None) ≡ false
-        none b q = rw q refl
 
 pub tick_knows : (t : List Entry) (n : Losses) (who : End) (l : Link) (node : Node) → IsNode l node.turns node.ending → Near l → Both t n l
     → Both (t ++ tick_entries who l node) (tick_flags n l node) (ticks_at_controller l node.turns node.ending)
@@ -571,11 +542,7 @@ tick_knows t n who l node a x b =
 -- a frame that is too old is noted
 aged_disturbs : (who : End) (w : List OnWire) → loses_aged (sans w) ≡ true → Disturbed (aged_entries who w)
 aged_disturbs who [] q = absurd (true≢false (sym q))
-aged_disturbs who (x ∷ xs) q = go (nat_lt x.age 4) (is_act x.frame) refl refl (aged_disturbs who xs)
-  where
-    go : (a b : Bool) → nat_lt x.age 4 ≡ a → is_act x.frame ≡ b → (loses_aged (sans xs) ≡ true → Disturbed (aged_entries who xs))
-        → Disturbed (aged_entries who (x ∷ xs))
-    go a b r s later = grind arith
+aged_disturbs who (x ∷ xs) q = let h0 = aged_disturbs who xs in grind arith
 
 aged_grows : (n : Losses) (l : Link) → Grows n (noted_aged n (core_of l)) (Tick ∷ (aged_entries Controller l.to_controller ++ aged_entries Host l.to_host))
 aged_grows n l q = go n.lost n.rnr (loses_aged (sans l.to_controller)) (loses_aged (sans l.to_host)) refl refl refl refl

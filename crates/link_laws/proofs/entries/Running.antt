@@ -1,13 +1,13 @@
 -- Every event is noted so that the entries say what is kept of the sessions of both ends.
 use Rattle.link_laws.proofs.Words.{Activate, AllAllowed, AreOwn, AreSendableTurns, AsksReset, AtController, AtHost, Bool, CanStart, Comes, Control, Controller}
-use Rattle.link_laws.proofs.Words.{CoreDeliver, CoreLink, CoreTurn, End, EndEvent, Entry, GoesOut, HasTick, Host, InOrderIn, IsAllowed, IsClf, IsEvent}
+use Rattle.link_laws.proofs.Words.{CoreDeliver, CoreLink, CoreTurn, End, EndEvent, Entry, GoesOut, HasTick, Host, InOrderIn, IsAllowed, IsEvent}
 use Rattle.link_laws.proofs.Words.{IsFrontOf, IsNode, IsOwn, IsRead, IsStart, IsUicc, Link, LinkEnd, LinkEvent, List, Lose, NextFrame, NoInput, Node}
-use Rattle.link_laws.proofs.Words.{NumberedEnd, OnWire, Option, Role, Rset, Starts, Step as EndStep, Stops, Take, Ticks, TicksWithout, Turn, Up as IsUpNow, []}
+use Rattle.link_laws.proofs.Words.{NumberedEnd, OnWire, Option, Rset, Starts, Step as EndStep, Stops, Take, Ticks, TicksWithout, Turn, Up as IsUpNow, []}
 use Rattle.link_laws.proofs.Words.{after_input, after_link_events, aged, aged_entries, all_at_controller, ap, append-nil, append_assoc, arith, becomes}
 use Rattle.link_laws.proofs.Words.{began_by, cond, core_aged, core_all_here, core_end, core_event, core_happens_here, core_here, core_of, core_tick}
-use Rattle.link_laws.proofs.Words.{core_tick_rest, core_ticks_if_waiting, core_ticks_or_cut, ended_by, ended_talk, entries, entries_of_events, event_entries}
+use Rattle.link_laws.proofs.Words.{core_tick_rest, core_ticks_or_cut, ended_by, ended_talk, entries, entries_of_events, event_entries}
 use Rattle.link_laws.proofs.Words.{exchanged, false, far, first_entries, first_lost, frames_out, happens, happens_at_controller, here_entries, is_act}
-use Rattle.link_laws.proofs.Words.{is_faulty, is_open, is_rset, is_some, is_waiting, left_after, max, most_frames, nat_lt, ne_eqb, no_talk, number_of, refl}
+use Rattle.link_laws.proofs.Words.{is_faulty, is_open, is_rset, is_some, is_waiting, left_after, max, most_frames, ne_eqb, no_talk, number_of, refl}
 use Rattle.link_laws.proofs.Words.{sans, steps_at_controller, subst, sym, taken, talk_of, tick_entries, ticks_at_controller, took, took_with, trace, true}
 use Rattle.link_laws.proofs.Words.{true≢false, turned, with_ended, ℕ, ◌++◌, ◌<◌, ◌==◌, ◌∙◌, ◌∷◌, ◌≡◌}
 use Rattle.link_laws.proofs.sessions.Hand.{IsRset, rset_told}
@@ -26,7 +26,7 @@ use Rattle.link_laws.proofs.messages.Runs.{Good, Reached, can_start, event_step,
 use Rattle.link_laws.proofs.messages.Runs.{rest_both, rests_of, safe_reached, seen, start_good, start_reached, started_clf, step_here, tells_same}
 use Rattle.link_laws.specs.entries.Entries.Entry.{Tick}
 use Rattle.link_laws.proofs.entries.Books.{Silent, silent_cons, Told, up_talk, down_talk, told_silent, past_after}
-use Rattle.link_laws.proofs.entries.Stepping.{NoAcked, OfOne, Out, Tolds, few_more, few_told, one_input, one_step, puts_number, silent_first}
+use Rattle.link_laws.proofs.entries.Stepping.{OfOne, Out, Tolds, few_more, few_told, one_input, one_step, puts_number, silent_first}
 use Rattle.link_laws.proofs.entries.Noting.{AllOk, Frames, FramesFor, Near, Ok, all_then, between, ok_link, ok_silent, sound_step, sound_tick, step_told}
 use Rattle.link_laws.proofs.entries.Noting.{tick_told}
 use Rattle.link_laws.proofs.Cases.{by_test}
@@ -79,11 +79,8 @@ frame_facts l ts a b x xs w = record { quiet = none ts a; same = same; fresh = f
             let first : sans l.to_controller ≡ x ∷ sans xs = ap sans w ∙ ap (λ c. cond (is_act c) (sans xs) (x ∷ sans xs)) q in
             subst P first b.safe
 
-        positive : 0 < v
-        positive = let is : IsRset x = record { window = v; caps = caps; frame = q } in (rset_told here.hand is).wide
-
         not_zero : (v == 0) ≡ false
-        not_zero = ne_eqb v 0 (λ z. omega (arith, z, positive))
+        not_zero = ne_eqb v 0 (λ z. omega (arith, z, let is : IsRset x = record { window = v; caps = caps; frame = q } in (rset_told here.hand is).wide))
 
         by : (o : Bool) → is_open e.role ≡ o → is_some (ended_by e (Take (Rset v caps))) ≡ true
         by false o = absurd (let z = sym (b.tells.now.closed o) ∙ up in cc)
@@ -156,11 +153,8 @@ here_told t who l (Lose why) a b h =
         here = told_silent t u who l.controller (silent_first who why l.to_controller) h.here;
         there = told_silent t u (far who) l.host (silent_first who why l.to_controller) h.there;
       };
-      few = few_more t who u (few_told t who l.controller h.here) (none l.to_controller);
+      few = few_more t who u (few_told t who l.controller h.here) (grind arith);
     }
-  where
-    none : (w : List OnWire) → NoAcked (first_lost who why w)
-    none w = grind arith
 
 -- what is noted there is of this end
 one_here : (who : End) (l : Link) (e : EndEvent) → OfOne who (here_entries who l e)
@@ -277,13 +271,8 @@ after_tick l c a g r s =
 -- where it has none
 pub without_tick : (l : Link) → is_waiting l.controller.side.shdlc ≡ false → Good l → Reached (core_of l) → Sounds l → IsInTick 1 (aged l)
 without_tick l waits g r s =
-    let kept : core_ticks_if_waiting (core_aged (core_of l)) ≡ core_of (aged l) = rw waits refl in
-    let P : CoreLink → Type 0 = λ d. SafeLink 0 1 d in
-    record {
-      tells = g.controller;
-      safe = subst P kept (tick_if_waiting 1 (core_aged (core_of l)) (safe_aged (core_of l) (safe_reached (core_of l) r)));
-      sound = s.controller;
-    }
+    let h0 = core_aged (core_of l) in let h1 = aged l in
+    let h2 = tick_if_waiting 1 (core_aged (core_of l)) (safe_aged (core_of l) (safe_reached (core_of l) r)) in grind arith
 
 -- the host's end in front of its tick, where m came of l
 pub host_in_tick : (l m : Link) → m.host ≡ l.host → IsInTick 1 m → Good l → Sounds l → Near (exchanged m)
@@ -418,8 +407,7 @@ quiet_all t u ok q p f = let P : List Entry → Type 0 = λ z. Quiet z in ok_sil
 
 quiet_aged : (who : End) (w : List OnWire) → Quiet (aged_entries who w)
 quiet_aged who [] = tt
-quiet_aged who (y ∷ ys) =
-    by_test {P = Quiet (aged_entries who (y ∷ ys))} (nat_lt y.age 4) (λ q. rw q (quiet_aged who ys)) (λ q. rw q ((λ x n. refl), (quiet_aged who ys)))
+quiet_aged who (y ∷ ys) = let h0 = aged_entries who (y ∷ ys) in let h1 = quiet_aged who ys in grind arith
 
 pub note_event : (t : List Entry) (l : Link) (e : LinkEvent) → IsEvent l e → Good l → Reached (core_of l) → Noted t l
     → Notes t (event_entries l e) (happens l e)
@@ -460,7 +448,7 @@ note_event t l (Ticks c es h) a g r n =
     let last = step_tick (exchanged m) h.turns h.ending a.2.0 a.2.1 there.tells there.rests in
     let fs : List Entry = tick_entries Host (exchanged m) h in
     let k : Link = ticks_at_controller (exchanged m) h.turns h.ending in
-    let all : u ++ fs ≡ t ++ (Tick ∷ (ps ++ (bs ++ (cs ++ (ds ++ fs))))) = five t Tick ps bs cs ds fs in
+    let all : u ++ fs ≡ t ++ (Tick ∷ (ps ++ (bs ++ (cs ++ (ds ++ fs))))) = simp append_assoc in
     let Q : List Entry → Type 0 = λ z. Tolds z Controller (exchanged k) in
     let tolds : Tolds (t ++ event_entries l (Ticks c es h)) Controller (exchanged k) = subst Q all (swap_back (u ++ fs) k three.tolds) in
     let st = event_step l (Ticks c es h) a g r in
@@ -481,10 +469,6 @@ note_event t l (Ticks c es h) a g r n =
       };
       all = subst S whole (all_then t start (cs ++ (ds ++ fs)) zero_all rest_all);
     }
-  where
-    five : (t : List Entry) (e : Entry) (ps bs cs ds fs : List Entry)
-        → (((t ++ (e ∷ (ps ++ bs))) ++ cs) ++ ds) ++ fs ≡ t ++ (e ∷ (ps ++ (bs ++ (cs ++ (ds ++ fs)))))
-    five t e ps bs cs ds fs = simp append_assoc
 note_event t l (TicksWithout es h) a g r n =
     let near : Link = aged l in
     let ps : List Entry = aged_entries Controller l.to_controller in
@@ -511,7 +495,7 @@ note_event t l (TicksWithout es h) a g r n =
     let fs : List Entry = tick_entries Host (exchanged m) h in
     let k : Link = ticks_at_controller (exchanged m) h.turns h.ending in
     let e : LinkEvent = TicksWithout es h in
-    let all : u ++ fs ≡ t ++ event_entries l e = four t Tick ps bs ds fs in
+    let all : u ++ fs ≡ t ++ event_entries l e = simp append_assoc in
     let Q : List Entry → Type 0 = λ z. Tolds z Controller (exchanged k) in
     let tolds : Tolds (t ++ event_entries l e) Controller (exchanged k) = subst Q all (swap_back (u ++ fs) k three.tolds) in
     let st = event_step l e a g r in
@@ -530,14 +514,11 @@ note_event t l (TicksWithout es h) a g r n =
       };
       all = subst S whole (all_then t start (ds ++ fs) one_all rest_all);
     }
-  where
-    four : (t : List Entry) (e : Entry) (ps bs ds fs : List Entry) → ((t ++ (e ∷ (ps ++ bs))) ++ ds) ++ fs ≡ t ++ (e ∷ (ps ++ (bs ++ (ds ++ fs))))
-    four t e ps bs ds fs = simp append_assoc
 note_event t l (Activate power c id h) a g r n =
     let x : EndEvent = EndStep (Starts power) c.turns c.ending in
     let y : EndEvent = EndStep (Starts id) h.turns h.ending in
     let near : Link = happens_at_controller l x in
-    let clf : CanStart l.controller.side.role l.host.side.role = clf_starts l.controller.side.role l.host.side.role a.0 in
+    let clf : CanStart l.controller.side.role l.host.side.role = grind arith in
     let one = event_step l (AtController x) (clf, a.2) g r in
     let next : Reached (core_of near) = subst Reached (sym one.core) (reached_more (core_of l) (core_event l (AtController x)) one.allowed r) in
     let host : near.host ≡ l.host = host_here l x (clf, a.2) g r in
@@ -551,9 +532,6 @@ note_event t l (Activate power c id h) a g r n =
     let second = note_there (t ++ u) near y (starts, there.1) one.good next first.noted in
     let P : List Entry → Type 0 = λ z. Noted z (happens l (Activate power c id h)) in
     record { noted = subst P (append_assoc t u v) second.noted; all = all_then t u v first.all second.all }
-  where
-    clf_starts : (r f : Role) → IsClf r → CanStart r f
-    clf_starts r f i = grind arith
 
 -- ## Runs
 
@@ -594,9 +572,6 @@ note_events (e ∷ es) t l a w =
     let P : List Entry → Type 0 = λ z. Noted z (after_link_events (happens l e) es) in
     record { noted = subst P (append_assoc t u v) more.noted; all = all_then t u v first.all more.all }
 
-start_quiet : (r : Role) → Quiet (first_entries r)
-start_quiet r = grind arith
-
 pub start_noted : (l : Link) → IsStart l → Noted (first_entries l.controller.side.role) l
 start_noted l s = grind arith
 
@@ -614,7 +589,7 @@ pub at_each_moment : (l : Link) → IsStart l → (events : List LinkEvent) → 
     → (who : End) (n : ℕ) → InOrderIn p who n
 at_each_moment l s events a p f =
     all_then [] (first_entries l.controller.side.role) (entries l events)
-    (quiet_all [] (first_entries l.controller.side.role) nothing_ok (start_quiet l.controller.side.role))
+    (quiet_all [] (first_entries l.controller.side.role) nothing_ok (grind arith))
     (note_events events (first_entries l.controller.side.role) l a (start_under_way l s)).all p f
 
 -- what the filters read

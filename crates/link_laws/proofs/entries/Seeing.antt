@@ -3,13 +3,13 @@ use Rattle.std.specs.Prelude.{◌+◌}
 use Rattle.link_laws.proofs.Words.{Acked, Activate, Active, AsksReset, AtController, AtHost, Bool, Comes, Control, Controller, CutOff, End, EndEvent, Ending}
 use Rattle.link_laws.proofs.Words.{Entry, GaveUp, GoesOut, Got, HasTick, Host, IsBare, IsLine, IsStart, Link, LinkEnd, LinkEvent, LinkInput, List, Lose, Lost}
 use Rattle.link_laws.proofs.Words.{NextFrame, NoInput, Node, NumberedEnd, OnWire, Report, Reset, Rset, Seen, Start, Starts, Step, Stop, Stops, Take, Ticks}
-use Rattle.link_laws.proofs.Words.{TicksWithout, TooMany, TooOld, Took, Turn, [], after_input, after_link_events, aged, aged_entries, aged_wire}
+use Rattle.link_laws.proofs.Words.{TicksWithout, TooMany, TooOld, Turn, [], after_input, after_link_events, aged, aged_entries, aged_wire}
 use Rattle.link_laws.proofs.Words.{all_at_controller, ap, arith, cond, drop, ended_by, ending_entries, entries, entries_of_events, event_entries, exchanged}
-use Rattle.link_laws.proofs.Words.{false, finished, first_lost, fits, frames_out, happens, happens_at_controller, has_taken, here_entries, if_so, is_rset}
+use Rattle.link_laws.proofs.Words.{false, finished, first_lost, fits, frames_out, happens, happens_at_controller, here_entries, if_so, is_rset}
 use Rattle.link_laws.proofs.Words.{is_some, kept, left_after, ltb-false, ltb-true, map, nat_lt, number_of, older, option_to_list, put, put_all, put_entries}
 use Rattle.link_laws.proofs.Words.{puts_entries, refl, report, rest_entries, see, see_all, sent_all, silent, step_entries, steps_at_controller, subst, sym}
 use Rattle.link_laws.proofs.Words.{taken_entries, tick_entries, ticks_at_controller, told, told_of, took_with, trace, true, turn, turn_entries, turn_entry}
-use Rattle.link_laws.proofs.Words.{turned, whole_acked, with_controller, with_ended, ℕ, ◌++◌, ◌<◌, ◌∙◌, ◌∷◌, ◌≡◌}
+use Rattle.link_laws.proofs.Words.{turned, whole_acked, with_ended, ℕ, ◌++◌, ◌<◌, ◌∙◌, ◌∷◌, ◌≡◌}
 use Rattle.link_laws.specs.entries.Entries.Entry.{Down, Tick, Up}
 use Rattle.link_laws.specs.entries.Reading.{nothing_seen}
 use Rattle.link_laws.proofs.Cases.{by_list, by_test}
@@ -94,10 +94,6 @@ puts_seen who (c ∷ cs) l =
 
 -- ### A step
 
--- what its end is and what is known of sessions isn't seen
-same_seen : (who : End) (l : Link) (e : LinkEnd) → seen_as who (with_controller l e) ≡ seen_as who l
-same_seen who l e = grind arith
-
 ended_seen : (who : End) (l : Link) (b : Bool) → seen_as who (with_ended l b) ≡ seen_as who l
 ended_seen who l b = grind arith
 
@@ -110,7 +106,7 @@ silent_seen who l e = grind arith
 
 ending_seen : (who : End) (l : Link) (e : LinkEnd) (ending : Ending) → see_all (seen_as who l) (ending_entries who l e ending)
     ≡ seen_as who (finished l e ending)
-ending_seen who l e GoesOut = puts_seen who (frames_out e) l ∙ sym (same_seen who (put_all l (frames_out e)) (sent_all e))
+ending_seen who l e GoesOut = puts_seen who (frames_out e) l ∙ sym (let h0 = (put_all l (frames_out e)) in let h1 = (sent_all e) in grind arith)
 ending_seen who l e CutOff = grind arith
 
 rest_seen : (who : End) (l : Link) (e : LinkEnd) (ts : List Turn) (ending : Ending)
@@ -173,26 +169,15 @@ step_seen who l NextFrame ts ending =
     let k : Link = left_after l x xs in
     let rest : List Entry = told_of who h i ++ rest_entries who k (after_input l.controller.side i) ts ending in
     ap (see_all (seen_as who l)) (some x xs q)
-    ∙ (ap (λ s. see_all s rest) (takes who x xs q)
-    ∙ (told_seen who (took_link x xs) k h i (after_input l.controller.side i) ts ending (left_seen who x xs (is_some (ended_by l.controller.side i)))
-    ∙ ap (seen_as who) (sym (here x xs q)))))
+    ∙ (ap (λ s. see_all s rest) (grind arith)
+    ∙ (told_seen who (took_link x xs) k h i (after_input l.controller.side i) ts ending (grind arith)
+    ∙ ap (seen_as who) (sym (rw q refl)))))
   where
     took_link : OnWire → List OnWire → Link
     took_link x xs = record l { to_controller = xs; controller = record l.controller { took = took_with l.controller.took x } }
 
-    left_seen : (who : End) (x : OnWire) (xs : List OnWire) (b : Bool)
-        → seen_as who (let m : Link = with_ended (record l { to_controller = xs }) b in
-        record m { controller = record m.controller { took = took_with l.controller.took x } }) ≡ seen_as who (took_link x xs)
-    left_seen who x xs b = grind arith
-
-    takes : (who : End) (x : OnWire) (xs : List OnWire) → l.to_controller ≡ x ∷ xs → see (seen_as who l) (Took who x.frame) ≡ seen_as who (took_link x xs)
-    takes who x xs q = grind arith
-
     some : (x : OnWire) (xs : List OnWire) → l.to_controller ≡ x ∷ xs → step_entries who l NextFrame ts ending ≡ taken_entries who l x xs ts ending
     some x xs q = rw q refl
-
-    here : (x : OnWire) (xs : List OnWire) → l.to_controller ≡ x ∷ xs → steps_at_controller l NextFrame ts ending ≡ has_taken l x xs ts ending
-    here x xs q = rw q refl
 
 pub here_seen : (who : End) (l : Link) (e : EndEvent) → see_all (seen_as who l) (here_entries who l e) ≡ seen_as who (happens_at_controller l e)
 here_seen who l (Step comes ts ending) = step_seen who l comes ts ending
@@ -340,10 +325,7 @@ aged_seen who s (x ∷ xs) y =
     let e : aged_entries who (x ∷ xs) ≡ Lost who x.frame TooOld ∷ aged_entries who xs = rw q refl in
     let w : aged_wire (x ∷ xs) ≡ aged_wire xs = rw q refl in
     ap (see_all (with_wire who s (older (x ∷ xs)))) e
-    ∙ (ap (λ z. see_all z (aged_entries who xs)) (lost who) ∙ ((aged_seen who s xs (young_later x.age 4 xs y.0 y.1)) ∙ ap (with_wire who s) (sym w))))
-  where
-    lost : (who : End) → see (with_wire who s (older (x ∷ xs))) (Lost who x.frame TooOld) ≡ with_wire who s (older xs)
-    lost who = grind arith
+    ∙ (ap (λ z. see_all z (aged_entries who xs)) (grind arith) ∙ ((aged_seen who s xs (young_later x.age 4 xs y.0 y.1)) ∙ ap (with_wire who s) (sym w))))
 
 both_aged : (l : Link) → Ages l
     → see_all (see (kept l) Tick) (aged_entries Controller l.to_controller ++ aged_entries Host l.to_host) ≡ kept (aged l)

@@ -4,7 +4,7 @@ use Rattle.link_laws.proofs.Words.{Acked, Active, AreSendableInputs, AreSendable
 use Rattle.link_laws.proofs.Words.{Ending, Entry, FromNode, GaveUp, GoesOut, Got, IsFrontOf, Link, LinkEnd, LinkInput, LinkState, List, Loss, Message}
 use Rattle.link_laws.proofs.Words.{NextFrame, NoInput, NumberedEnd, OnWire, Report, Reset, Role, Start, Starts, Stop, Stops, Take, TooMany, Turn, Up as IsUpNow}
 use Rattle.link_laws.proofs.Words.{[], acked_noted, after_frames, after_input, ap, append_assoc, arith, becomes, began_by, cond, cut, ended_by, ended_talk}
-use Rattle.link_laws.proofs.Words.{ending_entries, false, far, fetched, finished, first_lost, frames_out, if_so, inl, inr, is_some, is_up, left_after, length}
+use Rattle.link_laws.proofs.Words.{ending_entries, far, fetched, finished, first_lost, frames_out, if_so, inl, inr, is_some, is_up, left_after, length}
 use Rattle.link_laws.proofs.Words.{length-append, map, max, most_frames, nat_lt, new_link_end, number_of, option_to_list, pushed_out, put, put_all, put_entries}
 use Rattle.link_laws.proofs.Words.{puts_entries, refl, renewed, report, rest_entries, sent_all, sent_noted, silent, step_entries, subst, suc, sym}
 use Rattle.link_laws.proofs.Words.{taken_entries, talk_now, talk_of, told, told_of, took_with, true, turn, turn_entries, turn_entry, turned, whole_acked}
@@ -16,7 +16,6 @@ use Rattle.link_laws.proofs.entries.Books.{silent-append, silent_cons, told_far,
 use Rattle.link_laws.proofs.machine.Runs.{Sound, fetched_data, sound_turn}
 use Rattle.link_laws.proofs.machine.Sound.{whole_few}
 use Rattle.link_laws.proofs.messages.Project.{NoRset, beside-put_all, frames_alike, puts_none}
-use Rattle.link_laws.proofs.places.Joined.{fetch_cases}
 
 -- ## Fronts of what is noted of a step: of one end alone, and never more acknowledged than sent
 
@@ -220,13 +219,10 @@ no_sent_told who k r acked =
     ++ (map (GaveUp who) (option_to_list r.gave_up) ++ (if_so (nat_lt 0 r.acked) (Acked who k acked) ++ map (Got who k) r.got))))
     (no_sent_option (Down who) r.ended (λ x w n. refl)) b
 
-no_acked_turn : (who : End) (k : ℕ) (e : LinkEnd) (t : Turn) → NoAcked (turn_entry who k e t)
-no_acked_turn who k e t = grind arith
-
 no_acked_turns : (who : End) (k : ℕ) (e : LinkEnd) (ts : List Turn) → NoAcked (turn_entries who k e ts)
 no_acked_turns who k e [] = tt
 no_acked_turns who k e (t ∷ ts) =
-    no_acked-append (turn_entry who k e t) (turn_entries who k (turn e t) ts) (no_acked_turn who k e t) (no_acked_turns who k (turn e t) ts)
+    no_acked-append (turn_entry who k e t) (turn_entries who k (turn e t) ts) (grind arith) (no_acked_turns who k (turn e t) ts)
 
 -- ## What is noted of a step of an end says what is kept of its sessions
 
@@ -263,30 +259,23 @@ sound_turns (t ∷ ts) e a s = let p = sendable_first t ts a in sound_turns ts (
 pub silent_first : (who : End) (why : Loss) (w : List OnWire) → Silent (first_lost who why w)
 silent_first who why w x n = grind arith
 
-silent_lost : (who : End) (b : Bool) (w : List OnWire) → Silent (cond b (first_lost who TooMany w) [])
-silent_lost who b w x n = grind arith
-
 silent_puts : (cs : List Control) (who : End) (l : Link) → Silent (puts_entries who l cs)
 silent_puts [] who l = λ x n. refl
 silent_puts (c ∷ cs) who l =
     silent-append (put_entries who l c) (puts_entries who _ cs)
-    (silent_cons (Emit who c) (pushed_out (far who) (wire_with l c)) (λ x n. refl) (silent_lost (far who) (nat_lt 64 (length (wire_with l c))) (wire_with l c)))
+    (silent_cons (Emit who c) (pushed_out (far who) (wire_with l c)) (λ x n. refl) (λ x n. grind arith))
     (silent_puts cs who _)
 
 pub fetched_acked : (n : ℕ) (e : EndState) → (after_frames n e).session.acked ≡ e.session.acked
 fetched_acked zero e = refl
-fetched_acked (suc n) e =
-    fetched_acked n (fetched e) ∙ fetch_cases (λ f o. f.session.acked ≡ e.session.acked) e (λ d ds p. refl) (λ p q. refl) (λ info p q. refl)
+fetched_acked (suc n) e = let h0 = fetched_acked n (fetched e) in grind arith
 
 sent_book : (e : LinkEnd) → book_of (talk_now (sent_all e)) ≡ book_of (talk_now e)
 sent_book e = let a = frames_alike most_frames e.shdlc in let b = fetched_acked most_frames e.shdlc in rw (a.acc, b) refl
 
 pub sound_sent : (e : LinkEnd) → Sound e → Sound (sent_all e)
-sound_sent e s = go most_frames (record e { acts = [] }) (fetched_same e s)
+sound_sent e s = go most_frames (record e { acts = [] }) (grind arith)
   where
-    fetched_same : (e : LinkEnd) → Sound e → Sound (record e { acts = [] })
-    fetched_same e s = grind arith
-
     go : (n : ℕ) (f : LinkEnd) → Sound f → Sound (record f { shdlc = after_frames n f.shdlc })
     go zero f h = h
     go (suc n) f h = go n (record f { shdlc = fetched f.shdlc }) (fetched_data f f.acts h)
@@ -335,28 +324,19 @@ cut_told t who l e can b n = b n ∙ go e.shdlc.phase refl e.role refl can
         let is : is_up f.shdlc.phase ≡ true = ap is_up (phase ∙ p) in
         z ∙ (up_past e.role z ∙ ap book_of (sym (new_down true e.role can) ∙ ap (λ c. talk_of (at c e.role) n) (sym is)))
 
-    idle : (e.shdlc.phase ≡ IsUpNow → ⊥) → is_up f.shdlc.phase ≡ false → CanEnd e.role CutOff
-        → book_of (talk_of (with_side l.controller e) n) ≡ book_of (talk_of (cut (with_controller l f)).controller n)
-    idle d is can = grind arith
-
     go : (p : LinkState) → e.shdlc.phase ≡ p → (r : Role) → e.role ≡ r → CanEnd e.role CutOff
         → book_of (talk_of (with_side l.controller e) n) ≡ book_of (talk_of (cut (with_controller l f)).controller n)
     go IsUpNow p r q can = up p can
-    go _ p r q can = idle (λ u. let z = sym p ∙ u in cc) (ap is_up (phase ∙ p)) can
+    go _ p r q can = let h0 = (ap is_up (phase ∙ p)) in grind arith
 
 silent_ending : (who : End) (l : Link) (e : LinkEnd) (ending : Ending) → Silent (ending_entries who l e ending)
 silent_ending who l e GoesOut = silent_puts (frames_out e) who l
 silent_ending who l e CutOff = λ x n. refl
 
--- frames that go out acknowledge nothing
-no_acked_lost : (who : End) (b : Bool) (w : List OnWire) → NoAcked (cond b (first_lost who TooMany w) [])
-no_acked_lost who b w = grind arith
-
 no_acked_puts : (cs : List Control) (who : End) (l : Link) → NoAcked (puts_entries who l cs)
 no_acked_puts [] who l = tt
 no_acked_puts (c ∷ cs) who l =
-    no_acked-append (put_entries who l c) (puts_entries who (put l c) cs)
-    ((λ w n. refl), no_acked_lost (far who) (nat_lt 64 (length (wire_with l c))) (wire_with l c)) (no_acked_puts cs who (put l c))
+    let h0 = no_acked-append (put_entries who l c) (puts_entries who (put l c) cs) ((λ w n. refl), grind arith) (no_acked_puts cs who (put l c)) in grind arith
 
 no_acked_ending : (who : End) (l : Link) (e : LinkEnd) (ending : Ending) → NoAcked (ending_entries who l e ending)
 no_acked_ending who l e GoesOut = no_acked_puts (frames_out e) who l

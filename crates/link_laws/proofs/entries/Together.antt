@@ -7,8 +7,8 @@ use Rattle.link_laws.proofs.Words.{TickWithout as CoreTickWithout, Ticks, TicksW
 use Rattle.link_laws.proofs.Words.{aged_entries, all_at_controller, ap, append-nil, append_assoc, arith, core_after, core_aged, core_all, core_all_here}
 use Rattle.link_laws.proofs.Words.{core_event, core_events, core_happens_here, core_here, core_of, core_tick, core_tick_rest, core_ticks_if_waiting}
 use Rattle.link_laws.proofs.Words.{core_ticks_or_cut, core_turns, ended_by, entries, entries_of_events, event_entries, exchanged, false, far, first_entries}
-use Rattle.link_laws.proofs.Words.{happens, happens_at_controller, here_entries, is_act, is_open, is_some, is_waiting, list_any, loses_aged, losses_after}
-use Rattle.link_laws.proofs.Words.{losses_of, map, nat_lt, no_losses, noted_aged, noted_event, noted_here, noted_if_waiting, noted_tick, noted_turns, number_of}
+use Rattle.link_laws.proofs.Words.{happens, happens_at_controller, here_entries, is_open, is_some, list_any, loses_aged, losses_after}
+use Rattle.link_laws.proofs.Words.{losses_of, map, no_losses, noted_aged, noted_event, noted_here, noted_if_waiting, noted_tick, noted_turns, number_of}
 use Rattle.link_laws.proofs.Words.{refl, rest_entries, sans, shdlc_exchanged as core_exchanged, shdlc_happens as core_happens, subst, sure_after, sure_aged}
 use Rattle.link_laws.proofs.Words.{sure_event, sure_here, sure_if_waiting, sure_tick, sure_turns, sym, talk_now, talk_of, tick_entries, ticks_at_controller}
 use Rattle.link_laws.proofs.Words.{told_of, trace, true, true≢false, turned, with_ended, withholds, ℕ, ◌++◌, ◌∙◌, ◌∷◌, ◌≡◌}
@@ -17,12 +17,11 @@ use Rattle.link_laws.specs.entries.Quiet.{IsDeliveredOnLink}
 use Rattle.link_laws.specs.entries.Settled.{FindsReady, IsReset, rest_of}
 use Rattle.link_laws.proofs.entries.Books.{up_talk}
 use Rattle.link_laws.proofs.entries.Quieting.{Both, aged_knows, here_knows, noted-append, own_step_knows, same_number, tick_flags, tick_knows}
-use Rattle.link_laws.proofs.entries.Disturbing.{bad}
 use Rattle.link_laws.proofs.entries.Noting.{reset_role}
 use Rattle.link_laws.proofs.entries.Running.{IsInTick, IsUnderWay, Noted, Sounds, after_tick, all_in_tick, before_here, before_there, goes_on, host_here}
 use Rattle.link_laws.proofs.entries.Running.{host_in_tick, near_in_tick, own_in_tick, own_step, read_here, read_there, sound_here, start_under_way}
 use Rattle.link_laws.proofs.entries.Running.{without_tick}
-use Rattle.link_laws.proofs.entries.Settling.{Spared, Spares, Stands, here_spares, none_withholds, own_spares, reset_sure, rest_cut, rest_sure, spared_parts}
+use Rattle.link_laws.proofs.entries.Settling.{Spared, Spares, Stands, here_spares, none_withholds, own_spares, rest_cut, rest_sure, spared_parts}
 use Rattle.link_laws.proofs.entries.Settling.{stands_parts, tick_sure}
 use Rattle.link_laws.proofs.entries.Stepping.{host_finished}
 use Rattle.link_laws.proofs.machine.Runs.{Sound}
@@ -124,12 +123,8 @@ event_knows t n l (Ticks c es h) a g r s b =
     there_losses (noted_event n (core_of l) core) (core_happens (core_of l) core) (core_tick_rest l.host.side h.turns h.ending)
     ∙ (ap (λ z. flags z d l.host) x_is ∙ (ap (λ z. flags n3 z l.host) d_is ∙ ap (flags n3 (core_of m)) (sym host_is))) in
     as_is (t ++ event_entries l (Ticks c es h)) (u ++ fs) (losses_after n (core_of l) (core_event l (Ticks c es h))) n4 (exchanged k)
-    (sym (five t Tick ps bs cs ds fs)) flag (swap (u ++ fs) n4 k b4)
+    (sym (simp append_assoc)) flag (swap (u ++ fs) n4 k b4)
   where
-    five : (t : List Entry) (e : Entry) (ps bs cs ds fs : List Entry)
-        → (((t ++ (e ∷ (ps ++ bs))) ++ cs) ++ ds) ++ fs ≡ t ++ (e ∷ (ps ++ (bs ++ (cs ++ (ds ++ fs)))))
-    five t e ps bs cs ds fs = simp append_assoc
-
     flags : Losses → CoreLink → NumberedEnd → Losses
     flags n d z =
         let t : Option (List CoreTurn) = core_tick z.side h.turns h.ending in
@@ -165,11 +160,8 @@ event_knows t n l (TicksWithout es h) a g r s b =
     there_losses (noted_event n (core_of l) core) (core_happens (core_of l) core) (core_tick_rest l.host.side h.turns h.ending)
     ∙ (ap (λ z. flags z (core_all_here first turns) l.host) x_is ∙ (ap (λ z. flags n3 z l.host) d_is ∙ ap (flags n3 (core_of m)) (sym host_is))) in
     as_is (t ++ event_entries l (TicksWithout es h)) (u ++ fs) (losses_after n (core_of l) (core_event l (TicksWithout es h))) n4 (exchanged k)
-    (sym (four t Tick ps bs ds fs)) flag (swap (u ++ fs) n4 k b4)
+    (sym (simp append_assoc)) flag (swap (u ++ fs) n4 k b4)
   where
-    four : (t : List Entry) (e : Entry) (ps bs ds fs : List Entry) → ((t ++ (e ∷ (ps ++ bs))) ++ ds) ++ fs ≡ t ++ (e ∷ (ps ++ (bs ++ (ds ++ fs))))
-    four t e ps bs ds fs = simp append_assoc
-
     flags : Losses → CoreLink → NumberedEnd → Losses
     flags n d z =
         let t : Option (List CoreTurn) = core_tick z.side h.turns h.ending in
@@ -220,41 +212,15 @@ events_know (e ∷ es) t n l a w b =
     (after_link_events m es) (sym (append_assoc t u v))
     (losses-append n (core_of l) (core_event l e) (core_events m es) ∙ ap (λ c. losses_after k c (core_events m es)) (sym st.core)) more
 
-start_knows : (l : Link) → IsStart l → Both (first_entries l.controller.side.role) no_losses l
-start_knows l a = grind arith
-
 knows : (l : Link) → IsStart l → (events : List LinkEvent) → AllAllowed l events → Both (trace l events) (losses_of l events) (after_link_events l events)
 knows l s events a =
-    events_know events (first_entries l.controller.side.role) no_losses l a (start_under_way l s) (start_knows l s)
+    events_know events (first_entries l.controller.side.role) no_losses l a (start_under_way l s) (grind arith)
 
 -- ### A quiet session
 
 is_quiet : (l : Link) → IsStart l → (events : List LinkEvent) → AllAllowed l events → IsQuietSince (trace l events) (after_link_events l events)
     → IsQuiet (after_link_events l events) (losses_of l events)
-is_quiet l s events a q =
-    record {
-      controller = q.controller;
-      host = q.host;
-      lost = lost n.lost refl;
-      rnr = rnr n.lost n.rnr refl refl;
-      to_controller = ap sans q.to_controller;
-      to_host = ap sans q.to_host;
-    }
-  where
-    n : Losses
-    n = losses_of l events
-
-    not_bad : bad n ≡ true → ⊥
-    not_bad b = true≢false (sym ((knows l s events a).here.tells q.controller b) ∙ q.undisturbed)
-
-    lost : (x : Bool) → n.lost ≡ x → n.lost ≡ false
-    lost false p = p
-    lost true p = absurd (not_bad (rw p refl))
-
-    rnr : (x y : Bool) → n.lost ≡ x → n.rnr ≡ y → n.rnr ≡ false
-    rnr x false p r = r
-    rnr true true p r = absurd (not_bad (rw p refl))
-    rnr false true p r = absurd (not_bad (rw (p, r) refl))
+is_quiet l s events a q = let h0 = knows l s events a in grind arith
 
 -- the session that goes on at an end that is up
 up_now : (h : NumberedEnd) (n : ℕ) → h.side.shdlc.phase ≡ IsUpNow → n ≡ number_of h → talk_of h n ≡ talk_now h.side
@@ -335,11 +301,7 @@ all_spares (e ∷ es) s l a i k st =
 -- frames that are too old are lost
 none_aged : (who : End) (w : List OnWire) → Spared (aged_entries who w) → loses_aged (sans w) ≡ false
 none_aged who [] q = refl
-none_aged who (x ∷ xs) q = go (nat_lt x.age 4) (is_act x.frame) refl refl (none_aged who xs)
-  where
-    go : (a b : Bool) → nat_lt x.age 4 ≡ a → is_act x.frame ≡ b → (Spared (aged_entries who xs) → loses_aged (sans xs) ≡ false)
-        → loses_aged (sans (x ∷ xs)) ≡ false
-    go a b r s later = grind arith
+none_aged who (x ∷ xs) q = let h0 = none_aged who xs in grind arith
 
 aged_sure : (s : Bool) (l : Link) → s ≡ true → Spared (aged_entries Controller l.to_controller) → Spared (aged_entries Host l.to_host)
     → sure_aged s (core_of l) ≡ true
@@ -562,7 +524,7 @@ asked_here : (s : Bool) (l : Link) (window : Option ℕ) (ts : List Turn) → Is
     → (sure_turns s (core_of l) (core_here l (Step (AsksReset window) ts GoesOut)) ≡ true)
     × (is_open (happens_at_controller l (Step (AsksReset window) ts GoesOut)).controller.side.role ≡ true)
 asked_here s l window ts a f = (
-  reset_sure s l window ts f.granted f.free,
+  (grind arith),
   ap is_open (turned_role (after_input l.controller.side (Reset window)) ts ∙ reset_role l.controller.side window)
       ∙ (reset_tells l.controller.side f.granted).0,
 )
@@ -598,7 +560,7 @@ asked_in_tick s l window ts es h a w f none =
     let k4 = tick_spares n3 Host (exchanged last) h a.2 (tells_same last.host l.host host_is w.good.host) (open_as last.host l.host host_is f.active) q.1 in
     let y : Bool = sure_turns (sure_if_waiting n1 (core_aged (core_of l))) first turns in
     let y_is : y ≡ n3 =
-    waits_not n1 turns a.0
+    (rw a.0 refl)
     ∙ (turns-append n1 (core_of near) (core_here near x) (core_all m es) ∙ ap (λ z. sure_turns n2 z (core_all m es)) (sym one.core)) in
     let d_is : core_all_here first turns ≡ core_of last = ap (λ z. core_all_here z turns) kept ∙ sym all.step.core in
     let core : CoreLinkEvent = CoreTickWithout turns (core_tick l.host.side h.turns h.ending) in
@@ -616,10 +578,6 @@ asked_in_tick s l window ts es h a w f none =
     flags n d z =
         let t : Option (List CoreTurn) = core_tick z.side h.turns h.ending in
         sure_turns (sure_tick n t (core_exchanged d)) (core_ticks_or_cut t (core_exchanged d)) (core_tick_rest z.side h.turns h.ending)
-
-    waits_not : (n : Bool) (turns : List CoreEndEvent) → is_waiting l.controller.side.shdlc ≡ false
-        → sure_turns (sure_if_waiting n (core_aged (core_of l))) (core_ticks_if_waiting (core_aged (core_of l))) turns ≡ sure_turns n (core_of (aged l)) turns
-    waits_not n turns q = rw q refl
 
 asked_goes : {t : List Entry} (s : Bool) (l : Link) (e : LinkEvent) → IsEvent l e → IsUnderWay t l → IsReset l e → NoneWithholds (rest_of l e)
     → (sure_after s (core_of l) (core_event l e) ≡ true) × AreActive (happens l e)

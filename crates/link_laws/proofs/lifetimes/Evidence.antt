@@ -3,7 +3,7 @@ use Rattle.std.proofs.Common.{◌==◌}
 use Rattle.link_laws.proofs.Words.{Act, Clt, Control, Due, Fragment, I, Kind, List, Rej, Rej_due, Rnr, Rnr_due, Rr, Rr_due, Rset, Rset_due, S, Srej, Ua, Ua_due}
 use Rattle.link_laws.proofs.Words.{[], arith, cond, eqb-true, inl, inr, refl, with_frame, ℕ, ◌++◌, ◌+◌, ◌<◌, ◌∷◌, ◌≡◌, ◌≤◌, ◌⊎◌}
 use Rattle.link_laws.specs.places.Wire.{OnWire, older}
-use Rattle.link_laws.proofs.places.Flows.{AnswersOnly, Shows, last_count}
+use Rattle.link_laws.proofs.places.Flows.{Shows, last_count}
 use Rattle.link_laws.proofs.sessions.Wire.{Young, young_later}
 use Rattle.link_laws.proofs.Cases.{by_test}
 
@@ -310,7 +310,3 @@ rewind_due_answers a r (Rnr_due ∷ ds) h = inl (omega arith)
 rewind_due_answers a r (Rr_due ∷ ds) h = inr (rewind_due_answers a r ds h)
 rewind_due_answers a r (Rset_due ∷ ds) h = rewind_due_answers a r ds h
 rewind_due_answers a r (Ua_due ∷ ds) h = rewind_due_answers a r ds h
-
--- any answer that is due acknowledges all places below the length accepted
-pub due_answers : (a r : ℕ) (d : Due) (ds : List Due) → AnswersOnly (d ∷ ds) → a < r → DueBy a 0 r (d ∷ ds)
-due_answers a r d ds h i = grind arith

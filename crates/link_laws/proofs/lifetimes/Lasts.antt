@@ -2,7 +2,7 @@
 use Rattle.std.proofs.Common.{max, not, ◌&&◌, ◌==◌}
 use Rattle.std.proofs.lemmas.Bool.{le-ltb, or_right}
 use Rattle.link_laws.proofs.Words.{Act, Bool, Clt, Control, Due, EndState, Fragment, I, Kind, List, None, Option, Rej, Rej_due, Rnr, Rnr_due, Rr, Rr_due, Rset}
-use Rattle.link_laws.proofs.Words.{S, Session, Some, Ua, Up, [], acknowledged, ahead, ap, arith, cases_lt, control_due, eq-eqb, expected, false, fetched}
+use Rattle.link_laws.proofs.Words.{S, Session, Some, Ua, Up, [], acknowledged, ahead, arith, cases_lt, control_due, eq-eqb, expected, false, fetched}
 use Rattle.link_laws.proofs.Words.{fragment_due, fragment_due-within, frame_due, inl, inr, length, length-append, lt-ltb, made_busy, nat_lt, ne_eqb, place_of}
 use Rattle.link_laws.proofs.Words.{put_out, ready_again, refl, rejected, runs_timer, sent_again, sent_next, slice_get, slice_get_within, subst, sym}
 use Rattle.link_laws.proofs.Words.{take_answer, taken, tick_answer, ticked, true, with_frame, with_ready, ℕ, ⊎_elim, ◌%◌, ◌++◌, ◌+◌, ◌<◌, ◌||◌, ◌∙◌, ◌∷◌, ◌≡◌}
@@ -13,7 +13,7 @@ use Rattle.link_laws.proofs.lifetimes.Evidence.{rewind_due_rnr}
 use Rattle.link_laws.proofs.lifetimes.Timely.{AnswersAll, MaySend, Timely, TookFragment, answers_pushed, answers_same, in_time, same_or_below, timely_acked}
 use Rattle.link_laws.proofs.lifetimes.Timely.{timely_answer, timely_answer_I, timely_kept, timely_older, timely_put, timely_received, timely_rewound}
 use Rattle.link_laws.proofs.lifetimes.Timely.{timely_send, timely_send_S}
-use Rattle.link_laws.proofs.places.Joined.{Joined, Sends, ahead_other, ahead_same, changed, fetch_cases, gap_behind, joined_exchanged, joined_fetched}
+use Rattle.link_laws.proofs.places.Joined.{Joined, Sends, ahead_other, changed, fetch_cases, joined_exchanged, joined_fetched}
 use Rattle.link_laws.proofs.places.Joined.{joined_older, joined_put, joined_ready, joined_taken, joined_ticked, not_expected, past_end, place_found}
 use Rattle.link_laws.proofs.places.Joined.{ready_cases, received_cases, taken_I, taken_S, with_next}
 use Rattle.link_laws.proofs.places.Flows.{AnswersOnly, Counts, Places, Shows, counts_le, flows_number, push_not_empty, reduced, shows_older, shows_push}
@@ -48,9 +48,7 @@ same_marks c m [] [] (_ ∷ _) s t g h = absurd t
 same_marks c m [] (_ ∷ _) ns s t g h = absurd s
 same_marks c m (x ∷ xs) [] ns s t g h = absurd s
 same_marks c m (x ∷ xs) (_ ∷ _) [] s t g h = absurd t
-same_marks c m (x ∷ xs) (a ∷ ms) (b ∷ ns) s t g h =
-    let first : a ≡ b = same_mark c m a b (sym s.0 ∙ t.0) g.0 h.0 in
-    rw first (ap (λ (r : List Control). b ∷ r) (same_marks c m xs ms ns s.1 t.1 g.1 h.1))
+same_marks c m (x ∷ xs) (a ∷ ms) (b ∷ ns) s t g h = let h0 = same_marks c m xs ms ns s.1 t.1 g.1 h.1 in grind arith
 
 module _ (out : List Fragment) (c hi m top r : ℕ) (number : hi ≤ c) (place : top ≤ m) (low : m ≤ r + 4) where
   marks_within : (lo : ℕ) (ms : List Control) → c ≤ lo + 7 → Counts lo hi ms → Places out r top ms → AllWithin c m ms
@@ -217,8 +215,7 @@ lasts_ticked kf near far to_near to_far noprobe none h =
     (λ r late.
     let none_sent : s.next ≤ s.acked = no_more late in
     let w = waits s r none_sent in
-    at (sent_again near) refl refl
-    (grind arith))
+    (((grind arith), timely_kept far near to_far to_near far_marks near_marks kf (sent_again near) refl refl h.far_timely)))
     (omega (arith, h.near_timely.most)) in (
       lasts_changed 0 kf (ticked near) far to_near to_far 1 kf near h (joined_ticked ⊥ near far to_near to_far both.1 h.joined) both.0,
       both.1,
@@ -232,10 +229,6 @@ lasts_ticked kf near far to_near to_far noprobe none h =
 
     far_marks : List Control
     far_marks = h.joined.far_marks
-
-    at : (e : EndState) → e.session.acc ≡ near.session.acc → e.due ≡ near.due → Timely 0 e far to_near to_far near_marks far_marks
-        → BothTimely 0 kf e far to_near to_far near_marks far_marks
-    at e acc due timely = (timely, timely_kept far near to_far to_near far_marks near_marks kf e acc due h.far_timely)
 
     runs : runs_timer s ≡ true → s.acked ≡ s.next → MaySend s → ⊥
     runs r e a = grind arith
@@ -321,7 +314,7 @@ lasts_taken near far x to_near to_far noprobe h = (
         let low : t.acked ≤ length s.acc = counts_le t.acked (length s.acc) back far_sends.counts in
         let high : p ≤ length s.acc + 3 = omega (arith, far_sends.places.1, far_sends.reach_window, far_sends.window, low) in
         let behind : (ahead e.session (p % 8) ≡ 0 → ⊥) → p ≤ length s.acc → p < length s.acc = λ z b. not_expected e.session p z b in
-        let other : (ahead e.session (p % 8) ≡ 0 → ⊥) → (p == length s.acc) ≡ false = λ z. ne_eqb p (length s.acc) (λ q. z (ahead_same e.session p q)) in
+        let other : (ahead e.session (p % 8) ≡ 0 → ⊥) → (p == length s.acc) ≡ false = λ z. ne_eqb p (length s.acc) (λ q. z (omega arith)) in
         let at : (acc : List Fragment) (due : List Due) (gap noted : Bool) → TookFragment (length s.acc) (length acc) near.due due p ms
         → Both ms (answering e acc due gap noted) =
         λ acc due gap noted took. (
@@ -351,7 +344,7 @@ lasts_taken near far x to_near to_far noprobe h = (
         (λ z g. at s.acc (near.due ++ Rej_due ∷ []) true s.answered_rnr
         (record {
           all = answers_pushed (length s.acc) near.due Rej_due;
-          new = λ u i j. absurd (gap_behind e.session p z g i far_sends.places.0);
+          new = λ u i j. absurd (grind arith);
           course = λ m c. inl (rw (other z) at c);
         }))
         (λ z g. at s.acc (near.due ++ Rr_due ∷ []) s.gap_open s.answered_rnr

@@ -13,7 +13,7 @@ use Rattle.link_laws.proofs.places.Flows.{Counts, Shows}
 use Rattle.link_laws.proofs.places.Joined.{few_taken, idle_after, joined_weaker, left, no_due}
 use Rattle.link_laws.proofs.sessions.Wire.{IsData, Young, young_later, young_older}
 use Rattle.link_laws.proofs.sessions.Steps.{not_rset, took_other}
-use Rattle.link_laws.proofs.sessions.Ties.{Meets, IsNew, new_meets, data_due, sends_noted, offer_up, few_turns}
+use Rattle.link_laws.proofs.sessions.Ties.{Meets, IsNew, new_meets, data_due, sends_noted, few_turns}
 use Rattle.link_laws.proofs.sessions.Quiet.{began_data, few_room}
 use Rattle.link_laws.specs.lifetimes.Lifetime.{IsAnew, BeginsAnew, OnlyTurns, IsPlainHere, IsPlainEvent, AllPlain, LosesNone, GoesOn}
 use Rattle.link_laws.proofs.lifetimes.Timely.{Timely}
@@ -106,9 +106,7 @@ sends_each kf c h n e m f is k v =
 
 lasts_turn : (kn kf : ℕ) (e f : EndState) (to_near to_far : List OnWire) (t : ShdlcTurn) → Lasts kn kf e f to_near to_far
     → Lasts kn kf (shdlc_turn e t) f to_near to_far
-lasts_turn kn kf e f to_near to_far (Offer fragments) k =
-    let P : EndState → Type 0 = λ g. Lasts kn kf g f to_near to_far in
-    subst P (sym (offer_up e fragments k.joined.near_up)) (lasts_put kn kf e f to_near to_far fragments k)
+lasts_turn kn kf e f to_near to_far (Offer fragments) k = let h0 = lasts_put kn kf e f to_near to_far fragments k in grind arith
 lasts_turn kn kf e f to_near to_far (SetReady r) k = lasts_ready kn kf e f to_near to_far r k
 
 lasts_turns : (kn kf : ℕ) (ts : List ShdlcTurn) (e f : EndState) (to_near to_far : List OnWire) → Lasts kn kf e f to_near to_far

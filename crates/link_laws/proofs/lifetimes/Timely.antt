@@ -10,7 +10,7 @@ use Rattle.link_laws.proofs.sessions.Wire.{Young}
 use Rattle.link_laws.proofs.lifetimes.Evidence.{Answers, SentBy, AnswerBy, DueBy, RewindDue, RewindBy, NoSrej, OnlyAcks, course_of, sent_push, sent_new}
 use Rattle.link_laws.proofs.lifetimes.Evidence.{answer_push, answer_new, sent_older, answer_older, sent_in_time, answer_in_time, rewind_push, rewind_new}
 use Rattle.link_laws.proofs.lifetimes.Evidence.{no_srej_push, no_srej_rest, only_acks, course_from, course_push, course_push_S, course_shows, last_answers}
-use Rattle.link_laws.proofs.lifetimes.Evidence.{rewind_answers, rewind_due_answers, due_answers, due_push, rewind_due_push}
+use Rattle.link_laws.proofs.lifetimes.Evidence.{rewind_answers, rewind_due_answers, due_push, rewind_due_push}
 
 -- one of three ways, each of which is kept
 each : {A B C D E F : Type 0} → A ⊎ (B ⊎ C) → (A → D) → (B → E) → (C → F) → D ⊎ (E ⊎ F)
@@ -109,7 +109,7 @@ module _ (near far : EndState) (to_near to_far : List OnWire) (near_marks far_ma
       at : (ds : List Due) → far.due ≡ ds → n < length far.session.acc → Evidence n 0 far to_near to_far near_marks far_marks
       at [] q k = ⊎_elim (λ e. absurd (omega arith)) (λ e. inr (inl e))
           (last_answers n n (length far.session.acc) to_near near_marks sn known k (told q))
-      at (d ∷ ds) q k = inr (inr (rw q (due_answers n (length far.session.acc) d ds (rw q at answers) k)))
+      at (d ∷ ds) q k = inr (inr (rw q (let h0 = (length far.session.acc) in grind arith)))
 
   -- RR, or the number of an I frame
   pub timely_acked : (near' : EndState) (x : OnWire) (m : Control) (n : ℕ) → OnlyAcks m n → AnswersOnly far.due
@@ -123,7 +123,7 @@ module _ (near far : EndState) (to_near to_far : List OnWire) (near_marks far_ma
             (each course (λ k. omega (arith, course_from (length far.session.acc) far_marks, took.fits.1)) (λ k. k) (λ k. k));
         evidence = λ k.
             rw took.acked (evidence (let a : near'.session.acked < near'.session.next = k in omega (arith, took.acked, took.next)) order);
-        starts = λ e b. took.starts e (free b);
+        starts = λ e b. took.starts e (grind arith);
         probes = λ e. absurd (true≢false (sym e ∙ took.no_probe.1));
         most = most order;
         tried = λ e. tried e order;
@@ -139,22 +139,15 @@ module _ (near far : EndState) (to_near to_far : List OnWire) (near_marks far_ma
       known : NoSrej near_marks
       known = no_srej_rest m near_marks h.known
 
-      free : MaySend near'.session → near'.session.peer_busy ≡ false
-      free a = grind arith
-
       course : Course near.session.next far near_marks far_marks
       course = each h.course (λ k. k) (λ k. k) rest.1
 
       tell : far.due ≡ [] → last_count n near_marks ≡ length far.session.acc
       tell e = sym rest.2 ∙ h.told e
 
-      old : near.session.acked ≡ n → Evidence near.session.acked (near.timer + 0) far (x ∷ to_near) to_far (m ∷ near_marks) far_marks
-          → Evidence near.session.acked (near.timer + 0) far to_near to_far near_marks far_marks
-      old e a = grind arith
-
       evidence : n < max near.session.next n → (near.session.acked ≡ n) ⊎ (near.session.acked < n)
           → Evidence n (near'.timer + 0) far to_near to_far near_marks far_marks
-      evidence k (inl e) = rw (took.same_timer e k, ← e) (old e (h.evidence (omega arith)))
+      evidence k (inl e) = rw (took.same_timer e k, ← e) (grind arith)
       evidence k (inr g) =
           let zero_timer : near'.timer + 0 ≡ 0 = omega (arith, (took.grew g).0) in
           rw zero_timer (untimed n answers sf sn known took.fits.1 (omega arith) tell course)

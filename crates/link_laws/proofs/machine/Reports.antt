@@ -1,9 +1,8 @@
 -- What an input does is what its report tells; messages are kept until they are fetched, and frames of activation in their places.
-use Rattle.std.proofs.lemmas.Bool.{and_right}
 use Rattle.std.specs.Prelude.{None, Option, Some}
 use Rattle.link_laws.proofs.Words.{Act, Act as ActFrame, ActDue, ActEvent, ActStart, ActStop, ActTake, ActTick, Activation, Asked, Bool, ByAct, Chain, Clt}
-use Rattle.link_laws.proofs.Words.{Control, Down, Due, EndState, Fetch, Fragment, FromNode, Give, HasTick as Tick, Hold, I, Kind, LinkEnd, LinkInput, LinkState}
-use Rattle.link_laws.proofs.Words.{List, Message, Rej_due, Reset, Rnr_due, Role, Rr_due, Rset_due, S, Session, SetAside, Start, Stop, Take, TakeBroken}
+use Rattle.link_laws.proofs.Words.{Control, Down, Due, EndState, Fetch, Fragment, FromNode, Give, HasTick as Tick, Hold, I, LinkEnd, LinkInput, LinkState}
+use Rattle.link_laws.proofs.Words.{List, Message, Rej_due, Reset, Rnr_due, Role, Rr_due, Rset_due, Session, SetAside, Start, Stop, Take, TakeBroken}
 use Rattle.link_laws.proofs.Words.{TakeUnknown, Turn, Ua, Ua_due, Up, Waiting, [], acknowledged, act_answer, activated, after_frames, after_input, after_inputs}
 use Rattle.link_laws.proofs.Words.{ahead, among, ap, append-nil, arith, aside_refusal, began_by, common_steps, cond, control_due, drop, end_after, ended_by}
 use Rattle.link_laws.proofs.Words.{ended_by_act, eqb-true, false, fetched, filter-append, frame_due, frame_fetched, frames_of, frames_out, give_refusal}
@@ -38,8 +37,7 @@ drop_all ms = grind (arith, common_steps)
 
 -- where nothing more was accepted, nothing came
 no_news : (before : Session) (s : EndState) → s.session.acc ≡ before.acc → news before s ≡ []
-no_news before s q =
-    ap (λ (xs : List (List ℕ)). drop (length (messages_got before)) (messages_got (record s.session { acc = xs }))) q ∙ drop_all (messages_got before)
+no_news before s q = let h0 = messages_got before in let h1 = drop_all (messages_got before) in grind arith
 
 pub empty_news : (before : Session) (s : EndState) → s.session.acc ≡ [] → news before s ≡ []
 empty_news before s q = grind arith
@@ -92,11 +90,8 @@ restarted_so e event h =
     becomes_act e (at (act_answer e.role event).ended_link) (act_answer e.role event).send (is_some (if_up e.shdlc ByAct))
     (by (act_answer e.role event).ended_link)
   where
-    g : LinkEnd
-    g = moved e true (stopped e.shdlc)
-
     at : Bool → LinkEnd
-    at b = record (put_down b g) { role = role_after e.role event }
+    at b = record (put_down b (moved e true (stopped e.shdlc))) { role = role_after e.role event }
 
     still : IsNotUp (stopped e.shdlc)
     still = not_up (stopped e.shdlc) Down refl (λ u. cc)
@@ -125,14 +120,6 @@ shdlc_is e b s = grind arith
 pub moved_sent : (e : LinkEnd) (b : Bool) (s : EndState) → SentAfter b e (moved e b s)
 moved_sent e b s = grind arith
 
--- what came beside doesn't count
-sent_beside : (b : Bool) (e f : LinkEnd) (ms : List Message) → SentAfter b e f → SentAfter b e (record f { got = ms })
-sent_beside b e f ms s = grind arith
-
--- an end without a session can't take a packet that can't be joined
-not_faulty : (e f : EndState) (ended began : Bool) → IsNotUp e → (IsNotUp e → e.session ≡ no_session) → Shift e f ended began → is_faulty f.session ≡ false
-not_faulty e f ended began down none a = grind arith
-
 heard_so : (e : LinkEnd) (c : Control) → Sound e
     → Becomes e (heard e c) (is_some (cond (is_faulty (taken e.shdlc c).session) (Some Chain) (take_answer e.shdlc c).ended))
     (cond (is_faulty (taken e.shdlc c).session) false (take_answer e.shdlc c).began)
@@ -156,7 +143,7 @@ heard_so e c h = by (is_faulty (taken e.shdlc c).session) refl
         let P : EndState → Type 0 = λ z. Shift e.shdlc z b (take_answer e.shdlc c).began in
         record {
           shift = subst P (sym (shdlc_is e b s)) (taken_shift e.shdlc c);
-          sent = sent_beside b e f (e.got ++ news e.shdlc.session s) (moved_sent e b s);
+          sent = let h0 = (e.got ++ news e.shdlc.session s) in let h1 = (moved_sent e b s) in grind arith;
           got = ap (news e.shdlc.session) (sym (shdlc_is e b s));
         }
 
@@ -170,7 +157,7 @@ heard_so e c h = by (is_faulty (taken e.shdlc c).session) refl
         (λ p. fine Waiting p (λ u. cc)) (λ p. fine Down p (λ u. cc))
       where
         fine : (p : LinkState) → e.shdlc.phase ≡ p → (p ≡ Up → ⊥) → Becomes e (put_down true e) true false []
-        fine p r n = absurd (true≢false (sym q ∙ not_faulty e.shdlc s b (take_answer e.shdlc c).began (not_up e.shdlc p r n) h.is.none (taken_shift e.shdlc c)))
+        fine p r n = absurd (true≢false (sym q ∙ (grind arith)))
 
     by : (x : Bool) → is_faulty s.session ≡ x
         → Becomes e (heard e c) (is_some (cond (is_faulty s.session) (Some Chain) (take_answer e.shdlc c).ended))
@@ -181,20 +168,10 @@ heard_so e c h = by (is_faulty (taken e.shdlc c).session) refl
 began_so : (e : EndState) (c : Control) → (take_answer e c).began ≡ cond (is_faulty (taken e c).session) false (take_answer e c).began
 began_so e c = grind arith
 
-pub no_began : (e : EndState) (act : Activation) (again : Bool) → (take_answer e (Act act again)).began ≡ false
-no_began e act again = by_phase e.phase (λ p. rw p refl) (λ p. rw p refl) (λ p. rw p refl)
-
-clt_began : (e : EndState) → (take_answer e Clt).began ≡ false
-clt_began e = by_phase e.phase (λ p. rw p refl) (λ p. rw p refl) (λ p. rw p refl)
-
 -- what a frame does is told
 pub take_so : (e : LinkEnd) (c : Control) → Sound e → Reports e (Take c)
-take_so e (Act act again) h =
-    becomes_as refl (and_right (is_open e.role) (take_answer e.shdlc (Act act again)).began (no_began e.shdlc act again)) refl
-    (activated_so e (ActTake act again) h)
-take_so e Clt h =
-    becomes_as refl (and_right (is_open e.role) (take_answer e.shdlc Clt).began (clt_began e.shdlc)) refl
-    (stays_so e (took e Clt) refl refl)
+take_so e (Act act again) h = let h0 = activated_so e (ActTake act again) h in grind arith
+take_so e Clt h = let h0 = stays_so e (took e Clt) refl refl in grind arith
 take_so e Ua h =
     by_test {P = Reports e (Take Ua)} (is_open e.role) (λ o. let k = heard_so e Ua h in rw o (becomes_as refl (began_so e.shdlc Ua) refl k))
     (λ o. rw o (stays_so e e refl refl))
@@ -335,7 +312,7 @@ received_due e ns info = go e.ready (ahead e.session ns == 0) (nat_lt (ahead e.s
 taken_due : (e : EndState) (c : Control) → is_some (take_answer e c).ended ≡ false → length e.due ≤ length (taken e c).due
 taken_due e c n =
     by_taken (λ _ f answer. is_some answer.ended ≡ false → length e.due ≤ length f.due) e (λ ns nr info p _. up_I ns nr info p)
-    (λ kind nr p _. up_S kind nr p) (λ _ _. omega arith) (λ _ _ _ z. absurd (true≢false z)) (λ _ _ _ _. grown e.due Ua_due)
+    (λ kind nr p _. grind arith) (λ _ _. omega arith) (λ _ _ _ z. absurd (true≢false z)) (λ _ _ _ _. grown e.due Ua_due)
     (λ _ _ _ _. grown e.due Ua_due) (λ _ _. omega arith) c n
   where
     same : (c : Control) → taken e c ≡ e → length e.due ≤ length (taken e c).due
@@ -345,9 +322,6 @@ taken_due e c n =
     up_I ns nr info p =
         by_option (place_of e.session nr) (λ q. same (I ns nr info) (rw (p, q) refl))
         (λ x q. let i = received_due (acknowledged e x) ns info in rw (p, q) (rw p at i))
-
-    up_S : (k : Kind) (nr : ℕ) → e.phase ≡ Up → length e.due ≤ length (taken e (S k nr)).due
-    up_S k nr p = grind arith
 
 ticked_due : (e : EndState) → is_some (tick_answer e).ended ≡ false → length e.due ≤ length (ticked e).due
 ticked_due e n =
@@ -384,16 +358,13 @@ placed_activated : (e : LinkEnd) (event : ActEvent) → IsPlaced e → IsPlaced 
 placed_activated e event p = grind (arith, placed_act, placed_down)
 
 placed_heard : (e : LinkEnd) (c : Control) → IsPlaced e → IsPlaced (heard e c)
-placed_heard e c p = by_test (is_faulty (taken e.shdlc c).session) (λ q. rw q down) (λ q. rw q fine)
+placed_heard e c p = by_test (is_faulty (taken e.shdlc c).session) (λ q. rw q (placed_down true e p)) (λ q. rw q fine)
   where
     b : Bool
     b = is_some (take_answer e.shdlc c).ended
 
     fine : IsPlaced (moved e b (taken e.shdlc c))
     fine = placed_moved e b (taken e.shdlc c) (λ q. taken_due e.shdlc c q) p
-
-    down : IsPlaced (put_down true e)
-    down = placed_down true e p
 
 placed_took : (e : LinkEnd) (c : Control) → IsPlaced e → IsPlaced (took e c)
 placed_took e (Act act again) p = placed_activated e (ActTake act again) p
@@ -519,23 +490,17 @@ one_by_one (suc k) m e q i p = go (one_by_one k) e.acts refl
         let fetches_f : frame_fetched e ≡ f = rw (w, z) refl in
         let c : Control = control_due s d in
         let due_is : frame_due s ≡ Some c = rw due refl in
-        let next : next_frame e ≡ Some c = shown ∙ due_is in
+        let next : next_frame e ≡ Some c = (rw (w, z) refl) ∙ due_is in
         let len = length-map (a ∷ acts) nearer in
         let placed : IsPlaced f = let P : LinkEnd → Type 0 = λ y. IsPlaced y in subst P fetches_f (placed_fetch e p) in
         let ih = later m' f (omega (arith, q, l, len, is)) (fetched_due s m' (omega (arith, i, is))) placed in
         let fs : List Control = frames_of m' (fetched s) in
-        let frames_are : frames_of m s ≡ c ∷ fs = ap (λ y. frames_of y s) is ∙ more in
+        let frames_are : frames_of m s ≡ c ∷ fs = ap (λ y. frames_of y s) is ∙ (rw due refl) in
         let here : Placed 0 (a ∷ acts) (length s.due) = let P : List ActDue → Type 0 = λ y. Placed 0 y (length s.due) in subst P w p in
         let all : among 0 e.acts (frames_of m s) ≡ c ∷ among 0 ms fs =
         ap (λ y. among 0 y (frames_of m s)) w ∙ (ap (among 0 (a ∷ acts)) frames_are ∙ behind a.behind refl here.1 fs c) in
         grind arith
       where
-        shown : next_frame e ≡ frame_due s
-        shown = rw (w, z) refl
-
-        more : frames_of (suc m') s ≡ control_due s d ∷ frames_of m' (fetched s)
-        more = rw due refl
-
         behind : (b : ℕ) → a.behind ≡ b → Placed a.behind acts (length s.due) → (fs : List Control) (c : Control)
             → among 0 (a ∷ acts) (c ∷ fs) ≡ c ∷ among 0 (map nearer (a ∷ acts)) fs
         behind zero r y fs c = absurd (omega (arith, some, r))

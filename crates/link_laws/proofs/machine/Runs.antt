@@ -4,8 +4,8 @@ use Rattle.link_laws.proofs.Words.{Down, Due, EndState, Fetch, FetchMessage, Fra
 use Rattle.link_laws.proofs.Words.{List, Message, None, Option, Release, Reset, Role, Session, SetAside, Some, Start, Stop, Take, TakeBroken, TakeUnknown, Turn}
 use Rattle.link_laws.proofs.Words.{Up, [], act_answer, activated, after_input, after_inputs, ap, append-nil, arith, common_steps, cond, drop, end_after}
 use Rattle.link_laws.proofs.Words.{ended_by, ended_by_act, false, fetched, flat_map-append, fragment_due, fragments_of, frame_fetched, give_refusal, given}
-use Rattle.link_laws.proofs.Words.{had_tick, heard, in_use, is_faulty, is_open, is_shdlc, is_some, length, length-append, map, messages_got, moved, nearer}
-use Rattle.link_laws.proofs.Words.{need, need_of_all, new_link_end, news, next_frame, no_session, not, packet_bytes, packet_count, packets_of, put_down, refl}
+use Rattle.link_laws.proofs.Words.{had_tick, heard, in_use, is_faulty, is_open, is_shdlc, is_some, length, length-append, map, moved, nearer}
+use Rattle.link_laws.proofs.Words.{need, need_of_all, new_link_end, news, next_frame, no_session, not, packet_bytes, packet_count, packets_of, refl}
 use Rattle.link_laws.proofs.Words.{role_after, sent_next, slice_get, slice_get_within, spare, stopped, subst, sym, take, take_answer, taken, tick_answer}
 use Rattle.link_laws.proofs.Words.{ticked, took, true, true≢false, turn, whole_acked, whole_among, with_act, with_ready, ℕ, ◌++◌, ◌+◌, ◌<◌, ◌==◌, ◌∙◌, ◌∷◌, ◌≡◌}
 use Rattle.link_laws.proofs.Words.{◌≤◌, ◌⊎◌}
@@ -52,13 +52,6 @@ sound_moved e b began s shift o h =
 
 -- ### Activation
 
--- a link that goes down is closed
-data_down : (e : LinkEnd) → Data e → Data (put_down true e)
-data_down e h = grind arith
-
-closed_down : (e : LinkEnd) → IsClosed (put_down true e).shdlc
-closed_down e = grind arith
-
 -- an end that was closed stays so, or its link goes down
 role_closes : (r : Role) (event : ActEvent) → is_open (role_after r event) ≡ false → (is_open r ≡ false) ⊎ ((act_answer r event).ended_link ≡ true)
 role_closes r event q = grind arith
@@ -76,7 +69,7 @@ sound_stopped e h = grind arith
 -- ### Frames and ticks
 
 sound_heard : (e : LinkEnd) (c : Control) → is_open e.role ≡ true → Sound e → Sound (heard e c)
-sound_heard e c o h = by_test (is_faulty (taken e.shdlc c).session) (λ q. rw q down) (λ q. rw q fine)
+sound_heard e c o h = by_test (is_faulty (taken e.shdlc c).session) (λ q. rw q (record { is = grind arith; closed = λ _. (grind arith) })) (λ q. rw q fine)
   where
     b : Bool
     b = is_some (take_answer e.shdlc c).ended
@@ -86,9 +79,6 @@ sound_heard e c o h = by_test (is_faulty (taken e.shdlc c).session) (λ q. rw q 
 
     good : LinkEnd
     good = record (moved e b s) { got = e.got ++ news e.shdlc.session s }
-
-    down : Sound (put_down true e)
-    down = record { is = data_down e h.is; closed = λ _. closed_down e }
 
     fine : Sound good
     fine =
@@ -163,14 +153,8 @@ fetched_data e acts h = go e.shdlc.due (fragment_due e.shdlc.session) refl refl
     s : Session
     s = e.shdlc.session
 
-    f : EndState → LinkEnd
-    f g = record e { shdlc = g; acts = acts }
-
     next : (info : Fragment) → slice_get s.out s.next ≡ Some info → s.next < length s.out
     next info q = slice_get_within s.out s.next info q
-
-    due_next : (info : Fragment) → fragment_due s ≡ Some info → slice_get s.out s.next ≡ Some info
-    due_next info q = grind (arith, common_steps)
 
     not_none : (info : Fragment) → fragment_due s ≡ Some info → s ≡ no_session → ⊥
     not_none info q z = let n : None ≡ Some info = sym (ap fragment_due z) ∙ q in cc
@@ -178,8 +162,8 @@ fetched_data e acts h = go e.shdlc.due (fragment_due e.shdlc.session) refl refl
     go : (ds : List Due) (o : Option Fragment) → e.shdlc.due ≡ ds → fragment_due s ≡ o → Sound (record e { shdlc = fetched e.shdlc; acts = acts })
     go [] None p q = grind arith
     go [] (Some info) p q =
-        let i = next info (due_next info q) in
-        let k : Sound (f (record e.shdlc { session = sent_next s })) = grind arith in
+        let i = next info (grind (arith, common_steps)) in
+        let k : Sound (record e { shdlc = (record e.shdlc { session = sent_next s }); acts = acts }) = grind arith in
         rw (p, q) (rw p at k)
     go (d ∷ ds) o p q = grind arith
 
@@ -214,7 +198,7 @@ pub new_sound : (role : Role) → Sound (new_link_end role)
 new_sound role = grind arith
 
 pub sound : (role : Role) (is : List LinkInput) → AreSendableInputs is → Sound (after_inputs (new_link_end role) is)
-sound role is a = sound_inputs is (new_link_end role) a (new_sound role)
+sound role is a = sound_inputs is (new_link_end role) a (grind arith)
 
 -- ## What the laws of the machine say, from what is true of an end after any inputs
 
@@ -240,19 +224,13 @@ blocks role is a = let r = (sound role is a).is.room in omega (arith, r)
 
 -- ### Frames
 
-closed_takes : (e : LinkEnd) (c : Control) → is_open e.role ≡ false → is_shdlc c ≡ true → took e c ≡ e
-closed_takes e c o q = grind arith
-
 pub inactive_takes : (role : Role) (is : List LinkInput) → AreSendableInputs is → is_open (end_after role is).role ≡ false
     → (c : Control) → is_shdlc c ≡ true → after_input (end_after role is) (Take c) ≡ end_after role is
-inactive_takes role is a o c q = closed_takes (end_after role is) c o q
-
-closed_sends : (e : LinkEnd) → Sound e → is_open e.role ≡ false → IsNone is_shdlc (next_frame e)
-closed_sends e h o = grind arith
+inactive_takes role is a o c q = let h0 = (end_after role is) in grind arith
 
 pub inactive_sends : (role : Role) (is : List LinkInput) → AreSendableInputs is → is_open (end_after role is).role ≡ false
     → IsNone is_shdlc (next_frame (end_after role is))
-inactive_sends role is a o = closed_sends (end_after role is) (sound role is a) o
+inactive_sends role is a o = let h0 = (end_after role is) in let h1 = (sound role is a) in grind arith
 
 idle_sends : (e : LinkEnd) → Sound e → IsNotUp e.shdlc → IsNone is_fragment (next_frame e)
 idle_sends e h down = grind arith
@@ -263,15 +241,9 @@ no_fragment role is a n = idle_sends (end_after role is) (sound role is a) n
 
 -- ### The end of a session
 
-forgets_down : (e : LinkEnd) → Sound e → Forgets e (put_down true e)
-forgets_down e h = grind arith
-
 -- activation ends a session
 forgets_activated : (e : LinkEnd) (event : ActEvent) (cause : Cause) → Sound e → ended_by_act e event ≡ Some cause → Forgets e (activated e event)
 forgets_activated e event cause h q = grind arith
-
-forgets_moved : (e : LinkEnd) (b began : Bool) (s : EndState) → b ≡ true → Shift e.shdlc s b began → Forgets e (moved e b s)
-forgets_moved e b began s q shift = grind arith
 
 some_is : {A : Type 0} (o : Option A) (x : A) → o ≡ Some x → is_some o ≡ true
 some_is o x q = rw q refl
@@ -279,7 +251,7 @@ some_is o x q = rw q refl
 -- a frame of SHDLC
 forgets_heard : (e : LinkEnd) (c : Control) (cause : Cause) → Sound e
     → cond (is_faulty (taken e.shdlc c).session) (Some Chain) (take_answer e.shdlc c).ended ≡ Some cause → Forgets e (heard e c)
-forgets_heard e c cause h q = by_test (is_faulty (taken e.shdlc c).session) (λ p. rw p (forgets_down e h)) (λ p. rw p (good (let z = q in rw p at z)))
+forgets_heard e c cause h q = by_test (is_faulty (taken e.shdlc c).session) (λ p. rw p (grind arith)) (λ p. rw p (good (let z = q in rw p at z)))
   where
     b : Bool
     b = is_some (take_answer e.shdlc c).ended
@@ -290,14 +262,11 @@ forgets_heard e c cause h q = by_test (is_faulty (taken e.shdlc c).session) (λ 
     f : LinkEnd
     f = moved e b s
 
-    nothing : s.session.acc ≡ [] → drop (length (messages_got e.shdlc.session)) (messages_got s.session) ≡ []
-    nothing k = grind arith
-
     good : (take_answer e.shdlc c).ended ≡ Some cause → Forgets e (record f { got = e.got ++ news e.shdlc.session s })
     good p =
-        let k : Forgets e f = forgets_moved e b (take_answer e.shdlc c).began s (some_is (take_answer e.shdlc c).ended cause p) (taken_shift e.shdlc c) in
+        let k : Forgets e f = grind arith in
         let none : s.session.acc ≡ [] = grind arith in
-        record { sent = k.sent; out = k.out; acc = k.acc; got = ap (λ ms. e.got ++ ms) (nothing none) ∙ append-nil e.got }
+        record { sent = k.sent; out = k.out; acc = k.acc; got = ap (λ ms. e.got ++ ms) (grind arith) ∙ append-nil e.got }
 
 forgets_took : (e : LinkEnd) (c : Control) (cause : Cause) → Sound e → ended_by e (Take c) ≡ Some cause → Forgets e (took e c)
 forgets_took e (Act act again) cause h q = forgets_activated e (ActTake act again) cause h q

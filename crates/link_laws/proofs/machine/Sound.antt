@@ -6,7 +6,7 @@ use Rattle.link_laws.proofs.Words.{Ua_due, Up, Waiting, [], acknowledged, ap, ap
 use Rattle.link_laws.proofs.Words.{in_use, is_some, is_waiting, length, length-append, length-map, map, min, nat_le, need, need_of_all, no_session}
 use Rattle.link_laws.proofs.Words.{option_to_list, packet_bytes, packet_count, packets_are_counted, packets_of, place_of, received, received-phase}
 use Rattle.link_laws.proofs.Words.{received-sending, refl, reset_with, sent_again, subst, suc, sym, take, take_answer, taken, tick_answer, ticked, true}
-use Rattle.link_laws.proofs.Words.{up_with, waiting_from, whole_among, zero, ℕ, ⊎_elim, ◌++◌, ◌-◌, ◌<◌, ◌∙◌, ◌∷◌, ◌≡◌, ◌≤◌, ◌⊎◌}
+use Rattle.link_laws.proofs.Words.{up_with, waiting_from, whole_among, zero, ℕ, ◌++◌, ◌-◌, ◌<◌, ◌∙◌, ◌∷◌, ◌≡◌, ◌≤◌, ◌⊎◌}
 use Rattle.shdlc_core.proofs.Histories.{received-accepted, received-acked}
 use Rattle.shdlc_core.specs.Machine.{accepted_reset, fragment_accepted, nothing_taken, nothing_ticked}
 use Rattle.shdlc_core.specs.declared.answers.Taken.{Taken}
@@ -145,31 +145,7 @@ taken_shift e c =
 
 -- a tick
 pub ticked_shift : (e : EndState) → Shift e (ticked e) (is_some (tick_answer e).ended) false
-ticked_shift e =
-    by_tick (λ f answer. Shift e f (is_some answer.ended) false) e (same_shift e e refl)
-    (λ w. ⊎_elim (λ p. on (record e { timer = e.timer + 1 }) p p refl refl refl refl)
-    (λ p. waits (record e { timer = e.timer + 1 }) p (waiting_not_up e p) refl) w)
-    (λ p. on (sent_again e) p p refl refl refl refl) (λ p. Ends refl refl p (waiting_not_up (waiting_from e) refl) refl)
-    (λ p. waits (asked_again e) p (waiting_not_up e p) refl) (λ p. waits (given_up e) p (down_not_up (given_up e) refl) refl)
-  where
-    on : (f : EndState) → e.phase ≡ Up → f.phase ≡ Up → f.session.out ≡ e.session.out → f.session.reached ≡ e.session.reached
-        → f.session.acked ≡ e.session.acked → f.session.acc ≡ e.session.acc → Shift e f false false
-    on f p q out reached acked acc =
-        Stays refl refl
-        (record {
-          was = p;
-          is = q;
-          out = out;
-          reached = reached;
-          low = omega (arith, acked);
-          high = omega (arith, acked);
-          within = λ i. omega (arith, i, acked, reached);
-          more = [];
-          acc = acc ∙ sym (append-nil e.session.acc);
-        })
-
-    waits : (f : EndState) → e.phase ≡ Waiting → IsNotUp f → f.session ≡ e.session → Shift e f false false
-    waits f p n s = Rests refl refl (waiting_not_up e p) n (λ z. s ∙ z)
+ticked_shift e = let h0 = same_shift e e refl in grind arith
 
 -- a reset that isn't refused
 pub reset_shift : (e : EndState) (w : ℕ) (cause : Cause) → is_waiting e ≡ false → Shift e (reset_with e w) (is_some (if_up e cause)) false
@@ -183,14 +159,8 @@ reset_shift e w cause n = grind arith
 pub whole_more : (ms : List Message) (a b : ℕ) → a ≤ b → whole_among ms a ≤ whole_among ms b
 whole_more [] a b i = omega arith
 whole_more (m ∷ ms) a b i =
-    go (nat_le (packet_count (length m.1)) a) (nat_le (packet_count (length m.1)) b) refl refl
-    (whole_more ms (a - packet_count (length m.1)) (b - packet_count (length m.1)) (omega (arith, i)))
-  where
-    n : ℕ
-    n = packet_count (length m.1)
-
-    go : (x y : Bool) → nat_le n a ≡ x → nat_le n b ≡ y → whole_among ms (a - n) ≤ whole_among ms (b - n) → whole_among (m ∷ ms) a ≤ whole_among (m ∷ ms) b
-    go x y p q later = grind arith
+    let h0 = nat_le (packet_count (length m.1)) a in let h1 = nat_le (packet_count (length m.1)) b in
+    let h2 = whole_more ms (a - packet_count (length m.1)) (b - packet_count (length m.1)) (omega (arith, i)) in grind arith
 
 -- no more than there are
 pub whole_few : (ms : List Message) (a : ℕ) → whole_among ms a ≤ length ms

@@ -1,13 +1,13 @@
 -- Frames of activation on the wires of a link: an active CLF never meets ACT_SYNC_ID.
 use Rattle.std.specs.Prelude.{◌+◌}
-use Rattle.link_laws.proofs.Words.{Act, ActOut, ActReady, ActStart, ActStop, ActTake, ActTick, Activation, Awaiting, Bare, Bool, CanStart, Clf, ClfAct, Control}
-use Rattle.link_laws.proofs.Words.{Down, EndState, I, IfLine, Inactive, Link, LinkEnd, List, None, OnWire, Option, Phase, PowerMode, Role, Rset, S, Some}
+use Rattle.link_laws.proofs.Words.{Act, ActOut, ActReady, ActTake, ActTick, Activation, Awaiting, Bare, Bool, Clf, ClfAct, Control}
+use Rattle.link_laws.proofs.Words.{Down, EndState, I, Inactive, Link, LinkEnd, List, None, OnWire, Option, Phase, PowerMode, Role, Rset, S, Some}
 use Rattle.link_laws.proofs.Words.{SyncId, Uicc, [], act_answer, act_frame, aged_wire, ap, arith, false, fetched, fits, frame_due, frames_of, inl, inr, is_act}
 use Rattle.link_laws.proofs.Words.{is_active, is_open, nat_le, nat_lt, put, put_all, refl, role_after, subst, suc, sym, true, true≢false, zero, ℕ, ◌++◌, ◌∙◌}
 use Rattle.link_laws.proofs.Words.{◌∷◌, ◌≡◌, ◌⊎◌}
 use Rattle.swp_act.specs.declared.Phase.TheVariants.{Active}
 use Rattle.swp_act.specs.declared.uicc.UiccAct.{UiccAct}
-use Rattle.swp_act.specs.Activation.{no_act_out, sends, clf_step, uicc_step, phase_ticked}
+use Rattle.swp_act.specs.Activation.{no_act_out, sends, clf_step, uicc_step}
 use Rattle.link_laws.proofs.Cases.{by_option, by_test}
 
 -- ## Frames on a wire
@@ -43,8 +43,7 @@ without_fits f w h = grind arith
 
 without_aged : (f : Control → Bool) (w : List OnWire) → Without f w → Without f (aged_wire w)
 without_aged f [] h = tt
-without_aged f (x ∷ xs) h =
-    by_test {P = Without f (aged_wire (x ∷ xs))} (nat_lt x.age 4) (λ q. rw q (h.0, (without_aged f xs h.1))) (λ q. rw q (without_aged f xs h.1))
+without_aged f (x ∷ xs) h = let h0 = aged_wire (x ∷ xs) in let h1 = without_aged f xs h.1 in grind arith
 
 first_push : (w : List OnWire) (x : OnWire) → Without is_ready w ⊎ (is_sync x.frame ≡ false) → SyncFirst w → SyncFirst (w ++ x ∷ [])
 first_push [] x e h = (inr tt, tt)
@@ -121,9 +120,6 @@ ActsInOrder _ _ w v = ⊥
 abbrev pub LinkInOrder : Link → Type 0
 LinkInOrder l = ActsInOrder l.controller.side.role l.host.side.role l.to_controller l.to_host
 
-pub in_order_swap : (r f : Role) (w v : List OnWire) → ActsInOrder r f w v → ActsInOrder f r v w
-in_order_swap r f w v h = grind arith
-
 -- the first frame on the wire to the near end is gone
 pub in_order_drop : (r f : Role) (x : OnWire) (w v : List OnWire) → ActsInOrder r f (x ∷ w) v → ActsInOrder r f w v
 in_order_drop r f x w v h = grind arith
@@ -157,12 +153,9 @@ abbrev pub NoActs : List Control → Type 0
 NoActs [] = Unit {0}
 NoActs (c ∷ cs) = (is_act c ≡ false) × NoActs cs
 
-due_no_act : (e : EndState) (c : Control) → frame_due e ≡ Some c → is_act c ≡ false
-due_no_act e c q = grind arith
-
 pub no_acts : (n : ℕ) (e : EndState) → NoActs (frames_of n e)
 no_acts zero e = tt
-no_acts (suc n) e = by_option {P = NoActs (frames_of (suc n) e)} (frame_due e) (λ q. rw q tt) (λ c q. rw q (due_no_act e c q, (no_acts n (fetched e))))
+no_acts (suc n) e = by_option {P = NoActs (frames_of (suc n) e)} (frame_due e) (λ q. rw q tt) (λ c q. rw q ((grind arith), (no_acts n (fetched e))))
 
 pub in_order_put_all : (r f : Role) (w : List OnWire) (cs : List Control) (k : Link) → NoActs cs → ActsInOrder r f w k.to_host
     → ActsInOrder r f w (put_all k cs).to_host
@@ -223,11 +216,8 @@ uicc_syncs c u w v id q h =
       last = h.last;
     }
   where
-    go : Without is_ready w ⊎ (is_awaiting u.phase ≡ false) → Without is_ready w
-    go a = grind arith
-
     none : Without is_ready w
-    none = go h.ready
+    none = grind arith
 
 -- a frame of activation is taken
 pub in_order_take : (r f : Role) (x : OnWire) (w v : List OnWire) (act : Activation) (again : Bool) → x.frame ≡ Act act again → ActsInOrder r f (x ∷ w) v
@@ -325,10 +315,7 @@ in_order_tick (Uicc u) Bare w v o h = absurd h
 in_order_tick (Uicc u) (Uicc t) w v o h = absurd h
 in_order_tick (Clf c) (Uicc u) w v o h =
     let d : ClfAct = (clf_step c ActTick).0 in
-    clf_sends d u w v (clf_step c ActTick).1.send (clf_inactive c d u w v (stays c.phase o) h)
-  where
-    stays : (p : Phase) → is_active p ≡ false → is_active (phase_ticked p) ≡ false
-    stays p a = grind arith
+    clf_sends d u w v (clf_step c ActTick).1.send (clf_inactive c d u w v (grind arith) h)
 in_order_tick (Uicc u) (Clf c) w v o h = phase u.phase refl
   where
     P : UiccAct × ActOut → Type 0
@@ -358,16 +345,6 @@ in_order_tick (Uicc u) (Clf c) w v o h = phase u.phase refl
             let l = h.last waits in
             by (t, sends u.last) (rw (p, a, b) refl)
             (subst (λ z. Line c t (with_sent z v) w) (sym l.1) (uicc_syncs c t v w l.0 refl (uicc_waits c u t v w waits refl h)))
-
--- activation begins at an end: a CLF is inactive, and a UICC sends ACT_SYNC_ID
-pub in_order_start : (r f : Role) (w v : List OnWire) (value : ℕ) → CanStart r f → ActsInOrder r f w v
-    → ActsInOrder (role_after r (ActStart value)) f [] (with_sent (act_answer r (ActStart value)).send [])
-in_order_start r f w v value i h = grind arith
-
--- activation ends there
-pub in_order_stop : (r f : Role) (w v : List OnWire) → IfLine r → ActsInOrder r f w v
-    → ActsInOrder (role_after r ActStop) f [] (with_sent (act_answer r ActStop).send [])
-in_order_stop r f w v i h = grind arith
 
 -- an end whose link activation puts down isn't open
 pub ended_means : (r f : Role) (x : OnWire) (w v : List OnWire) (act : Activation) (again : Bool) → x.frame ≡ Act act again → ActsInOrder r f (x ∷ w) v

@@ -7,7 +7,7 @@ use Rattle.link_laws.proofs.Words.{activated, after_input, among, ap, arith, bec
 use Rattle.link_laws.proofs.Words.{core_step, core_take, core_tick, core_tick_rest, core_ticks_or_cut, core_turned, core_turns, core_with_ended, cut, ended_by}
 use Rattle.link_laws.proofs.Words.{ended_by_act, ended_by_frame, false, finished, frame_due, frames_of, frames_out, has_restarted, has_taken, if_up, inl, inr}
 use Rattle.link_laws.proofs.Words.{is_lost_tick, is_open, is_some, is_up, is_waiting, most_frames, moved, new_end, new_link_end, no_session, option_to_list}
-use Rattle.link_laws.proofs.Words.{put_all, refl, renewed, reset_by, reset_refusal, reset_with, role_after, sent_all, shdlc_becomes as core_becomes}
+use Rattle.link_laws.proofs.Words.{refl, renewed, reset_by, reset_refusal, reset_with, role_after, sent_all, shdlc_becomes as core_becomes}
 use Rattle.link_laws.proofs.Words.{shdlc_put_all as core_put_all, shdlc_silent as core_silent, shdlc_ticks_at_controller as core_ticks_here, silent}
 use Rattle.link_laws.proofs.Words.{steps_at_controller, stopped, subst, sym, tick_answer, ticked, ticks_at_controller, took, took_with, true, true≢false}
 use Rattle.link_laws.proofs.Words.{turned, window_of, with_controller, with_ended, ℕ, ◌++◌, ◌∙◌, ◌∷◌, ◌≡◌, ◌⊎◌}
@@ -40,28 +40,14 @@ cut_as l b r =
 
 -- frames that are no RSETs leave no trace where the step is cut off
 cut_off_is : (k : Link) (e : LinkEnd) → NoRset (frames_out e) → cut (with_controller k (sent_all e)) ≡ cut (becomes k e)
-cut_off_is k e none =
-    sym (ap (λ (m : Link). cut (with_controller m (sent_all e))) (puts_none (frames_out e) k none) ∙ wire (is_up (sent_all e).shdlc.phase))
-  where
-    v : List OnWire
-    v = (put_all k (frames_out e)).to_host
-
-    wire : (b : Bool) → cut_as (with_controller (record k { to_host = v }) (sent_all e)) b (sent_all e).role
-        ≡ cut_as (with_controller k (sent_all e)) b (sent_all e).role
-    wire b = grind arith
+cut_off_is k e none = let h0 = puts_none (frames_out e) k none in grind arith
 
 -- a step ends: with its frames, or before that
 pub step_ends : (l k : Link) (e : LinkEnd) (c : CoreLink) (ending : Ending) → Step l (becomes k e) c → NoRset (frames_out e) → CanEnd e.role ending
     → Step l (finished k e ending) (core_all_here c (core_ending ending))
 step_ends l k e c GoesOut st none can = st
 step_ends l k e c CutOff st none can =
-    let m : Link = becomes k e in
-    let sc = step_cut m can st.tells in
-    step_same l (cut (with_controller k (sent_all e))) (cut m) (core_silent c (new_end 4)) (core_silent c (new_end 4)) (cut_off_is k e none) refl
-    (grind arith)
-
-no_rset_acts : (o : Option Activation) (cs : List Control) → NoRset cs → NoRset (frames_now o ++ cs)
-no_rset_acts o cs a = grind arith
+    let h0 = cut (with_controller k (sent_all e)) in let h1 = core_silent c (new_end 4) in let h2 = new_end 4 in let h3 = cut_off_is k e none in grind arith
 
 -- where no RSET was due before its node's turns, none goes out
 pub none_out : (o : Option Activation) (e : LinkEnd) (ts : List Turn) → AreSendableTurns ts → Mid o e → NoAsk e.shdlc.due → NoRset (frames_out (turned e ts))
@@ -71,7 +57,7 @@ none_out o e ts a h n =
     let P : EndState → Type 0 = λ s. NoAsk s.due in subst P (sym t.is) (turned_asks e.shdlc (core_turns e ts) n) in
     let fs : List Control = frames_of most_frames (turned e ts).shdlc in
     let is : frames_out (turned e ts) ≡ frames_now o ++ fs = ap (λ acts. among 0 acts fs) t.mid.acts ∙ among_now o fs in
-    subst NoRset (sym is) (no_rset_acts o fs (no_rset most_frames (turned e ts).shdlc asks))
+    subst NoRset (sym is) (let h0 = (no_rset most_frames (turned e ts).shdlc asks) in grind arith)
 
 -- the role of an end after its node's turns lets its step end so
 pub can_end : (e : LinkEnd) (ts : List Turn) (r : Role) (ending : Ending) → e.role ≡ r → CanEnd r ending → CanEnd (turned e ts).role ending
@@ -166,7 +152,7 @@ step_frame l ts ending a can p h t rests from =
     (λ x xs q.
     step_same l (steps_at_controller l NextFrame ts ending) (has_taken l x xs ts ending) (core_all_here (core_of l) (core_step l NextFrame ts ending))
     (core_all_here (core_of l) (core_take l.controller.side x.frame ts ++ core_ending ending))
-    (some x xs q) (ap (core_all_here (core_of l)) (core_some x xs q))
+    (rw q refl) (ap (core_all_here (core_of l)) (core_some x xs q))
     (step_take l ts ending x xs a can (record {
       first = q;
       polite = subst (IsPolite l.controller.side) q p;
@@ -181,9 +167,6 @@ step_frame l ts ending a can p h t rests from =
 
     core_nothing : l.to_controller ≡ [] → core_step l NextFrame ts ending ≡ []
     core_nothing q = rw q refl
-
-    some : (x : OnWire) (xs : List OnWire) → l.to_controller ≡ x ∷ xs → steps_at_controller l NextFrame ts ending ≡ has_taken l x xs ts ending
-    some x xs q = rw q refl
 
     core_some : (x : OnWire) (xs : List OnWire) → l.to_controller ≡ x ∷ xs
         → core_step l NextFrame ts ending ≡ core_take l.controller.side x.frame ts ++ core_ending ending
@@ -238,12 +221,6 @@ step_reset l window ts ending a can h r = go (reset_refusal l.controller.side) r
     b : Bool
     b = is_some (if_up e.shdlc Asked)
 
-    refused : (why : Refused) → reset_refusal e ≡ Some why → steps_at_controller l (AsksReset window) ts ending ≡ finished l (turned e ts) ending
-    refused why q = rw q refl
-
-    asks : reset_refusal e ≡ None → steps_at_controller l (AsksReset window) ts ending ≡ finished (with_ended l b) (turned (reset_by e w) ts) ending
-    asks q = rw q refl
-
     core_is : (o : Option Refused) → reset_refusal e ≡ o → core_step l (AsksReset window) ts ending ≡ core_reset o e w ts ending
     core_is o q = ap (λ z. core_reset z e w ts ending) q
 
@@ -271,11 +248,11 @@ step_reset l window ts ending a can h r = go (reset_refusal l.controller.side) r
     go (Some why) q =
         step_same l (steps_at_controller l (AsksReset window) ts ending) (finished l (turned e ts) ending)
         (core_all_here (core_of l) (core_step l (AsksReset window) ts ending)) (core_all_here (core_of l) (core_reset (Some why) e w ts ending))
-        (refused why q) (ap (core_all_here (core_of l)) (core_is (Some why) q)) (step_idle l ts ending a can h r)
+        (rw q refl) (ap (core_all_here (core_of l)) (core_is (Some why) q)) (step_idle l ts ending a can h r)
     go None q =
         step_same l (steps_at_controller l (AsksReset window) ts ending) (finished (with_ended l b) (turned (reset_by e w) ts) ending)
         (core_all_here (core_of l) (core_step l (AsksReset window) ts ending)) (core_all_here (core_of l) (core_reset None e w ts ending))
-        (asks q) (ap (core_all_here (core_of l)) (core_is None q)) (done ending can q)
+        (rw q refl) (ap (core_all_here (core_of l)) (core_is None q)) (done ending can q)
 
 -- ## Activation begins or ends
 
@@ -472,12 +449,9 @@ step_tick_closed l ts ending a can h r o =
     ticks : core_tick e ts ending ≡ Some []
     ticks = let n = not_lost ending in rw (n, o) refl
 
-    rest : core_tick_rest e ts ending ≡ CoreActs (option_to_list act) vs ∷ core_ending ending
-    rest = let n = not_lost ending in rw (n, o) refl
-
     core : CoreTick l ts ending ≡ core_all_here (core_becomes (core_put_all (core_of l) (frames_now act)) (core_turned f.shdlc us)) (core_ending ending)
     core =
-        core_tick_as l ts ending (Some []) (CoreActs (option_to_list act) vs ∷ core_ending ending) ticks rest
+        core_tick_as l ts ending (Some []) (CoreActs (option_to_list act) vs ∷ core_ending ending) ticks (let n = not_lost ending in rw (n, o) refl)
         ∙ (ap (λ c. core_all_here (core_happens_here c (CoreActs (option_to_list act) vs)) (core_ending ending))
         (core_tick_rests (core_of l) (h.now.closed o) r)
         ∙ (ap (λ (g : LinkEnd). core_all_here (core_becomes (core_put_all (core_of l) (frames_now act)) (core_turned e.shdlc (core_turns g ts)))

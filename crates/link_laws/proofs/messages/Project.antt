@@ -2,12 +2,12 @@
 use Rattle.std.specs.Prelude.{drop, ◌-◌}
 use Rattle.link_laws.proofs.Words.{ActDue, Activation, AreSendableTurns, AreShort, Bool, Control, CoreLink, CoreTurn, CoreTurn as ShdlcTurn, Down, Due}
 use Rattle.link_laws.proofs.Words.{EndState, FetchMessage, Fragment, Give, Hold, I, Kind, Link, LinkEnd, List, Message, None, NumberedEnd, Offer, OnWire}
-use Rattle.link_laws.proofs.Words.{Option, Refused, Rej_due, Release, Rnr_due, Role, Rr_due, Rset_due, S, SetAside, SetReady, Some, Talk, Turn, Ua_due, Up, []}
+use Rattle.link_laws.proofs.Words.{Option, Rej_due, Release, Rnr_due, Role, Rr_due, Rset_due, S, SetAside, SetReady, Some, Talk, Turn, Ua_due, Up, []}
 use Rattle.link_laws.proofs.Words.{acknowledged, act_frame, after_frames, among, ap, append-nil, arith, becomes, core_of, core_turned}
 use Rattle.link_laws.proofs.Words.{core_turned as shdlc_turned, core_turns, core_with_ended, false, fetched, flat_map-append, fragments_of, frame_due}
 use Rattle.link_laws.proofs.Words.{frames_of, frames_out, give_refusal, given, is_open, is_rset, is_some, is_waiting, length, map, most_frames, moved}
-use Rattle.link_laws.proofs.Words.{option_to_list, packet_bytes, packets_of, place_of, put, put_all, put_out, received, refl, sent_all}
-use Rattle.link_laws.proofs.Words.{shdlc_becomes as core_becomes, shdlc_put as core_put, shdlc_put_all as core_put_all, shdlc_turn, shdlc_turn as core_turn_of}
+use Rattle.link_laws.proofs.Words.{option_to_list, packet_bytes, packets_of, place_of, put, put_all, received, refl}
+use Rattle.link_laws.proofs.Words.{shdlc_becomes as core_becomes, shdlc_put as core_put, shdlc_put_all as core_put_all, shdlc_turn}
 use Rattle.link_laws.proofs.Words.{subst, suc, sym, take_answer, taken, talk_now, tick_answer, ticked, true, turn, turned, with_ended}
 use Rattle.link_laws.proofs.Words.{with_shdlc_controller as core_with_controller, zero, ℕ, ◌++◌, ◌∙◌, ◌∷◌, ◌≡◌, ◌≤◌}
 use Rattle.link_laws.specs.messages.Projection.{core_turn}
@@ -178,11 +178,6 @@ Now e = Mid None e
 pub mid_moved : (e : LinkEnd) (b : Bool) (s : EndState) → Now e → Keeps b e.shdlc s → (is_open e.role ≡ false → s.phase ≡ Down) → Now (moved e b s)
 mid_moved e b s h k c = grind arith
 
-now_sent : (e : LinkEnd) (o : Option Activation) → Mid o e → Now (sent_all e)
-now_sent e o h =
-    let a = frames_alike most_frames e.shdlc in
-    grind arith
-
 -- ### Turns
 
 pub give_tells : (e : LinkEnd) (m : Message) → give_refusal e m ≡ None → (e.shdlc.phase ≡ Up) × (length m.1 ≤ 4096)
@@ -226,27 +221,12 @@ turn_mid o e SetAside a h = grind arith
 turn_mid o e (Give m) a h =
     by_option {P = Turned o e (turn e (Give m)) (core_turn e (Give m))} (give_refusal e m) (λ q.
     let t = give_tells e m q in
-    turned_same o e (turn e (Give m)) (core_turn e (Give m)) (Offer fs ∷ []) (given e m) (none_end q) (none_core q)
-    (record { mid = mid_given o e m h t.0 (a.0, t.1); is = offered t.0 }))
-    (λ r q. turned_same o e (turn e (Give m)) (core_turn e (Give m)) [] e (some_end r q) (some_core r q) (record { mid = h; is = refl }))
+    turned_same o e (turn e (Give m)) (core_turn e (Give m)) (Offer fs ∷ []) (given e m) (rw q refl) (rw q refl)
+    (record { mid = mid_given o e m h t.0 (a.0, t.1); is = rw t.0 refl }))
+    (λ r q. turned_same o e (turn e (Give m)) (core_turn e (Give m)) [] e (rw q refl) (rw q refl) (record { mid = h; is = refl }))
   where
     fs : List (List ℕ)
     fs = map packet_bytes (packets_of m.0 m.1)
-
-    none_end : give_refusal e m ≡ None → turn e (Give m) ≡ given e m
-    none_end q = rw q refl
-
-    none_core : give_refusal e m ≡ None → core_turn e (Give m) ≡ Offer fs ∷ []
-    none_core q = rw q refl
-
-    some_end : (r : Refused) → give_refusal e m ≡ Some r → turn e (Give m) ≡ e
-    some_end r q = rw q refl
-
-    some_core : (r : Refused) → give_refusal e m ≡ Some r → core_turn e (Give m) ≡ []
-    some_core r q = rw q refl
-
-    offered : e.shdlc.phase ≡ Up → put_out e.shdlc fs ≡ core_turn_of e.shdlc (Offer fs)
-    offered up = rw up refl
 
 pub turns_mid : (o : Option Activation) (e : LinkEnd) (ts : List Turn) → AreSendableTurns ts → Mid o e → Turned o e (turned e ts) (core_turns e ts)
 turns_mid o e [] a h = record { mid = h; is = refl }
@@ -289,14 +269,14 @@ becomes-core l o e s acts is =
     (ap (λ fs. core_of (put_all l fs)) frames
     ∙ (put_all-core (frames_now o ++ frames_of most_frames s) l ∙ core_put_all-append (core_of l) (frames_now o) (frames_of most_frames s)))
 
-pub with_ended-core : (l : Link) (b : Bool) → core_of (with_ended l b) ≡ core_with_ended (core_of l) b
-with_ended-core l b = grind arith
-
 -- the frames of the controller's end leave these parts of a link
 pub record Beside (l m : Link) : Type 0 where
   pub host : m.host ≡ l.host
   pub past : m.controller.past ≡ l.controller.past
   pub to_controller : m.to_controller ≡ l.to_controller
+
+pub with_ended-core : (l : Link) (b : Bool) → core_of (with_ended l b) ≡ core_with_ended (core_of l) b
+with_ended-core l b = grind arith
 
 beside-put : (l : Link) (c : Control) → Beside l (put l c)
 beside-put l c = grind arith
@@ -341,9 +321,6 @@ becomes_in_order l k o e host acts in_order =
     let Q : List OnWire → Type 0 = λ w. ActsInOrder e.role l.host.side.role w v in
     subst P (sym (b.host ∙ host)) (subst Q (sym b.to_controller) goes)
   where
-    sends : (o : Option Activation) → (put_all k (frames_now o)).to_host ≡ with_sent o k.to_host
-    sends o = grind arith
-
     frames : frames_out e ≡ frames_now o ++ frames_of most_frames e.shdlc
     frames = ap (λ a. among 0 a (frames_of most_frames e.shdlc)) acts ∙ among_now o (frames_of most_frames e.shdlc)
 
@@ -354,7 +331,7 @@ becomes_in_order l k o e host acts in_order =
     goes =
         let P : List OnWire → Type 0 = λ v. ActsInOrder e.role l.host.side.role k.to_controller v in
         subst P (sym wire) (in_order_put_all e.role l.host.side.role k.to_controller (frames_of most_frames e.shdlc) (put_all k (frames_now o))
-        (no_acts most_frames e.shdlc) (subst P (sym (sends o)) in_order))
+        (no_acts most_frames e.shdlc) (subst P (sym (grind arith)) in_order))
 
 step_becomes : (l k : Link) (o : Option Activation) (e : LinkEnd) (s : EndState) → k.host ≡ l.host → AllSay k.controller.past → Mid o e → e.shdlc ≡ s
     → (LinkInOrder l → ActsInOrder e.role l.host.side.role k.to_controller (with_sent o k.to_host))
@@ -363,7 +340,7 @@ step_becomes l k o e s host past h is in_order =
     let b = beside-put_all (frames_out e) k in
     record {
       core = becomes-core k o e s h.acts is;
-      tells = record { now = now_sent e o h; past = rw b.past past };
+      tells = record { now = let a = frames_alike most_frames e.shdlc in grind arith; past = rw b.past past };
       host = b.host ∙ host;
       in_order = λ z. becomes_in_order l k o e host h.acts (in_order z);
     }
@@ -371,10 +348,7 @@ step_becomes l k o e s host past h is in_order =
 -- turns come before
 pub turned_role : (e : LinkEnd) (ts : List Turn) → (turned e ts).role ≡ e.role
 turned_role e [] = refl
-turned_role e (t ∷ ts) = turned_role (turn e t) ts ∙ one t
-  where
-    one : (t : Turn) → (turn e t).role ≡ e.role
-    one t = grind arith
+turned_role e (t ∷ ts) = let h0 = turned_role (turn e t) ts in grind arith
 
 pub step_turned : (l k : Link) (o : Option Activation) (e : LinkEnd) (ts : List Turn) → k.host ≡ l.host → AllSay k.controller.past
     → AreSendableTurns ts → Mid o e
@@ -404,7 +378,7 @@ step_moved l b s ts h a keeps c =
     let st = step_turned l (with_ended l b) None f ts (host_ended l b) (past_ended l b h) a (mid_moved l.controller.side b s h.now keeps c) (in_order b) in
     let q : core_becomes (core_of (with_ended l b)) (core_turned f.shdlc (core_turns f ts))
     ≡ core_becomes (core_with_ended (core_of l) b) (core_turned s (core_turns f ts)) =
-    ap (λ m. core_becomes m (core_turned f.shdlc (core_turns f ts))) (with_ended-core l b)
+    ap (λ m. core_becomes m (core_turned f.shdlc (core_turns f ts))) (grind arith)
     ∙ ap (λ z. core_becomes (core_with_ended (core_of l) b) (core_turned z (core_turns f ts))) (shdlc_moved l.controller.side b s) in
     record { core = st.core ∙ q; tells = st.tells; host = st.host; in_order = st.in_order }
   where

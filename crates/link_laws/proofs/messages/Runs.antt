@@ -21,7 +21,7 @@ use Rattle.link_laws.specs.messages.Links.{CanCome}
 use Rattle.link_laws.specs.messages.Settled.{IsSettled, sure_of}
 use Rattle.link_laws.proofs.Cases.{by_test}
 use Rattle.link_laws.proofs.machine.Sound.{whole_acked_before}
-use Rattle.link_laws.proofs.messages.ActsInOrder.{LinkInOrder, in_order_aged, in_order_start, in_order_stop, in_order_swap, polite_of}
+use Rattle.link_laws.proofs.messages.ActsInOrder.{LinkInOrder, in_order_aged, polite_of}
 use Rattle.link_laws.proofs.messages.Finishing.{all_here-append, step_frame, step_idle, step_reset, step_restart, step_tick}
 use Rattle.link_laws.proofs.messages.Project.{Says, Step, Tells, turned_role}
 use Rattle.link_laws.proofs.messages.Steps.{FromHost, Rests, activated_role, core_first, no_fault_first, says_of, session-core}
@@ -139,12 +139,8 @@ pub step_own : (l : Link) (comes : Comes) (ts : List Turn) (ending : Ending) →
     → Step l (steps_at_controller l comes ts ending) (core_all_here (core_of l) (core_step l comes ts ending))
 step_own l NextFrame ts ending o a n h r = absurd o
 step_own l (AsksReset window) ts ending o a n h r = step_reset l window ts ending n.0 n.1 h r
-step_own l (Starts value) ts ending o a n h r =
-    step_restart l (ActStart value) ts ending n.0 n.1 h
-    (λ z. in_order_start l.controller.side.role l.host.side.role l.to_controller l.to_host value a z)
-step_own l Stops ts ending o a n h r =
-    step_restart l ActStop ts ending n.0 n.1 h
-    (λ z. in_order_stop l.controller.side.role l.host.side.role l.to_controller l.to_host a z)
+step_own l (Starts value) ts ending o a n h r = let h0 = step_restart l (ActStart value) ts ending n.0 n.1 h (λ z. grind arith) in grind arith
+step_own l Stops ts ending o a n h r = let h0 = step_restart l ActStop ts ending n.0 n.1 h (λ z. grind arith) in grind arith
 step_own l NoInput ts ending o a n h r = step_idle l ts ending n.0 n.1 h r
 
 step_lost : (l : Link) (why : Loss) → Tells l.controller → Step l (happens_at_controller l (Lose why)) (core_all_here (core_of l) (core_here l (Lose why)))
@@ -186,7 +182,7 @@ tells_same h k q t = subst Tells (sym q) t
 
 -- the link seen from the other end
 pub seen : (n : Link) → LinkInOrder n → LinkInOrder (exchanged n)
-seen n z = in_order_swap n.controller.side.role n.host.side.role n.to_controller n.to_host z
+seen n z = grind arith
 
 -- ### Events
 
@@ -217,7 +213,7 @@ pub record IsIdleClf (r : Role) : Type 0 where
 
 pub started_clf : (l : Link) (power : ℕ) (ts : List Turn) (ending : Ending) → IsClf l.controller.side.role
     → IsIdleClf (steps_at_controller l (Starts power) ts ending).controller.side.role
-started_clf l power ts ending i = by ending (clf l.controller.side.role i refl)
+started_clf l power ts ending i = (let h0 = (clf l.controller.side.role i refl) in grind arith)
   where
     g : LinkEnd
     g = started l.controller.side power
@@ -228,9 +224,6 @@ started_clf l power ts ending i = by ending (clf l.controller.side.role i refl)
         turned_role g ts ∙ activated_role (moved l.controller.side true (stopped l.controller.side.shdlc)) (ActStart power) in
         record { clf = _; is = after_link_events ∙ ap (λ r. role_after r (ActStart power)) q; idle = refl }
     clf _ i q = absurd i
-
-    by : (ending : Ending) → IsIdleClf (turned g ts).role → IsIdleClf (steps_at_controller l (Starts power) ts ending).controller.side.role
-    by ending k = grind arith
 
 -- activation may begin at a CLF
 pub clf_starts : (r f : Role) → IsClf r → CanStart r f
@@ -551,10 +544,7 @@ in_messages_of_quiet s r says d =
 
 quiet_core : (l : Link) → IsStart l → (events : List LinkEvent) → AllAllowed l events → IsQuiet (after_link_events l events) (losses_of l events)
     → CoreIsQuiet (core_after (core_of l) (core_events l events)) (losses_of l events)
-quiet_core l s events a q =
-    let P : CoreLink → Type 0 = λ c. CoreIsQuiet c (losses_of l events) in
-    subst P (projected l s events a)
-    (record { controller = q.controller; host = q.host; lost = q.lost; rnr = q.rnr; to_controller = q.to_controller; to_host = q.to_host })
+quiet_core l s events a q = let h0 = losses_of l events in let h1 = projected l s events a in grind arith
 
 pub all_here : (l : Link) → IsStart l → (events : List LinkEvent) → AllAllowed l events → IsQuiet (after_link_events l events) (losses_of l events)
     → AllDelivered (talk_now (after_link_events l events).controller.side) (talk_now (after_link_events l events).host.side)

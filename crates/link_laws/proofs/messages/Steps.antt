@@ -2,7 +2,7 @@
 use Rattle.std.proofs.Common.{not}
 use Rattle.std.specs.Prelude.{◌+◌}
 use Rattle.link_laws.proofs.Words.{Act, ActEvent, ActTake, ActTick, Activation, AreSendableTurns, Bool, ByAct, Clt, Control, CoreActs, CoreDeliver, CoreInOrder}
-use Rattle.link_laws.proofs.Words.{CoreLink, CoreLose, CoreTurn, Down, EndState, Ignore as CoreIgnore, IsFrontOf, IsTrue, Link, LinkEnd, LinkState, List, None}
+use Rattle.link_laws.proofs.Words.{CoreLink, CoreTurn, Down, EndState, Ignore as CoreIgnore, IsFrontOf, IsTrue, Link, LinkEnd, LinkState, List, None}
 use Rattle.link_laws.proofs.Words.{NumberedEnd, NumberedShdlc as CoreEnd, OnWire, Option, Role, Session, Talk, Turn, Up, [], act_answer, activated}
 use Rattle.link_laws.proofs.Words.{after_frames, ap, are_taken, arith, becomes, cond, core_all_here, core_end, core_happens_here, core_of, core_past, core_take}
 use Rattle.link_laws.proofs.Words.{core_turned, core_turns, core_with_ended, ended_by_frame, ended_session, ended_talk, eq-eqb, false, fragments_of, if_up, inl}
@@ -64,11 +64,8 @@ pub record Heard (e g : LinkEnd) (x : OnWire) (b : Bool) : Type 0 where
 pub step_heard : (l : Link) (ts : List Turn) (x : OnWire) (xs : List OnWire) (g : LinkEnd) (b : Bool) → l.to_controller ≡ x ∷ xs
     → Tells l.controller → AreSendableTurns ts → Heard l.controller.side g x b
     → Step l (took_as l ts x xs b g) (core_took (core_of l) (core_turns g ts) x xs)
-step_heard l ts x xs g b w h a heard = to_core (go b)
+step_heard l ts x xs g b w h a heard = (record { core = (go b).core ∙ sym is; tells = (go b).tells; host = (go b).host; in_order = (go b).in_order })
   where
-    e : LinkEnd
-    e = l.controller.side
-
     us : List CoreTurn
     us = core_turns g ts
 
@@ -89,12 +86,8 @@ step_heard l ts x xs g b w h a heard = to_core (go b)
 
     is : core_took (core_of l) us x xs ≡ core_becomes (core_at b) (core_turned g.shdlc us)
     is =
-        ap (λ c. core_becomes (core_at c) (core_turned (taken e.shdlc x.frame) us)) heard.ended
+        ap (λ c. core_becomes (core_at c) (core_turned (taken (l.controller.side).shdlc x.frame) us)) heard.ended
         ∙ ap (λ s. core_becomes (core_at b) (core_turned s us)) (sym heard.shdlc)
-
-    to_core : Step l (took_as l ts x xs b g) (core_becomes (core_at b) (core_turned g.shdlc us))
-        → Step l (took_as l ts x xs b g) (core_took (core_of l) us x xs)
-    to_core st = record { core = st.core ∙ sym is; tells = st.tells; host = st.host; in_order = st.in_order }
 
 pub mid_counted : (o : Option Activation) (e : LinkEnd) (n : ℕ) → Mid o e → Mid o (record e { passed_over = n })
 mid_counted o e n h = record { acts = h.acts; idle = h.idle; closed = h.closed; says = h.says }
@@ -148,7 +141,7 @@ pub record Acted (e f : LinkEnd) (o : Option Activation) : Type 0 where
 pub act_mid : (e : LinkEnd) (event : ActEvent) → Now e → e.shdlc.due ≡ [] → ((act_answer e.role event).ended_link ≡ true → e.shdlc.phase ≡ Down)
     → (is_open (role_after e.role event) ≡ false → e.shdlc.phase ≡ Down) → Acted e (activated e event) (act_answer e.role event).send
 act_mid e event h due down closed =
-    subst (λ f. Acted e (with_act o (record f { role = r })) o) (sym (stays_down (act_answer e.role event).ended_link e down due h.acts).0) (sends o)
+    subst (λ f. Acted e (with_act o (record f { role = r })) o) (sym (stays_down (act_answer e.role event).ended_link e down due h.acts).0) (grind arith)
   where
     o : Option Activation
     o = (act_answer e.role event).send
@@ -156,15 +149,11 @@ act_mid e event h due down closed =
     r : Role
     r = role_after e.role event
 
-    sends : (o : Option Activation) → Acted e (with_act o (record e { role = r })) o
-    sends o = grind arith
-
 -- ## Sessions
 
 ended-core : (past : List (ℕ × Talk)) (n : ℕ) → ended_session (core_past past) n ≡ (ended_talk past n).session
 ended-core [] n = refl
-ended-core (x ∷ xs) n =
-    by_test {P = ended_session (core_past (x ∷ xs)) n ≡ (ended_talk (x ∷ xs) n).session} (n == x.0) (λ q. rw q refl) (λ q. rw q (ended-core xs n))
+ended-core (x ∷ xs) n = let h0 = core_past (x ∷ xs) in let h1 = ended_talk (x ∷ xs) n in let h2 = ended-core xs n in grind arith
 
 pub session-core : (h : NumberedEnd) (n : ℕ) → shdlc_session_of (core_end h) n ≡ (talk_of h n).session
 session-core h n = go h.side.shdlc.phase (n == core_number_of (core_end h)) refl refl
@@ -227,11 +216,8 @@ no_fault_first l x xs w h t o from =
     idle : Idle s
     idle = (taken_keeps l.controller.side.shdlc x.frame h.now.idle).idle
 
-    side_is : m.controller.side.shdlc ≡ after_frames most_frames s
-    side_is = ap (after_frames most_frames) is.shdlc
-
     alike : Alike s m.controller.side.shdlc
-    alike = subst (Alike s) (sym side_is) (frames_alike most_frames s)
+    alike = subst (Alike s) (sym (ap (after_frames most_frames) is.shdlc)) (frames_alike most_frames s)
 
     none : s.session.acc ≡ [] → is_faulty s.session ≡ false
     none e = rw e refl
@@ -261,9 +247,6 @@ ignore_is : (c : CoreLink) (ts : List CoreTurn) (x : OnWire) (xs : List OnWire) 
     ≡ core_becomes (record c { to_controller = xs; controller = record c.controller { took = took_with c.controller.took x } })
     (core_turned c.controller.side ts)
 ignore_is c ts x xs p q = rw (p, q) refl
-
-lose_is : (c : CoreLink) (x : OnWire) (xs : List OnWire) → c.to_controller ≡ x ∷ xs → core_happens_here c CoreLose ≡ record c { to_controller = xs }
-lose_is c x xs q = rw q refl
 
 pub polite : (e : LinkEnd) (x : OnWire) (xs : List OnWire) (act : Activation) (again : Bool) → x.frame ≡ Act act again → IsPolite e (x ∷ xs)
     → (act_answer e.role (ActTake act again)).ended_link ≡ true → e.shdlc.phase ≡ Down
@@ -350,12 +333,12 @@ step_first l ts x xs a comes = go x.frame refl
         let st = step_turned l k o f ts refl comes.tells.past a m.mid (taken_calm act again q) in
         let frame_is : took_first l ts x xs ≡ took_as l ts x xs false f =
         took_is_as l ts x xs false f (grind arith) (ap (took e) q) in
-        let counts : took_with l.controller.took x ≡ l.controller.took = took_act l.controller.took x (ap is_rset q) in
+        let counts : took_with l.controller.took x ≡ l.controller.took = rw (ap is_rset q) refl in
         let same : took_as l ts x xs false f
         ≡ becomes k (turned f ts) = ap (λ n. becomes (with_took (record l { to_controller = xs }) n) (turned f ts)) counts in
         let core : core_all_here (core_of l) (core_take e (Act act again) ts) ≡ core_becomes (core_put_all (core_of k) (frames_now o))
         (core_turned e.shdlc (core_turns f ts)) =
-        ap (λ c. core_happens_here c (CoreActs (option_to_list o) (core_turns f ts))) (lose_is (core_of l) x xs comes.first) in
+        ap (λ c. core_happens_here c (CoreActs (option_to_list o) (core_turns f ts))) (rw comes.first refl) in
         let last : core_becomes (core_put_all (core_of k) (frames_now o)) (core_turned f.shdlc (core_turns f ts))
         ≡ core_becomes (core_put_all (core_of k) (frames_now o)) (core_turned e.shdlc (core_turns f ts)) =
         ap (λ z. core_becomes (core_put_all (core_of k) (frames_now o)) (core_turned z (core_turns f ts))) m.same in
@@ -373,9 +356,6 @@ step_first l ts x xs a comes = go x.frame refl
             let P : List OnWire → Type 0 = λ v. ActsInOrder l.controller.side.role l.host.side.role v l.to_host in
             let R : Role → Type 0 = λ r. ActsInOrder r l.host.side.role xs (with_sent (act_answer e.role (ActTake act again)).send l.to_host) in
             subst R (sym (activated_role e (ActTake act again))) (in_order_take e.role l.host.side.role x xs l.to_host act again q (subst P comes.first z))
-
-        took_act : (n : ℕ) (y : OnWire) → is_rset y.frame ≡ false → took_with n y ≡ n
-        took_act n y z = rw z refl
 
     go : (c : Control) → x.frame ≡ c → Step l (took_first l ts x xs) (core_all_here (core_of l) (core_take e x.frame ts))
     go (Act act again) q =

@@ -94,8 +94,7 @@ slice_get-append (y ∷ xs) ys (suc k) x h = slice_get-append xs ys k x h
 
 pub places_grow : (out more : List Fragment) (r m : ℕ) (ms : List Control) → Places out r m ms → Places (out ++ more) r m ms
 places_grow out more r m [] h = tt
-places_grow out more r m (I p n info ∷ ms) h =
-    (h.0, h.1, slice_get-append out more p info h.2, h.3, places_grow out more r m ms h.4)
+places_grow out more r m (I p n info ∷ ms) h = let h0 = slice_get-append out more p info h.2 in let h1 = places_grow out more r m ms h.4 in grind arith
 places_grow out more r m (S k n ∷ ms) h = places_grow out more r m ms h
 places_grow out more r m (_ ∷ ms) h = places_grow out more r m ms h
 
@@ -107,12 +106,8 @@ places_reach out r m m' (_ ∷ ms) i h = places_reach out r m m' ms i h
 -- one more was accepted, and no place behind is more than three below it
 pub places_accepted : (out : List Fragment) (r m : ℕ) (ms : List Control) → NoneBelow r ms → Places out r m ms → Places out (r + 1) m ms
 places_accepted out r m [] b h = tt
-places_accepted out r m (I p n info ∷ ms) b h =
-    (omega (arith, b.0), h.1, h.2, h.3, places_accepted out r m ms b.1 h.4)
+places_accepted out r m (I p n info ∷ ms) b h = let h0 = places_accepted out r m ms b.1 h.4 in grind arith
 places_accepted out r m (_ ∷ ms) b h = places_accepted out r m ms b h
-
-pub places_lost : (out : List Fragment) (r m : ℕ) (c : Control) (ms : List Control) → Places out r m (c ∷ ms) → Places out r m ms
-places_lost out r m c ms h = grind arith
 
 none_below_push : (p q n : ℕ) (info : Fragment) (ms : List Control) → p ≤ q + 3 → NoneBelow p ms → NoneBelow p (ms ++ I q n info ∷ [])
 none_below_push p q n info [] i h = (i, tt)

@@ -19,10 +19,6 @@ use Rattle.link_laws.proofs.places.Flows.{rnr_pushed, shows_older, shows_push, w
 pub place_found : (s : Session) (nr : ℕ) → s.acked ≤ nr → nr ≤ s.reached → s.reached ≤ s.acked + 4 → place_of s (nr % 8) ≡ Some nr
 place_found s nr h i j = grind arith
 
--- an N(S) is the number expected exactly where its place is the one expected
-pub ahead_same : (s : Session) (p : ℕ) → p ≡ length s.acc → ahead s (p % 8) ≡ 0
-ahead_same s p h = omega arith
-
 pub ahead_other : (s : Session) (p : ℕ) → length s.acc ≤ p + 4 → p ≤ length s.acc + 3 → ahead s (p % 8) ≡ 0 → p ≡ length s.acc
 ahead_other s p h i j = omega arith
 
@@ -57,16 +53,6 @@ received_cases P e ns info takes same gap repeat not_ready = grind arith
 -- a place that isn't the one expected, and not ahead of it, is behind it
 pub not_expected : (s : Session) (p : ℕ) → (ahead s (p % 8) ≡ 0 → ⊥) → p ≤ length s.acc → p < length s.acc
 not_expected s p z b = grind arith
-
-pub gap_behind : (s : Session) (p : ℕ) → (ahead s (p % 8) ≡ 0 → ⊥) → ahead s (p % 8) < 4 → p ≤ length s.acc → length s.acc ≤ p + 4 → ⊥
-gap_behind s p z g b i = grind arith
-
--- RR and REJ are the only control frames where nothing was lost and no RNR was made
-acks_rest : (k : Kind) (n : ℕ) (ms : List Control) → AcksOnly (S k n ∷ ms) → AcksOnly ms
-acks_rest k n ms h = grind arith
-
-no_stop : (k : Kind) (n : ℕ) (ms : List Control) → ((k ≡ Rnr) ⊎ (k ≡ Srej)) → AcksOnly (S k n ∷ ms) → ⊥
-no_stop k n ms e h = grind arith
 
 pub taken_I : (P : EndState → Type 0) (e : EndState) (ns nr x : ℕ) (info : Fragment) → e.phase ≡ Up → place_of e.session nr ≡ Some x
     → P (received (acknowledged e x) ns info) → P (taken e (I ns nr info))
@@ -304,11 +290,11 @@ module _ (W : Type 0) where
               → W → NoRnr far.due → Whole f t.acc far.due h.far_marks ms
           freed k n ms whole f acked reached busy w q =
               let y = whole w q in
-              record { caught = rw reached y.caught; told = rw acked y.told; free = busy; acks = acks_rest k n ms y.acks }
+              record { caught = rw reached y.caught; told = rw acked y.told; free = busy; acks = grind arith }
 
           stopped_by : (k : Kind) (n : ℕ) (ms : List Control) → ((k ≡ Rnr) ⊎ (k ≡ Srej)) → (W → NoRnr far.due → Whole s t.acc far.due h.far_marks (S k n ∷ ms))
               → (f : Session) → W → NoRnr far.due → Whole f t.acc far.due h.far_marks ms
-          stopped_by k n ms is whole f w q = absurd (no_stop k n ms is (whole w q).acks)
+          stopped_by k n ms is whole f w q = absurd (grind arith)
       go (Rset _ _ ∷ ms) shows near_sends far_sends near_whole far_whole = absurd near_sends.counts
       go (Ua ∷ ms) shows near_sends far_sends near_whole far_whole = absurd near_sends.counts
       go (Act _ _ ∷ ms) shows near_sends far_sends near_whole far_whole = absurd near_sends.counts
@@ -391,16 +377,12 @@ after_frames_idle (suc n) e h = rw (fetched_idle e h) (after_frames_idle n e h)
 abbrev pub left : EndState → ℕ
 left e = length e.due + (e.session.acked + e.session.window - e.session.next)
 
--- each fetch leaves fewer
-fetch_leaves : (e : EndState) → (frame_due e ≡ None) ⊎ (left (fetched e) + 1 ≤ left e)
-fetch_leaves e = grind arith
-
 nothing_left : (e : EndState) → left e ≡ 0 → frame_due e ≡ None
 nothing_left e h = grind arith
 
 pub idle_after : (n : ℕ) (e : EndState) → left e ≤ n → frame_due (after_frames n e) ≡ None
 idle_after zero e h = nothing_left e (omega arith)
-idle_after (suc n) e h = go (fetch_leaves e) (λ less. idle_after n (fetched e) less)
+idle_after (suc n) e h = go (grind arith) (λ less. idle_after n (fetched e) less)
   where
     go : (frame_due e ≡ None) ⊎ (left (fetched e) + 1 ≤ left e) → (left (fetched e) ≤ n → frame_due (after_frames n (fetched e)) ≡ None)
         → frame_due (after_frames (suc n) e) ≡ None

@@ -13,9 +13,8 @@ use Rattle.hcp_packet.proofs.Joining.{parts_of-more, packets_in-parts, packets_o
 packets_in-fragments : (sent : List (ℕ × List ℕ)) → AreShort sent → packets_in (fragments_of sent) ≡ packets_of_all sent
 packets_in-fragments [] short = refl
 packets_in-fragments (m ∷ sent) short =
-    filter_map-append packet_of (map packet_bytes (packets_of m.0 m.1)) (fragments_of sent)
-    ∙ (ap (λ ps. ps ++ packets_in (fragments_of sent)) (packets_in-parts m.0 (packet_count (length m.1)) m.1 short.0.0.0)
-    ∙ ap (λ ps. packets_of m.0 m.1 ++ ps) (packets_in-fragments sent short.1))
+    let h0 = filter_map-append packet_of (map packet_bytes (packets_of m.0 m.1)) (fragments_of sent) in let h1 = fragments_of sent in
+    let h2 = packets_in-parts m.0 (packet_count (length m.1)) m.1 short.0.0.0 in let h3 = packets_in-fragments sent short.1 in grind arith
 
 -- ---- one packet that is taken
 
@@ -40,9 +39,6 @@ not_long ms p bytes alone fits =
 itself : (pipe : ℕ) → eqb pipe pipe ≡ true
 itself pipe = grind (arith, common_steps)
 
-alone_again : (pipe : ℕ) (bytes : List ℕ) → Alone ((pipe, bytes) ∷ []) pipe bytes
-alone_again pipe bytes = grind arith
-
 parts_taken : (pipe n : ℕ) (left bytes : List ℕ) (ms : List (ℕ × List ℕ)) (packets : List Packet) → Alone ms pipe bytes
     → length bytes + length left ≤ 4096 → are_taken ms (parts_of pipe (suc n) left ++ packets) ≡ are_taken [] packets
 parts_taken pipe zero left bytes ms packets alone fits =
@@ -57,7 +53,7 @@ parts_taken pipe (suc n) left bytes ms packets alone fits =
     ap (λ ps. are_taken ms (ps ++ packets)) (parts_of-more pipe n left)
     ∙ (ap (λ s. not (is_fault s.0) && are_taken s.1 (parts_of pipe (suc n) (drop 28 left) ++ packets)) step
     ∙ (ap (λ ns. are_taken ns (parts_of pipe (suc n) (drop 28 left) ++ packets)) next
-    ∙ parts_taken pipe n (drop 28 left) (bytes ++ take 28 left) ((pipe, bytes ++ take 28 left) ∷ []) packets (alone_again pipe (bytes ++ take 28 left))
+    ∙ parts_taken pipe n (drop 28 left) (bytes ++ take 28 left) ((pipe, bytes ++ take 28 left) ∷ []) packets (let h0 = (bytes ++ take 28 left) in grind arith)
     (omega (arith, length-append bytes (take 28 left), length-take 28 left, length-drop 28 left))))
 
 -- ---- whole messages, and a front of them

@@ -1,13 +1,13 @@
 -- What the sessions of two ends have to do with each other and with the frames on the wires, over resets.
 use Rattle.std.proofs.Common.{◌==◌, max}
-use Rattle.link_laws.proofs.Words.{Act, Bool, Clt, Control, Down, Due, EndState, Fragment, I, Kind, LinkState, List, None, NumberedShdlc, OnWire, Option}
+use Rattle.link_laws.proofs.Words.{Act, Clt, Control, Down, Due, EndState, Fragment, I, Kind, LinkState, List, None, NumberedShdlc, OnWire, Option}
 use Rattle.link_laws.proofs.Words.{Rej_due, Rnr_due, Rr_due, Rset, S, Session, Some, Ua, Up, Waiting, [], accepted, acknowledged, ap, append_assoc, arith}
-use Rattle.link_laws.proofs.Words.{discarded, ended_session, eqb-true, false, inl, inr, length, length-append, made_busy, ne_eqb, new_session, no_session}
+use Rattle.link_laws.proofs.Words.{discarded, ended_session, eqb-true, false, inl, inr, length, length-append, made_busy, new_session, no_session}
 use Rattle.link_laws.proofs.Words.{older, place_of, ready_again, refl, rejected, repeated, sent_next, shdlc_number_of, shdlc_session_of, slice_get}
 use Rattle.link_laws.proofs.Words.{slice_get_within, sym, take_answer, taken, ℕ, ◌%◌, ◌++◌, ◌+◌, ◌<◌, ◌∙◌, ◌∷◌, ◌≡◌, ◌≤◌, ◌⊎◌}
 use Rattle.link_laws.proofs.places.Joined.{ahead_other, answer_I, answer_S, place_found, received_cases, taken_I, taken_S}
 use Rattle.link_laws.proofs.places.Flows.{Carries, Counts, MayFollow, NoneBelow, Places, counts_higher, counts_le, counts_lost, counts_lower, counts_push}
-use Rattle.link_laws.proofs.places.Flows.{front_accept, places_accepted, places_grow, places_lost, places_push, places_push_S, places_reach, reduced}
+use Rattle.link_laws.proofs.places.Flows.{front_accept, places_accepted, places_grow, places_push, places_push_S, places_reach, reduced}
 use Rattle.link_laws.proofs.sessions.Wire.{IsData, no_rset_step, rsets}
 use Rattle.link_laws.proofs.Cases.{by_test}
 use mathlib.Core.List.{IsPrefix}
@@ -58,9 +58,7 @@ below_more b c (x ∷ xs) i h = (omega (arith, h.0), below_more b c xs i h.1)
 
 pub none_ended : (b n : ℕ) (past : List (ℕ × Session)) → b ≤ n → Below b past → ended_session past n ≡ no_session
 none_ended b n [] i h = refl
-none_ended b n (x ∷ xs) i h =
-    let other : (n == x.0) ≡ false = ne_eqb n x.0 (λ e. let g = h.0 in absurd (omega arith)) in
-    rw other (none_ended b n xs i h.1)
+none_ended b n (x ∷ xs) i h = let h0 = none_ended b n xs i h.1 in grind arith
 
 abbrev pub bound : NumberedShdlc → ℕ
 bound h = by_phase h.side.phase where
@@ -85,30 +83,17 @@ of_update P h g up up' num past all new k =
 pub of_end : (P : ℕ → Session → Type 0) (h g : NumberedShdlc) → h.side.phase ≡ Up → (g.side.phase ≡ Up → ⊥)
     → g.past ≡ (shdlc_number_of h, h.side.session) ∷ h.past
     → ((k : ℕ) → P k (shdlc_session_of h k)) → (k : ℕ) → P k (shdlc_session_of g k)
-of_end P h g up down past all k = go g.side.phase refl (all k)
-  where
-    go : (p : LinkState) → g.side.phase ≡ p → P k (shdlc_session_of h k) → P k (shdlc_session_of g k)
-    go p q a = grind arith
+of_end P h g up down past all k = (let h0 = (all k) in grind arith)
 
 -- an end without a session stays so
 pub of_none : (P : ℕ → Session → Type 0) (h g : NumberedShdlc) → (h.side.phase ≡ Up → ⊥) → (g.side.phase ≡ Up → ⊥) → g.past ≡ h.past
     → ((k : ℕ) → P k (shdlc_session_of h k)) → (k : ℕ) → P k (shdlc_session_of g k)
-of_none P h g down down' past all k = go h.side.phase g.side.phase refl refl (all k)
-  where
-    go : (p q : LinkState) → h.side.phase ≡ p → g.side.phase ≡ q → P k (shdlc_session_of h k) → P k (shdlc_session_of g k)
-    go p q a b c = grind arith
+of_none P h g down down' past all k = (let h0 = (all k) in grind arith)
 
 -- a session begins at an end that has none
 pub of_begin : (P : ℕ → Session → Type 0) (h g : NumberedShdlc) → (h.side.phase ≡ Up → ⊥) → g.side.phase ≡ Up → g.past ≡ h.past
     → ((k : ℕ) → P k (shdlc_session_of h k)) → P (shdlc_number_of g) g.side.session → (k : ℕ) → P k (shdlc_session_of g k)
-of_begin P h g down up past all new k = go (k == shdlc_number_of g) refl h.side.phase refl (all k)
-  where
-    go : (b : Bool) → (k == shdlc_number_of g) ≡ b → (p : LinkState) → h.side.phase ≡ p → P k (shdlc_session_of h k) → P k (shdlc_session_of g k)
-    go b q p a c = grind arith
-
--- a session that hasn't begun has no fragments, and begins as one that hasn't
-pub base_begins : (r : Session) (w : ℕ) → w ≤ 4 → Base no_session r → Base (new_session w) r
-base_begins r w i b = grind arith
+of_begin P h g down up past all new k = (let h0 = (k == shdlc_number_of g) in let h1 = (all k) in grind arith)
 
 -- an end in whose session the other accepted the same
 base_there : {r s t : Session} → t.acc ≡ s.acc → Base r s → Base r t
@@ -208,7 +193,7 @@ active_lost x w mine theirs b h = go h.marks h.shows h.places h.counts
         record {
           marks = ms;
           shows = s.1;
-          places = places_lost theirs.out (length mine.acc) theirs.reached m ms p;
+          places = let h0 = (length mine.acc) in grind arith;
           counts = counts_lost mine.acked (length theirs.acc) m ms c;
         }
 

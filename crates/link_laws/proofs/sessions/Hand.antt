@@ -2,7 +2,7 @@
 use Rattle.std.proofs.Common.{max}
 use Rattle.link_laws.proofs.Words.{Down, LinkState, List, None, NumberedShdlc, OnWire, Option, Rset, Some, Ua, Up, Waiting, [], ap, append-nil, arith, inl, inr}
 use Rattle.link_laws.proofs.Words.{older, refl, sym, ℕ, ◌++◌, ◌+◌, ◌<◌, ◌∙◌, ◌∷◌, ◌≡◌, ◌≤◌, ◌⊎◌}
-use Rattle.link_laws.proofs.sessions.Wire.{IsData, data_not_rset, data_not_ua, not_rset_adds, not_ua_adds, data_behind, not_rset_tail, rset_young, ua_young}
+use Rattle.link_laws.proofs.sessions.Wire.{IsData, data_not_rset, data_not_ua, not_rset_adds, not_ua_adds, data_behind, rset_young, ua_young}
 use Rattle.link_laws.proofs.sessions.Wire.{after_rset_empty, rsets, uas, NumberOk, Numbered, Tail, AfterRset, behind_ua, live, Young, rsets-append, uas-append}
 use Rattle.link_laws.proofs.sessions.Wire.{numbered-append, numbered_none, tail_none, tail_push, tail_push_ua, behind_none, behind_push, behind_push_none}
 use Rattle.link_laws.proofs.sessions.Wire.{behind_new, behind_rsets, plus_one, rsets-older, uas-older, numbered_older, tail_older, behind_ua-older, live-older}
@@ -140,9 +140,6 @@ behind_none_fact o P e = grind arith
 agrees_left_none : (a b : Option (List OnWire)) (P : Type 0) → a ≡ None → Agrees a b P
 agrees_left_none a b P e = grind arith
 
-pub agrees_from : (a b : Option (List OnWire)) (P : Type 0) → P → Agrees a b P
-agrees_from a b P p = grind arith
-
 -- two parts are both there or both not
 pub data Alike : Option (List OnWire) → Option (List OnWire) → Type 0 where
   NoneAlike : Alike None None
@@ -156,11 +153,6 @@ rset_of x is = (rw is.frame refl, rw is.frame refl)
 
 ua_of : (x : OnWire) → x.frame ≡ Ua → (rsets (x ∷ []) ≡ []) × (uas (x ∷ []) ≡ x.age ∷ [])
 ua_of x e = (rw e refl, rw e refl)
-
--- nothing stands on the wires
-pub hand_empty : (kn kf : ℕ) (n f : Peer) (r : ℕ) → n.took ≤ f.emitted → f.took ≤ n.emitted → n.emitted ≤ r → f.emitted ≤ r
-    → Agrees (live n.phase []) (live f.phase []) (number n ≡ number f) → Hand kn kf n f [] [] r
-hand_empty kn kf n f r n_took f_took n_bound f_bound agree = grind arith
 
 -- ## What one end does
 
@@ -246,14 +238,14 @@ module _ {kn kf : ℕ} {n f : Peer} {to_n to_f : List OnWire} {r : ℕ} (h : Han
         f_out = rw b h.f_out;
         n_numbered = numbered-append (r + 1) to_f x (numbered_none (r + 1) to_f out.no_rset) (ok, tt);
         f_numbered = h.f_numbered;
-        n_ahead = ahead (rsets to_n) h.n_ahead;
+        n_ahead = grind arith;
         f_ahead = rw zero_age (omega (arith, h.f_took, h.n_bound), inl (omega (arith, h.f_bound)));
         n_took = h.n_took;
         f_took = omega (arith, h.f_took, h.n_bound);
         n_sure = sure_none (uas to_n) (f.took ≡ r + 1) out.no_ua;
         f_sure = rw b h.f_sure;
         n_behind = behind_none_fact (behind_ua to_n) (r + 1 < f.emitted) (behind_none to_n out.no_ua);
-        f_behind = behind (behind_ua to_f) refl;
+        f_behind = grind arith;
         n_tail = h.n_tail;
         f_tail = tail_push to_f x out.no_rset;
         n_young = h.n_young;
@@ -263,14 +255,8 @@ module _ {kn kf : ℕ} {n f : Peer} {to_n to_f : List OnWire} {r : ℕ} (h : Han
         f_bound = omega (arith, h.f_bound);
       }
     where
-      ahead : (rs : List ℕ) → Ahead kn n f.emitted rs → Ahead 0 (record { phase = Waiting; timer = 0; emitted = r + 1; took = n.took }) f.emitted rs
-      ahead rs g = grind arith
-
       less : f.emitted < r + 1
       less = omega (arith, h.f_bound)
-
-      behind : (o : Option (List OnWire)) → behind_ua to_f ≡ o → Behind (behind_ua (to_f ++ x ∷ [])) (f.emitted < r + 1)
-      behind o e = grind arith
 
   -- the near end, which waited, gives up; nothing is out
   pub hand_down : NothingIsOut to_n to_f → 4 < n.timer + kn
@@ -333,7 +319,7 @@ module _ {kn kf : ℕ} {n f : Peer} {x : OnWire} {to_n to_f : List OnWire} {r : 
         f_sure = h.f_sure;
         n_behind = rw c at h.n_behind;
         f_behind = h.f_behind;
-        n_tail = not_rset_tail x.frame to_n (Tail to_n) (data_not_rset x.frame d) h.n_tail;
+        n_tail = let h0 = (Tail to_n) in let h1 = (data_not_rset x.frame d) in grind arith;
         f_tail = h.f_tail;
         n_young = young_later x.age 4 to_n h.n_young.0 h.n_young.1;
         f_young = h.f_young;
@@ -369,7 +355,7 @@ module _ {kn kf : ℕ} {n f : Peer} {x : OnWire} {to_n to_f : List OnWire} {r : 
         f_out = rw a at h.f_out;
         n_numbered = h.n_numbered;
         f_numbered = h.f_numbered.1;
-        n_ahead = ahead (rsets to_n) s (rw a at h.n_ahead);
+        n_ahead = grind arith;
         f_ahead = h.f_ahead;
         n_took = h.n_took;
         f_took = h.f_took;
@@ -385,10 +371,6 @@ module _ {kn kf : ℕ} {n f : Peer} {x : OnWire} {to_n to_f : List OnWire} {r : 
         n_bound = h.n_bound;
         f_bound = h.f_bound;
       }
-    where
-      ahead : (rs : List ℕ) → Sure rs (n.emitted < f.emitted) → Ahead kn n f.emitted rs
-          → Ahead kn (record { phase = Up; timer = 0; emitted = n.emitted; took = n.took }) f.emitted rs
-      ahead rs s g = grind arith
 
   -- a UA on its way to the near end is lost
   pub hand_lose_ua : x.frame ≡ Ua → Hand kn kf n f to_n to_f r
@@ -460,7 +442,7 @@ module _ {n f : Peer} {x : OnWire} {to_n to_f : List OnWire} {r : ℕ} (is : IsR
         f_tail = tail_push to_f y mine.no_rset;
         n_young = young_later x.age 4 to_n h.n_young.0 h.n_young.1;
         f_young = young_push 4 to_f y new.age h.f_young;
-        agree = agrees_from (live Up to_n) (live f.phase (to_f ++ y ∷ [])) (number p ≡ number f) (omega (arith, less.1, h.f_took));
+        agree = let h0 = (live Up to_n) in let h1 = (live f.phase (to_f ++ y ∷ [])) in let h2 = (number p ≡ number f) in grind arith;
         n_bound = h.n_bound;
         f_bound = h.f_bound;
       }
@@ -542,7 +524,7 @@ hand_older {n} {f} {to_n} {to_f} yn yf h =
       f_tail = tail_older to_f h.f_tail;
       n_young = yn;
       f_young = yf;
-      agree = rw (live-older n.phase to_n, live-older f.phase to_f) (agrees (live n.phase to_n) (live f.phase to_f) h.agree);
+      agree = rw (live-older n.phase to_n, live-older f.phase to_f) (grind arith);
       n_bound = h.n_bound;
       f_bound = h.f_bound;
     }
@@ -559,6 +541,3 @@ hand_older {n} {f} {to_n} {to_f} yn yf h =
     behind : (o : Option (List OnWire)) (P : Type 0) → Behind o P → Behind (older_part o) P
     behind None P g = tt
     behind (Some w) P g = rw (rsets-older w) (sure (rsets w) P g)
-
-    agrees : (a b : Option (List OnWire)) → Agrees a b (number n ≡ number f) → Agrees (older_part a) (older_part b) (number n ≡ number f)
-    agrees a b g = grind arith

@@ -101,17 +101,13 @@ waits_on n l {e} waiting on t w a b p q =
     let f : EndState = as_up l.host.side.phase l.host.side in
     let P : LinkState → Type 0 = λ s. Meets (as_up s l.controller.side) f a b in
     let back : live l.controller.side.phase (sans l.to_controller) ≡ Some a = rw waiting (rw ewait at p) in
-    let m : Meets (as_up Waiting l.controller.side) f a b = subst P waiting (t (before w) a b back q) in
+    let m : Meets (as_up Waiting l.controller.side) f a b = subst P waiting (t (grind arith) a b back q) in
     let g : Meets (as_up Waiting e) f a b = grind arith in
     let Q : LinkState → Type 0 = λ s. Meets (as_up s e) f a b in
     subst Q (sym ewait) g
   where
     windows : min e.own_window e.peer_window ≡ min l.controller.side.own_window l.controller.side.peer_window
     windows = rw (on.own, on.peer) refl
-
-    before : (((e.phase ≡ Waiting) × (l.host.side.phase ≡ Waiting)) ⊎ IsWhole n)
-        → ((l.controller.side.phase ≡ Waiting) × (l.host.side.phase ≡ Waiting)) ⊎ IsWhole n
-    before a = grind arith
 
 waits_turned : (n : Losses) (ts : List ShdlcTurn) (l : ShdlcLink) (e : EndState)
     → l.controller.side.phase ≡ Waiting → Idle l.controller.side e → l.controller.side.due ≡ [] → TiedLink n l → Goes n l ts e
@@ -360,9 +356,6 @@ takes n l ts x xs h t = takes_by (TiedLink (noted_took n l ts x xs) (took l ts x
         first c k true q = rw q (λ u b r. meets (inr u) b r)
         first c k false q = rw q (λ u b r. meets (inl (p, both c k q b r)) b r)
 
-pub act_data : (c : Control) → is_act c ≡ true → IsData c
-act_data c a = grind arith
-
 delivers : (n : Losses) (ts : List ShdlcTurn) (l : ShdlcLink) → SafeLink 0 0 l → TiedLink n l
     → TiedLink (noted_here n l (Deliver ts)) (shdlc_happens_at_controller l (Deliver ts))
 delivers n ts l h t = go l.to_controller h t
@@ -375,7 +368,7 @@ delivers n ts l h t = go l.to_controller h t
         → TiedLink (noted_took n (record l { to_controller = x ∷ xs }) ts x xs) (took (record l { to_controller = x ∷ xs }) ts x xs)
     first x xs false q g t = takes n (record l { to_controller = x ∷ xs }) ts x xs (rw q at g) (rw q at t)
     first x xs true q g t =
-        took_tied n (record l { to_controller = x ∷ xs }) ts x xs e false (passes_act e x.frame q).0 (began_data e x.frame (act_data x.frame q))
+        took_tied n (record l { to_controller = x ∷ xs }) ts x xs e false (passes_act e x.frame q).0 (began_data e x.frame (grind arith))
         (λ c side k.
         let m : ShdlcLink = record l { to_controller = xs; controller = c } in
         let P : EndState → Type 0 = λ s. Tied (IsWhole n) s l.host.side (sans xs) (sans l.to_host) in

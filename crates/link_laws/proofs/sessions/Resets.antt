@@ -18,7 +18,7 @@ use Rattle.link_laws.proofs.places.Flows.{AnswersOnly}
 use Rattle.link_laws.proofs.places.Joined.{ready_cases, tick_cases}
 use Rattle.link_laws.specs.sessions.Sessions.ShdlcEndEvent.{Cut}
 use Rattle.link_laws.proofs.sessions.Wire.{IsData, rsets, uas, rsets-append, uas-append, plus_one, rsets-older, uas-older}
-use Rattle.link_laws.proofs.sessions.Hand.{NothingIsOut, nothing_out}
+use Rattle.link_laws.proofs.sessions.Hand.{nothing_out}
 use Rattle.link_laws.proofs.sessions.Safe.{Safe, up_end}
 use Rattle.link_laws.proofs.sessions.Sending.{SafeLink, sans-push, sans-push_act}
 use Rattle.link_laws.proofs.sessions.Steps.{passes_act, took, not_rset, sans-aged, agree, safe_aged, safe_turn, safe_turns, safe_exchanged, tick_or_cut}
@@ -154,26 +154,19 @@ Goes s l ts e = SureLink (sure_out s l (shdlc_turned e ts)) (shdlc_becomes l (sh
 sure_drains : (m : ℕ) (s : Bool) (ts : List ShdlcTurn) (e : EndState) (l : ShdlcLink) → AnswersOnly e.due → SureAt s l e
     → SureLink (sure_all s l (frames_of m (shdlc_turned e ts)))
     (with_shdlc_controller (shdlc_put_all l (frames_of m (shdlc_turned e ts))) (after_frames m (shdlc_turned e ts)))
-sure_drains m s ts e l a h =
-    (sends_all m s (shdlc_turned e ts) l (turned_answers ts e a, λ n. rw (turned-phase ts e) (h n))).1
-
-sure_put_tells : (s : Bool) (l : ShdlcLink) (c : Control) → sure_put s l c ≡ true → s ≡ true
-sure_put_tells s l c e = grind arith
+sure_drains m s ts e l a h = let h0 = sends_all m s (shdlc_turned e ts) l (turned_answers ts e a, λ n. rw (turned-phase ts e) (h n)) in grind arith
 
 sure_all_tells : (cs : List Control) (s : Bool) (l : ShdlcLink) → sure_all s l cs ≡ true → s ≡ true
 sure_all_tells [] s l e = e
-sure_all_tells (c ∷ cs) s l e = sure_put_tells s l c (sure_all_tells cs (sure_put s l c) (shdlc_put l c) e)
+sure_all_tells (c ∷ cs) s l e = let h0 = (sure_all_tells cs (sure_put s l c) (shdlc_put l c) e) in grind arith
 
 -- what is due first stays so
 abbrev with_first : Due → EndState → EndState
 with_first d e = record e { due = d ∷ e.due }
 
-turn-first : (d : Due) (e : EndState) (t : ShdlcTurn) → shdlc_turn (with_first d e) t ≡ with_first d (shdlc_turn e t)
-turn-first d e t = grind arith
-
 turned-first : (d : Due) (ts : List ShdlcTurn) (e : EndState) → shdlc_turned (with_first d e) ts ≡ with_first d (shdlc_turned e ts)
 turned-first d [] e = refl
-turned-first d (t ∷ ts) e = ap (λ f. shdlc_turned f ts) (turn-first d e t) ∙ turned-first d ts (shdlc_turn e t)
+turned-first d (t ∷ ts) e = ap (λ f. shdlc_turned f ts) (grind arith) ∙ turned-first d ts (shdlc_turn e t)
 
 -- an end that has an RSET to send, and had its turns
 rset_first : (m : ℕ) (ts : List ShdlcTurn) (e : EndState) → e.due ≡ Rset_due ∷ []
@@ -233,10 +226,6 @@ resets kf s ts l w h t =
         (sans (shdlc_put_all m cs).to_controller) (sans (shdlc_put_all m cs).to_host) in
         subst P (sym frames) (inl (waits, (λ u. not_waiting l.host.side n (sym host ∙ u)), inl (rset_stands m.to_host x q.own_window 0 refl)))
 
--- an end that gives up had nothing out
-no_asks : (q : LinkState) (to_n to_f : List OnWire) (P : Type 0) → rsets to_f ≡ [] → uas to_n ≡ [] → States Waiting q to_n to_f → P
-no_asks q to_n to_f P none empty a = grind arith
-
 ticks : (kf : ℕ) (s : Bool) (ts : List ShdlcTurn) (l : ShdlcLink) → SafeLink 1 kf l → SureLink s l
     → SureLink (sure_tick s (Some ts) l) (shdlc_ticks_at_controller l ts)
 ticks kf s ts l h t = go e.phase (runs_timer e.session) (nat_lt (e.timer + 1) 10) (nat_lt e.tries 5) refl refl refl refl
@@ -258,9 +247,6 @@ ticks kf s ts l h t = go e.phase (runs_timer e.session) (nat_lt (e.timer + 1) 10
         (sure_drains 12 s ts (ticked e) l (tick_cases (λ f. AnswersOnly f.due) e p quit (rw h.n_due tt) (rw h.n_due tt) (rw h.n_due tt))
         (λ n. let same : (ticked e).phase ≡ e.phase = tick_cases (λ f. f.phase ≡ e.phase) e p quit refl refl refl in rw same (t n)))
 
-    late : nat_lt (e.timer + 1) 10 ≡ false → NothingIsOut (sans l.to_controller) (sans l.to_host)
-    late r = nothing_out h.hand (let g = ltb-false (e.timer + 1) 10 r in omega arith)
-
     go : (p : LinkState) (a b c : Bool) → e.phase ≡ p → runs_timer e.session ≡ a → nat_lt (e.timer + 1) 10 ≡ b → nat_lt e.tries 5 ≡ c → Q
     go Down a b c p q r o = by_parts false e (rw p refl) (rw p refl) (stays s ts l h.n_due t)
     go Up false b c p q r o = on p (rw (p, q) refl)
@@ -278,9 +264,8 @@ ticks kf s ts l h t = go e.phase (runs_timer e.session) (nat_lt (e.timer + 1) 10
     go Waiting a false false p q r o =
         by_parts false (given_up e) (rw (p, r, o) refl) (rw (p, r, o) refl)
         (sure_drains 12 s ts (given_up e) l (rw h.n_due tt)
-        (λ n. let out = late r in
-        no_asks l.host.side.phase (sans l.to_controller) (sans l.to_host) (States Down l.host.side.phase (sans l.to_controller) (sans l.to_host))
-        out.no_rset out.no_ua (rw p at (t n))))
+        (λ n. let out = nothing_out h.hand (let g = ltb-false (e.timer + 1) 10 r in omega arith) in
+        (grind arith)))
 
 -- ## It takes a frame
 
@@ -295,11 +280,8 @@ took_sure : (s : Bool) (l : ShdlcLink) (ts : List ShdlcTurn) (x : OnWire) (xs : 
     → ((c : NumberedShdlc) → Goes s (record l { to_controller = xs; controller = c }) ts q) → SureLink (sure_took s l ts x xs) (took l ts x xs)
 took_sure s l ts x xs q a h = rw a (go (is_some (take_answer l.controller.side x.frame).ended))
   where
-    t : ℕ
-    t = took_with l.controller.took x
-
     go : (ends : Bool) → (let m : ShdlcLink = with_shdlc_ended (record l { to_controller = xs }) ends in
-        Goes s (record m { controller = record m.controller { took = t } }) ts q)
+        Goes s (record m { controller = record m.controller { took = took_with l.controller.took x } }) ts q)
     go ends = grind arith
 
 takes : (s : Bool) (l : ShdlcLink) (ts : List ShdlcTurn) (x : OnWire) (xs : List OnWire) → Safe 0 0 l.controller l.host (x ∷ sans xs) (sans l.to_host) l.resets
@@ -416,9 +398,7 @@ ignores s ts l t = grind arith
 
 none_lost : (w : List OnWire) → loses_aged w ≡ false → aged_wire w ≡ older w
 none_lost [] e = refl
-none_lost (x ∷ xs) e =
-    by_test {P = aged_wire (x ∷ xs) ≡ older (x ∷ xs)} (nat_lt x.age 4) (λ q. rw q (ap (λ v. record x { age = x.age + 1 } ∷ v) ((none_lost xs) (rw q at e))))
-    (λ q. absurd (true≢false (rw q at e)))
+none_lost (x ∷ xs) e = let h0 = none_lost xs in grind arith
 
 ages : (s : Bool) (l : ShdlcLink) → SureLink s l → SureLink (sure_aged s l) (shdlc_aged l)
 ages s l t n =

@@ -3,13 +3,13 @@ use Rattle.std.proofs.Common.{◌==◌}
 use Rattle.link_laws.proofs.Words.{Down, EndState, LinkState, List, None, NumberedShdlc, OnWire, Option, Session, Some, Ua, Up, Waiting, [], arith}
 use Rattle.link_laws.proofs.Words.{ended_session, eqb-true, inl, inr, new_session, no_session, older, refl, shdlc_number_of, shdlc_session_of, subst, sym, ℕ}
 use Rattle.link_laws.proofs.Words.{◌++◌, ◌+◌, ◌<◌, ◌∙◌, ◌∷◌, ◌≡◌, ◌≤◌, ◌⊎◌}
-use Rattle.link_laws.proofs.sessions.Wire.{IsData, rsets, uas, AfterRset, behind_ua, live, Young, behind_none, behind_push, behind_push_none, behind_new}
+use Rattle.link_laws.proofs.sessions.Wire.{IsData, rsets, uas, behind_ua, live, Young, behind_none, behind_push, behind_push_none, behind_new}
 use Rattle.link_laws.proofs.sessions.Wire.{behind_rsets, after_rset_empty, live-older, older_part}
-use Rattle.link_laws.proofs.sessions.Hand.{peer_of, Hand, Agrees, NothingIsOut, IsRset, IsNextRset, IsNewUa, hand_empty, idle_out, ua_told, rset_told}
+use Rattle.link_laws.proofs.sessions.Hand.{peer_of, Hand, Agrees, NothingIsOut, IsRset, IsNextRset, IsNewUa, idle_out, ua_told, rset_told}
 use Rattle.link_laws.proofs.sessions.Hand.{hand_past, hand_ask, hand_down, hand_up_ua, hand_up_rset, hand_wait_rset, hand_lose_rset, hand_lose_ua, hand_ignore}
 use Rattle.link_laws.proofs.sessions.Hand.{hand_older}
 use Rattle.link_laws.proofs.sessions.Data.{Base, Active, OnLive, active_empty, active_lost, Below, below_more, none_ended, bound, of_update, of_none}
-use Rattle.link_laws.proofs.sessions.Data.{base_begins, base_begins_there, Pair, shows_push_rset, shows_older}
+use Rattle.link_laws.proofs.sessions.Data.{base_begins_there, Pair, shows_push_rset, shows_older}
 use Rattle.link_laws.proofs.Cases.{by_test}
 
 -- the windows that an end may ask for
@@ -84,7 +84,7 @@ module _ {kn kf : ℕ} {n f : NumberedShdlc} {to_n to_f : List OnWire} {r : ℕ}
         f_base = of_update (λ k t. Base (shdlc_session_of f k) t) n g on.was_up on.up refl refl h.f_base pair.theirs;
         n_live = n_live;
         f_live = f_live (live f.side.phase to_f') refl pair.goes;
-        n_past = past;
+        n_past = let a : Below (shdlc_number_of n) n.past = rw on.was_up at h.n_past in rw on.up a;
         f_past = h.f_past;
         n_none = λ no. absurd (no on.up);
         f_none = h.f_none;
@@ -99,9 +99,6 @@ module _ {kn kf : ℕ} {n f : NumberedShdlc} {to_n to_f : List OnWire} {r : ℕ}
 
       n_live : OnLive (live q.phase to_n') (session_with g n) (session_with f n)
       n_live = grind arith
-
-      past : Below (bound g) n.past
-      past = let a : Below (shdlc_number_of n) n.past = rw on.was_up at h.n_past in rw on.up a
 
       moved : (k m : ℕ) (w : List OnWire) → k ≡ m → OnLive (Some w) (shdlc_session_of f k) (shdlc_session_of g k)
           → OnLive (Some w) (shdlc_session_of f m) (shdlc_session_of g m)
@@ -134,16 +131,7 @@ live_push_rset Waiting w x mine theirs is none h = go (behind_ua w) refl h
 
 live_push_ua : (p : LinkState) (w : List OnWire) (x : OnWire) (mine theirs : Session) → x.frame ≡ Ua → uas w ≡ [] → p ≡ Waiting → Base mine theirs
     → OnLive (live p (w ++ x ∷ [])) mine theirs
-live_push_ua p w x mine theirs e none waiting b = rw waiting (go (behind_new w x e none))
-  where
-    go : (behind_ua (w ++ x ∷ []) ≡ None) ⊎ ((behind_ua (w ++ x ∷ []) ≡ Some []) × (rsets w ≡ [])) → OnLive (behind_ua (w ++ x ∷ [])) mine theirs
-    go a = grind arith
-
-live_after_rset : (p : LinkState) (w : List OnWire) (mine theirs : Session) → (p ≡ Up → ⊥) → AfterRset w → Base mine theirs → OnLive (live p w) mine theirs
-live_after_rset p w mine theirs no_up a b = grind arith
-
-pub live_empty : (p : LinkState) (mine theirs : Session) → Base mine theirs → OnLive (live p []) mine theirs
-live_empty p mine theirs b = grind arith
+live_push_ua p w x mine theirs e none waiting b = let h0 = behind_new w x e none in grind arith
 
 -- what is true of each session, by its number, is true of what it has become
 abbrev pub AllStay : (ℕ → Session) → (ℕ → Session) → Type 1
@@ -176,10 +164,7 @@ moves_end n up P all k = let a : P k (shdlc_session_of n k) = all k in rw up at 
 
 -- an end without a session keeps what has ended
 pub moves_none : (n : NumberedShdlc) → (n.side.phase ≡ Up → ⊥) → Moves n n.past
-moves_none n no_up P all k = go n.side.phase refl (all k)
-  where
-    go : (p : LinkState) → n.side.phase ≡ p → P k (shdlc_session_of n k) → P k (ended_session n.past k)
-    go p e a = grind arith
+moves_none n no_up P all k = (let h0 = (all k) in grind arith)
 
 -- all sessions of an end have ended, and are kept with numbers below b
 pub record HaveEnded (n : NumberedShdlc) (past : List (ℕ × Session)) (b : ℕ) : Type 1 where
@@ -264,12 +249,11 @@ module _ {kn kf : ℕ} {n f : NumberedShdlc} {to_n to_f : List OnWire} {r : ℕ}
       let base : (k : ℕ) → Base (shdlc_session_of f k) (shdlc_session_of g k) = ended.moves (λ k t. Base (shdlc_session_of f k) t) h.f_base in
       record {
         hand =
-            hand_empty kn' kf (peer_of g) (peer_of f) r h.hand.n_took h.hand.f_took h.hand.n_bound h.hand.f_bound
-            (agrees_down f.side.phase (shdlc_number_of g ≡ shdlc_number_of f));
+            let h0 = (peer_of g) in let h1 = (peer_of f) in let h2 = (agrees_down f.side.phase (shdlc_number_of g ≡ shdlc_number_of f)) in grind arith;
         n_base = ended.moves (λ k t. Base t (shdlc_session_of f k)) h.n_base;
         f_base = base;
         n_live = tt;
-        f_live = live_empty f.side.phase (session_with f f) (session_with g f) (base (shdlc_number_of f));
+        f_live = let h0 = (session_with f f) in let h1 = (session_with g f) in let h2 = (base (shdlc_number_of f)) in grind arith;
         n_past = ended.below;
         f_past = h.f_past;
         n_none = λ _. refl;
@@ -306,7 +290,7 @@ module _ {kn kf : ℕ} {n f : NumberedShdlc} {to_n to_f : List OnWire} {r : ℕ}
       let gone : ended_session g.past (shdlc_number_of g) ≡ no_session = none_ended (shdlc_number_of g) (shdlc_number_of g) g.past (omega arith) ended.below in
       let n_base : (k : ℕ) → Base (ended_session g.past k) (shdlc_session_of f k) = ended.moves (λ k s. Base s (shdlc_session_of f k)) h.n_base in
       let f_base : (k : ℕ) → Base (shdlc_session_of f k) (ended_session g.past k) = ended.moves (λ k s. Base (shdlc_session_of f k) s) h.f_base in
-      let mine : Base (new_session w) (session_with f g) = base_begins (session_with f g) w new.fits (rw gone at (n_base (shdlc_number_of g))) in
+      let mine : Base (new_session w) (session_with f g) = let h0 = (session_with f g) in grind arith in
       let theirs : Base (session_with f g) (new_session w) = base_begins_there (session_with f g) w (rw gone at (f_base (shdlc_number_of g))) in
       record {
         hand = hand;
@@ -385,7 +369,7 @@ module _ {n f : NumberedShdlc} {x : OnWire} {to_n to_f : List OnWire} {r : ℕ} 
         hand = rw (on.waiting, on.timer) (hand_wait_rset is on.was_waiting new h.hand);
         n_base = n_base;
         f_base = f_base;
-        n_live = live_after_rset q.phase to_n (session_with g g) (session_with f g) no_up t.behind (n_base (shdlc_number_of g));
+        n_live = let h0 = (session_with g g) in let h1 = (session_with f g) in let h2 = (n_base (shdlc_number_of g)) in grind arith;
         f_live = live_push_ua f.side.phase to_f y (session_with f f) (session_with g f) new.frame t.out.no_ua t.waiting (f_base (shdlc_number_of f));
         n_past = let a : Below n.emitted n.past = rw on.was_waiting at h.n_past in rw on.waiting a;
         f_past = h.f_past;
@@ -426,12 +410,9 @@ safe_lose {kn} {n} {f} {x} {to_n} {to_f} {r} h = go (frame_cases x)
     data_live d Down e = live_to Down n.side.phase to_n s t (sym e) tt
     data_live d Waiting e = grind arith
 
-    rset_live : IsRset x → (p : LinkState) → n.side.phase ≡ p → OnLive (live n.side.phase to_n) s t
-    rset_live is p e = grind arith
-
     go : IsData x.frame ⊎ (IsRset x ⊎ (x.frame ≡ Ua)) → Safe kn 0 n f to_n to_f r
     go (inl d) = with (hand_past h.hand d) (data_live d n.side.phase refl)
-    go (inr (inl q)) = with (hand_lose_rset q h.hand) (rset_live q n.side.phase refl)
+    go (inr (inl q)) = with (hand_lose_rset q h.hand) (grind arith)
     go (inr (inr q)) =
         let told = ua_told h.hand q in
         with (hand_lose_ua h.hand q)

@@ -11,7 +11,7 @@ use Rattle.link_laws.proofs.sessions.Wire.{IsData, rsets, behind_ua, live, behin
 use Rattle.link_laws.proofs.sessions.Hand.{NothingIsOut, idle_out, hand_send}
 use Rattle.link_laws.proofs.sessions.Data.{Pair, pair_next, pair_put, Plain, pushed, pair_send, pair_send_S, IsAnswer}
 use Rattle.link_laws.proofs.sessions.Safe.{Safe, session_with, safe_swap, GoesOn, pair_from, safe_up, safe_idle, safe_lose}
-use Rattle.link_laws.proofs.Cases.{by_option, by_phase, by_test}
+use Rattle.link_laws.proofs.Cases.{by_option, by_phase}
 
 abbrev pub SafeAt : ℕ → ℕ → ShdlcLink → EndState → Type 0
 SafeAt kn kf l q = Safe kn kf (record l.controller { side = q }) l.host (sans l.to_controller) (sans l.to_host) l.resets
@@ -23,14 +23,11 @@ SafeLink kn kf l = Safe kn kf l.controller l.host (sans l.to_controller) (sans l
 
 pub sans-push : (w : List OnWire) (x : OnWire) → is_act x.frame ≡ false → sans (w ++ x ∷ []) ≡ sans w ++ x ∷ []
 sans-push [] x q = rw q refl
-sans-push (y ∷ w) x q =
-    by_test {P = sans ((y ∷ w) ++ x ∷ []) ≡ sans (y ∷ w) ++ x ∷ []} (is_act y.frame) (λ p. rw p (sans-push w x q))
-    (λ p. rw p (ap (λ v. y ∷ v) (sans-push w x q)))
+sans-push (y ∷ w) x q = let h0 = sans-push w x q in grind arith
 
 pub sans-push_act : (w : List OnWire) (x : OnWire) → is_act x.frame ≡ true → sans (w ++ x ∷ []) ≡ sans w
 sans-push_act [] x q = rw q refl
-sans-push_act (y ∷ w) x q =
-    by_test {P = sans ((y ∷ w) ++ x ∷ []) ≡ sans (y ∷ w)} (is_act y.frame) (λ p. rw p (sans-push_act w x q)) (λ p. rw p (ap (λ v. y ∷ v) (sans-push_act w x q)))
+sans-push_act (y ∷ w) x q = let h0 = sans-push_act w x q in grind arith
 
 -- a wire that is full loses its first frame
 pub fits_keeps : {kf : ℕ} {n f : NumberedShdlc} {to_n : List OnWire} {r : ℕ} (w : List OnWire) → Safe 0 kf n f to_n (sans w) r
@@ -108,9 +105,6 @@ pub safe_drains : (kf m : ℕ) (q : EndState) (l : ShdlcLink) → SafeAt 0 kf l 
     → SafeLink 0 kf (with_shdlc_controller (shdlc_put_all l (frames_of m q)) (after_frames m q))
 safe_drains kf m q l h = sends_keeps (λ e v. SafeAt 0 kf v e) each m q l h
   where
-    is_up : (e : EndState) (info : Fragment) → ((e.phase ≡ Up → ⊥) → e.session ≡ no_session) → fragment_due e.session ≡ Some info → e.phase ≡ Up
-    is_up e info none is = grind arith
-
     each : (e : EndState) (v : ShdlcLink) (c : Control) → frame_due e ≡ Some c → SafeAt 0 kf v e → SafeAt 0 kf (shdlc_put v c) (fetched e)
     each e v c is g =
         fetch_cases (λ f o. o ≡ Some c → SafeAt 0 kf (shdlc_put v c) f) e
@@ -120,7 +114,7 @@ safe_drains kf m q l h = sends_keeps (λ e v. SafeAt 0 kf v e) each m q l h
         let frame : Control = I (e.session.next % 8) (expected e.session) info in
         let same : frame ≡ c = cc in
         let a : SafeAt 0 kf (shdlc_put v frame) (record e { session = sent_next e.session }) =
-        safe_fits v.to_host (record { frame = frame; age = 0; number = 0 }) refl (safe_fragment (is_up e info g.n_none q) q g) in
+        safe_fits v.to_host (record { frame = frame; age = 0; number = 0 }) refl (safe_fragment (grind arith) q g) in
         let P : Control → Type 0 = λ k. SafeAt 0 kf (shdlc_put v k) (record e { session = sent_next e.session }) in
         subst P same a)
         is
@@ -189,13 +183,10 @@ ready_at kf l r h = other (phase_known e.phase)
 pub turn_pending : (kf : ℕ) (l : ShdlcLink) (e : EndState) (t : ShdlcTurn) → Pending kf l e → Pending kf l (shdlc_turn e t)
 turn_pending kf l e (Offer fragments) h =
     by_phase {P = Pending kf l (shdlc_turn e (Offer fragments))} e.phase
-    (λ p. let P : EndState → Type 0 = λ f. Pending kf l f in subst P (sym (up_is p)) (up p)) (λ p. other (rw p refl)) (λ p. other (rw p refl))
+    (λ p. let P : EndState → Type 0 = λ f. Pending kf l f in subst P (sym (rw p refl)) (up p)) (λ p. other (rw p refl)) (λ p. other (rw p refl))
   where
     other : shdlc_turn e (Offer fragments) ≡ e → Pending kf l (shdlc_turn e (Offer fragments))
     other q = let P : EndState → Type 0 = λ f. Pending kf l f in subst P (sym q) h
-
-    up_is : e.phase ≡ Up → shdlc_turn e (Offer fragments) ≡ put_out e fragments
-    up_is p = rw p refl
 
     up : e.phase ≡ Up → Pending kf l (put_out e fragments)
     up p =
@@ -274,10 +265,7 @@ becomes_none kf ts l e h =
 pub becomes_one : (kf : ℕ) (ts : List ShdlcTurn) (l : ShdlcLink) (e : EndState) (d : Due) → e.due ≡ d ∷ []
     → SafeAt 0 kf (shdlc_put l (control_due e d)) (record e { due = [] })
     → SafeLink 0 kf (shdlc_becomes l (shdlc_turned e ts))
-becomes_one kf ts l e d is h =
-    pending_goes kf l (shdlc_turned e ts)
-    (turned_pending kf ts l e
-    (grind arith))
+becomes_one kf ts l e d is h = let h0 = pending_goes kf l (shdlc_turned e ts) (turned_pending kf ts l e (grind arith)) in grind arith
 
 pub becomes_answer : (kf : ℕ) (ts : List ShdlcTurn) (l : ShdlcLink) (e : EndState) (d : Due) → IsAnswer d
     → e.due ≡ d ∷ [] → e.phase ≡ Up → SafeAt 0 kf l (record e { due = [] }) → SafeLink 0 kf (shdlc_becomes l (shdlc_turned e ts))

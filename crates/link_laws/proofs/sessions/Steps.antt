@@ -17,7 +17,7 @@ use Rattle.link_laws.specs.sessions.Sessions.ShdlcEndEvent.{Cut}
 use Rattle.link_laws.proofs.sessions.Wire.{IsData, behind_ua, live, Young, data_behind, young_later, young_older}
 use Rattle.link_laws.proofs.sessions.Hand.{NothingIsOut, IsRset, IsNextRset, idle_out, ua_told, rset_told, hand_past, hand_timer, nothing_out}
 use Rattle.link_laws.proofs.sessions.Data.{Base, Below, below_more, none_ended, bound, Pair, pair_next, IsAnswer, taken_up}
-use Rattle.link_laws.proofs.sessions.Safe.{HasWindows, Safe, session_with, agreed, safe_swap, pair_from, safe_up, safe_idle, Idle, HaveEnded, moves_end}
+use Rattle.link_laws.proofs.sessions.Safe.{HasWindows, Safe, session_with, safe_swap, pair_from, safe_up, safe_idle, Idle, HaveEnded, moves_end}
 use Rattle.link_laws.proofs.sessions.Safe.{moves_none, waiting_end, safe_asks, safe_down, up_end, safe_up_ua, safe_up_rset, WaitsOn, safe_wait_rset}
 use Rattle.link_laws.proofs.sessions.Safe.{frame_cases, safe_lose, safe_ignore, safe_older, safe_silent}
 use Rattle.link_laws.proofs.sessions.Sending.{SafeAt, SafeLink, sans-push_act, fits_keeps, safe_fits, no_rset_out, up_step, becomes_none, becomes_one}
@@ -465,16 +465,11 @@ aged-fresh (x ∷ xs) y =
 
 pub sans-aged : (w : List OnWire) → sans (aged_wire w) ≡ aged_wire (sans w)
 sans-aged [] = refl
-sans-aged (x ∷ xs) = go (nat_lt x.age 4) (is_act x.frame) refl refl (sans-aged xs)
-  where
-    go : (a b : Bool) → nat_lt x.age 4 ≡ a → is_act x.frame ≡ b → sans (aged_wire xs) ≡ aged_wire (sans xs)
-        → sans (aged_wire (x ∷ xs)) ≡ aged_wire (sans (x ∷ xs))
-    go a b p q later = grind arith
+sans-aged (x ∷ xs) = let h0 = sans-aged xs in grind arith
 
 pub safe_fresh : {n f : NumberedShdlc} (to_n : List OnWire) {to_f : List OnWire} {r : ℕ} → Safe 0 0 n f to_n to_f r → Safe 0 0 n f (fresh to_n) to_f r
 safe_fresh [] h = h
-safe_fresh {n} {f} (x ∷ xs) {to_f} {r} h =
-    by_test {P = Safe 0 0 n f (fresh (x ∷ xs)) to_f r} (nat_lt x.age 4) (λ q. rw q h) (λ q. rw q (safe_fresh xs (safe_lose h)))
+safe_fresh {n} {f} (x ∷ xs) {to_f} {r} h = let h0 = safe_fresh xs (safe_lose h) in grind arith
 
 pub safe_aged : (l : ShdlcLink) → SafeLink 0 0 l → SafeLink 1 1 (shdlc_aged l)
 safe_aged l h =
@@ -492,12 +487,8 @@ pub tick_or_cut : (kf : ℕ) (b : Option (List ShdlcTurn)) (l : ShdlcLink) → S
 tick_or_cut kf (Some ts) l h = ticks kf ts l h
 tick_or_cut kf None l h = cuts 1 kf l h
 
--- an end that doesn't wait may do without its tick
-not_ticked : (kf : ℕ) (l : ShdlcLink) → is_waiting l.controller.side ≡ false → SafeLink 1 kf l → SafeLink 0 kf l
-not_ticked kf l q h = grind arith
-
 pub tick_if_waiting : (kf : ℕ) (l : ShdlcLink) → SafeLink 1 kf l → SafeLink 0 kf (ticks_if_waiting l)
-tick_if_waiting kf l h = by_test (is_waiting l.controller.side) (λ q. rw q (ticks kf [] l h)) (λ q. rw q (not_ticked kf l q h))
+tick_if_waiting kf l h = by_test (is_waiting l.controller.side) (λ q. rw q (ticks kf [] l h)) (λ q. rw q (grind arith))
 
 -- a tick of the host's end, where these things have happened at the controller's
 ticked_there : (turns : List ShdlcEndEvent) (d : Option (List ShdlcTurn)) (near : ShdlcLink) → AreTurns turns → SafeLink 0 1 near
@@ -546,12 +537,7 @@ in_order_there l s events a n =
 pub agree : (l : ShdlcLink) → IsShdlcStart l → (events : List ShdlcLinkEvent) → AllShdlcAllowed events
     → (shdlc_after l events).controller.side.phase ≡ Up → (shdlc_after l events).host.side.phase ≡ Up
     → shdlc_number_of (shdlc_after l events).controller ≡ shdlc_number_of (shdlc_after l events).host
-agree l s events a p q =
-    let m = shdlc_after l events in
-    let one : live m.controller.side.phase (sans m.to_controller) ≡ Some (sans m.to_controller) = rw p refl in
-    let two : live m.host.side.phase (sans m.to_host) ≡ Some (sans m.to_host) = rw q refl in
-    agreed (live m.controller.side.phase (sans m.to_controller)) (live m.host.side.phase (sans m.to_host)) (sans m.to_controller) (sans m.to_host)
-    (shdlc_number_of m.controller ≡ shdlc_number_of m.host) one two (safe l s events a).hand.agree
+agree l s events a p q = let h0 = safe l s events a in grind arith
 
 -- the session that goes on has a number that no ended one has
 new_number : (h : NumberedShdlc) → h.side.phase ≡ Up → Below (bound h) h.past → ended_session h.past (shdlc_number_of h) ≡ no_session

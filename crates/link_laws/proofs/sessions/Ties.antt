@@ -4,12 +4,12 @@ use Rattle.link_laws.proofs.Words.{Bool, Control, CoreLink as ShdlcLink, CoreTur
 use Rattle.link_laws.proofs.Words.{Offer, OnWire, Option, Rej_due, Rnr_due, Rr_due, Rset_due, SetReady, Some, Ua, Ua_due, Up, Waiting, [], after_frames, ap}
 use Rattle.link_laws.proofs.Words.{arith, cond, core_turned as shdlc_turned, drop, false, fetched, fits, fragment_due, frame_due, frames_of, inl, inr, is_act}
 use Rattle.link_laws.proofs.Words.{is_rnr, length, length-append, min, nat_lt, new_session, noted_all, noted_loss, older, overflows, put_out, refl, sans}
-use Rattle.link_laws.proofs.Words.{shdlc_put, shdlc_put_all, shdlc_turn, subst, suc, sym, true, with_frame, with_ready, with_shdlc_controller, zero, ℕ, ◌++◌}
+use Rattle.link_laws.proofs.Words.{shdlc_put, shdlc_put_all, shdlc_turn, subst, suc, sym, true, with_frame, with_shdlc_controller, zero, ℕ, ◌++◌}
 use Rattle.link_laws.proofs.Words.{◌+◌, ◌<◌, ◌||◌, ◌∙◌, ◌∷◌, ◌≡◌, ◌≤◌, ◌⊎◌}
 use Rattle.link_laws.proofs.places.Flows.{AnswersOnly, Whole, flows_new}
 use Rattle.link_laws.proofs.places.Joined.{Joined, after_frames_idle, fetch_cases, fetched_idle, idle_after, joined_exchanged, joined_fetched, joined_older}
 use Rattle.link_laws.proofs.places.Joined.{joined_put, joined_ready, left, ready_cases}
-use Rattle.link_laws.proofs.sessions.Wire.{IsData, rsets, uas, behind_ua, live, behind_new, live-older, older_part}
+use Rattle.link_laws.proofs.sessions.Wire.{IsData, rsets, uas, behind_ua, live, behind_new, live-older}
 use Rattle.link_laws.proofs.sessions.Data.{pushed}
 use Rattle.link_laws.proofs.sessions.Safe.{HasWindows, up_end}
 use Rattle.link_laws.proofs.sessions.Sending.{sans-push, live-push, room, ready_by}
@@ -48,11 +48,8 @@ TiedLink n l = Tied (IsWhole n) l.controller.side l.host.side (sans l.to_control
 
 pub tied_swap : (W : Type 0) (n f : EndState) (to_n to_f : List OnWire) → Tied W n f to_n to_f → Tied W f n to_f to_n
 tied_swap W n f to_n to_f h w a b p q =
-    let m = h (shdlc_turned w) b a q p in
+    let m = h (grind arith) b a q p in
     record { joined = joined_exchanged (Unit {0}) (as_up n.phase n) (as_up f.phase f) b a m.joined; near = m.far; far = m.near }
-  where
-    shdlc_turned : (((f.phase ≡ Waiting) × (n.phase ≡ Waiting)) ⊎ W) → ((n.phase ≡ Waiting) × (f.phase ≡ Waiting)) ⊎ W
-    shdlc_turned a = grind arith
 
 -- only what an end notes of itself has changed
 pub meets_like : (n m f : EndState) (to_n to_f : List OnWire) → m.phase ≡ n.phase → m.due ≡ n.due → m.session ≡ n.session → frame_due m ≡ None
@@ -126,13 +123,10 @@ behind_fits w x ua none b = go (nat_lt 64 (length (w ++ x ∷ []))) w none
         by_new (inl r) = absurd (let z = sym r ∙ q2 in cc)
         by_new (inr r) = let z = sym r.0 ∙ q2 in cc
 
-    less : (y : OnWire) (v : List OnWire) (o : Bool) → is_act y.frame ≡ o → uas (sans (y ∷ v)) ≡ [] → uas (sans v) ≡ []
-    less y v o p e = grind arith
-
     go : (o : Bool) (v : List OnWire) → uas (sans v) ≡ [] → behind_ua (sans (cond o (drop 1 (v ++ x ∷ [])) (v ++ x ∷ []))) ≡ Some b → b ≡ []
     go false v e q = new v e q
     go true [] e q = cc
-    go true (y ∷ v) e q = new v (less y v (is_act y.frame) refl e) q
+    go true (y ∷ v) e q = new v (grind arith) q
 
 -- a wire that loses no frame that counts
 pub fits_sans : (w : List OnWire) → overflows w ≡ false → sans (fits w) ≡ sans w
@@ -177,11 +171,8 @@ rests_put G {W} {V} e f {c} to_n {w} is d more h v b p =
     x : OnWire
     x = record { frame = c; age = 0; number = 0 }
 
-    kept : sans (fits (with_frame w c)) ≡ sans w ++ x ∷ []
-    kept = fits_sans (with_frame w c) (more.fits v) ∙ sans-push w x d.1
-
     whole : live f.phase (sans w ++ x ∷ []) ≡ Some b
-    whole = ap (live f.phase) (sym kept) ∙ p
+    whole = ap (live f.phase) (sym (fits_sans (with_frame w c) (more.fits v) ∙ sans-push w x d.1)) ∙ p
 
 -- what the near end keeps as it sends
 abbrev pub Keeps : Type 0 → Losses → EndState → ShdlcLink → Type 0
@@ -232,9 +223,6 @@ tied_drains m n e l h w a b p q =
 
 -- ## Turns
 
-pub ready-phase : (e : EndState) (r : Bool) → (with_ready e r).phase ≡ e.phase
-ready-phase e r = ready_cases (λ f. f.phase ≡ e.phase) e r refl refl refl
-
 pub answers_more : (ds : List Due) → AnswersOnly ds → AnswersOnly (ds ++ Rr_due ∷ [])
 answers_more [] a = tt
 answers_more (Rr_due ∷ ds) a = answers_more ds a
@@ -272,7 +260,7 @@ turn_keeps n e (Offer fragments) l k =
           (joined_put (Unit {0}) e (as_up l.host.side.phase l.host.side) (sans l.to_controller) b fragments r.0, r.1, tt),
     )
 turn_keeps n e (SetReady r) l k = (
-  ready-phase e r ∙ k.0,
+  (ready_cases (λ f. f.phase ≡ e.phase) e r refl refl refl) ∙ k.0,
   ready_cases (λ f. AnswersOnly f.due) e r k.1 k.1 (answers_more e.due k.1),
   λ w b q. let g = k.2 w b q in
       (joined_ready (Unit {0}) e (as_up l.host.side.phase l.host.side) (sans l.to_controller) b r g.0, g.1, tt),
@@ -305,12 +293,9 @@ sends_nothing m n l e none h = rw (nothing_sent m e none, after_frames_idle m e 
 abbrev pub with_ua : EndState → EndState
 with_ua e = record e { due = Ua_due ∷ e.due }
 
-turn-ua : (e : EndState) (t : ShdlcTurn) → shdlc_turn (with_ua e) t ≡ with_ua (shdlc_turn e t)
-turn-ua e t = grind arith
-
 turned-ua : (ts : List ShdlcTurn) (e : EndState) → shdlc_turned (with_ua e) ts ≡ with_ua (shdlc_turned e ts)
 turned-ua [] e = refl
-turned-ua (t ∷ ts) e = ap (λ f. shdlc_turned f ts) (turn-ua e t) ∙ turned-ua ts (shdlc_turn e t)
+turned-ua (t ∷ ts) e = ap (λ f. shdlc_turned f ts) (grind arith) ∙ turned-ua ts (shdlc_turn e t)
 
 pub sends_ua : (m : ℕ) (n : Losses) (ts : List ShdlcTurn) (l : ShdlcLink) (e : EndState)
     → TiedLink (noted_all (noted_loss n l Ua) (shdlc_put l Ua) (frames_of m (shdlc_turned e ts)))
@@ -327,12 +312,9 @@ pub after_frames-phase : (m : ℕ) (e : EndState) → (after_frames m e).phase �
 after_frames-phase zero e = refl
 after_frames-phase (suc m) e = after_frames-phase m (fetched e) ∙ fetched-phase e
 
-put-to_controller : (l : ShdlcLink) (c : Control) → (shdlc_put l c).to_controller ≡ l.to_controller
-put-to_controller l c = grind arith
-
 pub put_all-to_controller : (cs : List Control) (l : ShdlcLink) → (shdlc_put_all l cs).to_controller ≡ l.to_controller
 put_all-to_controller [] l = refl
-put_all-to_controller (c ∷ cs) l = put_all-to_controller cs (shdlc_put l c) ∙ put-to_controller l c
+put_all-to_controller (c ∷ cs) l = put_all-to_controller cs (shdlc_put l c) ∙ (grind arith)
 
 pub tied_none : (m : ℕ) (n : Losses) (l : ShdlcLink) (e : EndState) → live e.phase (sans l.to_controller) ≡ None
     → TiedLink (noted_all n l (frames_of m e)) (with_shdlc_controller (shdlc_put_all l (frames_of m e)) (after_frames m e))
@@ -345,9 +327,7 @@ turned-phase (t ∷ ts) e = turned-phase ts (shdlc_turn e t) ∙ turn-phase e t
 -- ## Older wires
 
 live_older : (p : LinkState) (w b : List OnWire) → live p (older w) ≡ Some b → (v : List OnWire) × (live p w ≡ Some v) × (b ≡ older v)
-live_older p w b q =
-    by_option (live p w) (λ e. absurd (let z : older_part None ≡ Some b = rw e at (sym (live-older p w) ∙ q) in cc))
-    (λ v e. (v, e, let z : older_part (Some v) ≡ Some b = rw e at (sym (live-older p w) ∙ q) in let y : older v ≡ b = cc in sym y))
+live_older p w b q = let h0 = live p w in let h1 = live-older p w in grind arith
 
 pub tied_older : (W : Type 0) (n f : EndState) (to_n to_f : List OnWire) → Tied W n f to_n to_f → Tied W n f (older to_n) (older to_f)
 tied_older W n f to_n to_f h w a b p q =

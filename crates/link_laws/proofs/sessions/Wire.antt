@@ -71,19 +71,13 @@ Young b (x ∷ xs) = (x.age ≤ b) × Young x.age xs
 
 -- ## One frame more
 
-add_rset-append : (c : Control) (a : ℕ) (r s : List ℕ) → add_rset c a (r ++ s) ≡ add_rset c a r ++ s
-add_rset-append c a r s = grind arith
-
 pub rsets-append : (w : List OnWire) (x : OnWire) → rsets (w ++ x ∷ []) ≡ rsets w ++ rsets (x ∷ [])
 rsets-append [] x = refl
-rsets-append (y ∷ w) x = ap (add_rset y.frame y.age) (rsets-append w x) ∙ add_rset-append y.frame y.age (rsets w) (rsets (x ∷ []))
-
-add_ua-append : (c : Control) (a : ℕ) (r s : List ℕ) → add_ua c a (r ++ s) ≡ add_ua c a r ++ s
-add_ua-append c a r s = grind arith
+rsets-append (y ∷ w) x = ap (add_rset y.frame y.age) (rsets-append w x) ∙ (let h0 = (rsets w) in let h1 = (rsets (x ∷ [])) in grind arith)
 
 pub uas-append : (w : List OnWire) (x : OnWire) → uas (w ++ x ∷ []) ≡ uas w ++ uas (x ∷ [])
 uas-append [] x = refl
-uas-append (y ∷ w) x = ap (add_ua y.frame y.age) (uas-append w x) ∙ add_ua-append y.frame y.age (uas w) (uas (x ∷ []))
+uas-append (y ∷ w) x = ap (add_ua y.frame y.age) (uas-append w x) ∙ (let h0 = (uas w) in let h1 = (uas (x ∷ [])) in grind arith)
 
 pub numbered-append : (n : ℕ) (w : List OnWire) (x : OnWire) → Numbered n w → Numbered n (x ∷ []) → Numbered n (w ++ x ∷ [])
 numbered-append n [] x h e = e
@@ -103,14 +97,11 @@ no_rset_step c a r h = grind arith
 pub no_ua_step : (c : Control) (a : ℕ) (r : List ℕ) → add_ua c a r ≡ [] → (r ≡ []) × NotUa c
 no_ua_step c a r h = grind arith
 
-pub number_ok : (m k : ℕ) (c : Control) → NotRset c → NumberOk m c k
-number_ok m k c h = grind arith
-
 pub numbered_none : (m : ℕ) (w : List OnWire) → rsets w ≡ [] → Numbered m w
 numbered_none m [] h = tt
 numbered_none m (x ∷ xs) h =
     let s = no_rset_step x.frame x.age (rsets xs) h in
-    (number_ok m x.number x.frame s.1, numbered_none m xs s.0)
+    ((grind arith), numbered_none m xs s.0)
 
 pub tail_step_other : (c : Control) (xs : List OnWire) (P : Type 0) → NotRset c → P → tail_step c xs P
 tail_step_other c xs P h p = grind arith
@@ -131,15 +122,12 @@ tail_push (y ∷ w) x h =
     let s = no_rset_step y.frame y.age (rsets w) h in
     tail_step_other y.frame (w ++ x ∷ []) (Tail (w ++ x ∷ [])) s.1 (tail_push w x s.0)
 
-tail_step_ua : (c : Control) (w : List OnWire) (x : OnWire) (P Q : Type 0) → x.frame ≡ Ua → uas w ≡ [] → (P → Q) → tail_step c w P → tail_step c (w ++ x ∷ []) Q
-tail_step_ua c w x P Q e u f h = grind arith
-
 -- a UA may stand behind an RSET where there is none yet
 pub tail_push_ua : (w : List OnWire) (x : OnWire) → x.frame ≡ Ua → uas w ≡ [] → Tail w → Tail (w ++ x ∷ [])
 tail_push_ua [] x e u h = tail_one x.frame
 tail_push_ua (y ∷ w) x e u h =
     let s = no_ua_step y.frame y.age (uas w) u in
-    tail_step_ua y.frame w x (Tail w) (Tail (w ++ x ∷ [])) e s.0 (tail_push_ua w x e s.0) h
+    (let h0 = (Tail w) in let h1 = (Tail (w ++ x ∷ [])) in let h2 = (tail_push_ua w x e s.0) in grind arith)
 
 -- ## Behind a UA
 
@@ -152,33 +140,19 @@ behind_none (x ∷ xs) h =
     let s = no_ua_step x.frame x.age (uas xs) h in
     behind_step_none x.frame xs (behind_ua xs) s.1 (behind_none xs s.0)
 
-behind_step_push : (c : Control) (w ys : List OnWire) (x : OnWire) (o p : Option (List OnWire)) → (o ≡ Some ys → p ≡ Some (ys ++ x ∷ []))
-    → behind_step c w o ≡ Some ys → behind_step c (w ++ x ∷ []) p ≡ Some (ys ++ x ∷ [])
-behind_step_push c w ys x o p f h = grind arith
-
 pub behind_push : (w ys : List OnWire) (x : OnWire) → behind_ua w ≡ Some ys → behind_ua (w ++ x ∷ []) ≡ Some (ys ++ x ∷ [])
 behind_push [] ys x h = cc
-behind_push (y ∷ w) ys x h = behind_step_push y.frame w ys x (behind_ua w) (behind_ua (w ++ x ∷ [])) (behind_push w ys x) h
-
-behind_step_push_none : (c : Control) (w : List OnWire) (x : OnWire) (o p : Option (List OnWire)) → (o ≡ None → p ≡ None)
-    → behind_step c w o ≡ None → behind_step c (w ++ x ∷ []) p ≡ None
-behind_step_push_none c w x o p f h = grind arith
+behind_push (y ∷ w) ys x h = let h0 = (behind_ua w) in let h1 = (behind_ua (w ++ x ∷ [])) in let h2 = (behind_push w ys x) in grind arith
 
 pub behind_push_none : (w : List OnWire) (x : OnWire) → NotUa x.frame → behind_ua w ≡ None → behind_ua (w ++ x ∷ []) ≡ None
 behind_push_none [] x n h = behind_step_none x.frame [] None n refl
-behind_push_none (y ∷ w) x n h = behind_step_push_none y.frame w x (behind_ua w) (behind_ua (w ++ x ∷ [])) (behind_push_none w x n) h
+behind_push_none (y ∷ w) x n h = let h0 = (behind_ua w) in let h1 = (behind_ua (w ++ x ∷ [])) in let h2 = (behind_push_none w x n) in grind arith
 
 -- a new UA leads into a session where no RSET stands before it
 pub behind_new : (w : List OnWire) (x : OnWire) → x.frame ≡ Ua → uas w ≡ [] → (behind_ua (w ++ x ∷ []) ≡ None)
     ⊎ ((behind_ua (w ++ x ∷ []) ≡ Some []) × (rsets w ≡ []))
 behind_new [] x e u = inr (rw e refl, refl)
-behind_new (y ∷ w) x e u = go y.frame y.age u (behind_new w x e)
-  where
-    go : (c : Control) (a : ℕ) → add_ua c a (uas w) ≡ []
-        → (uas w ≡ [] → (behind_ua (w ++ x ∷ []) ≡ None) ⊎ ((behind_ua (w ++ x ∷ []) ≡ Some []) × (rsets w ≡ [])))
-        → (behind_step c (w ++ x ∷ []) (behind_ua (w ++ x ∷ [])) ≡ None)
-        ⊎ ((behind_step c (w ++ x ∷ []) (behind_ua (w ++ x ∷ [])) ≡ Some []) × (add_rset c a (rsets w) ≡ []))
-    go c a q f = grind arith
+behind_new (y ∷ w) x e u = let h0 = behind_new w x e in grind arith
 
 -- no RSET stands before the UA, and one UA less behind it
 pub behind_rsets : (w ys : List OnWire) → behind_ua w ≡ Some ys → (rsets w ≡ rsets ys) × ((a : ℕ) × (uas w ≡ a ∷ uas ys))
@@ -198,41 +172,29 @@ abbrev pub plus_one : List ℕ → List ℕ
 plus_one [] = []
 plus_one (a ∷ r) = (a + 1) ∷ plus_one r
 
-add_rset-plus : (c : Control) (a : ℕ) (r : List ℕ) → add_rset c (a + 1) (plus_one r) ≡ plus_one (add_rset c a r)
-add_rset-plus c a r = grind arith
-
 pub rsets-older : (w : List OnWire) → rsets (older w) ≡ plus_one (rsets w)
 rsets-older [] = refl
-rsets-older (x ∷ xs) = ap (add_rset x.frame (x.age + 1)) (rsets-older xs) ∙ add_rset-plus x.frame x.age (rsets xs)
-
-add_ua-plus : (c : Control) (a : ℕ) (r : List ℕ) → add_ua c (a + 1) (plus_one r) ≡ plus_one (add_ua c a r)
-add_ua-plus c a r = grind arith
+rsets-older (x ∷ xs) = ap (add_rset x.frame (x.age + 1)) (rsets-older xs) ∙ (let h0 = (rsets xs) in grind arith)
 
 pub uas-older : (w : List OnWire) → uas (older w) ≡ plus_one (uas w)
 uas-older [] = refl
-uas-older (x ∷ xs) = ap (add_ua x.frame (x.age + 1)) (uas-older xs) ∙ add_ua-plus x.frame x.age (uas xs)
+uas-older (x ∷ xs) = ap (add_ua x.frame (x.age + 1)) (uas-older xs) ∙ (let h0 = (uas xs) in grind arith)
 
 pub numbered_older : (m : ℕ) (w : List OnWire) → Numbered m w → Numbered m (older w)
 numbered_older m [] h = tt
 numbered_older m (x ∷ xs) h = (h.0, numbered_older m xs h.1)
 
-tail_step_older : (c : Control) (w : List OnWire) (P Q : Type 0) → (P → Q) → tail_step c w P → tail_step c (older w) Q
-tail_step_older c w P Q f h = grind arith
-
 pub tail_older : (w : List OnWire) → Tail w → Tail (older w)
 tail_older [] h = tt
-tail_older (x ∷ xs) h = tail_step_older x.frame xs (Tail xs) (Tail (older xs)) (tail_older xs) h
+tail_older (x ∷ xs) h = let h0 = (Tail xs) in let h1 = (Tail (older xs)) in let h2 = (tail_older xs) in grind arith
 
 abbrev pub older_part : Option (List OnWire) → Option (List OnWire)
 older_part None = None
 older_part (Some w) = Some (older w)
 
-behind_step-older : (c : Control) (w : List OnWire) (o : Option (List OnWire)) → behind_step c (older w) (older_part o) ≡ older_part (behind_step c w o)
-behind_step-older c w o = grind arith
-
 pub behind_ua-older : (w : List OnWire) → behind_ua (older w) ≡ older_part (behind_ua w)
 behind_ua-older [] = refl
-behind_ua-older (x ∷ xs) = ap (behind_step x.frame (older xs)) (behind_ua-older xs) ∙ behind_step-older x.frame xs (behind_ua xs)
+behind_ua-older (x ∷ xs) = ap (behind_step x.frame (older xs)) (behind_ua-older xs) ∙ (let h0 = (behind_ua xs) in grind arith)
 
 pub live-older : (p : LinkState) (w : List OnWire) → live p (older w) ≡ older_part (live p w)
 live-older Waiting w = behind_ua-older w
@@ -267,22 +229,13 @@ not_ua_adds c a r h = grind arith
 pub data_behind : (c : Control) (w : List OnWire) (o : Option (List OnWire)) → IsData c → behind_step c w o ≡ o
 data_behind c w o h = grind arith
 
-pub not_rset_tail : (c : Control) (w : List OnWire) (P : Type 0) → NotRset c → tail_step c w P → P
-not_rset_tail c w P h p = grind arith
-
 pub rset_young : (b a : ℕ) (r : List ℕ) (w : List OnWire) → Young b w → rsets w ≡ a ∷ r → a ≤ b
 rset_young b a r [] y h = cc
-rset_young b a r (x ∷ xs) y h = go x.frame h (rset_young b a r xs (young_later x.age b xs y.0 y.1))
-  where
-    go : (c : Control) → add_rset c x.age (rsets xs) ≡ a ∷ r → (rsets xs ≡ a ∷ r → a ≤ b) → a ≤ b
-    go c q f = grind arith
+rset_young b a r (x ∷ xs) y h = (let h0 = (rset_young b a r xs (young_later x.age b xs y.0 y.1)) in grind arith)
 
 pub ua_young : (b a : ℕ) (r : List ℕ) (w : List OnWire) → Young b w → uas w ≡ a ∷ r → a ≤ b
 ua_young b a r [] y h = cc
-ua_young b a r (x ∷ xs) y h = go x.frame h (ua_young b a r xs (young_later x.age b xs y.0 y.1))
-  where
-    go : (c : Control) → add_ua c x.age (uas xs) ≡ a ∷ r → (uas xs ≡ a ∷ r → a ≤ b) → a ≤ b
-    go c q f = grind arith
+ua_young b a r (x ∷ xs) y h = (let h0 = (ua_young b a r xs (young_later x.age b xs y.0 y.1)) in grind arith)
 
 -- behind an RSET without a UA stands nothing
 pub after_rset_empty : (w : List OnWire) → uas w ≡ [] → AfterRset w → w ≡ []
