@@ -1,9 +1,8 @@
 -- Pieces of a chain that are copied behind one another.
-use Rattle.std.proofs.Common.{◌≡◌, ℕ, ◌+◌, ◌-◌, ◌*◌, ◌/◌, ◌%◌, ◌<◌, ◌≤◌, inl, inr, List, ◌++◌, length, get_or, take, drop}
-use Rattle.std.proofs.Common.{ap, ◌∙◌, arith, length-append, length-take, length-drop}
-use Rattle.std.proofs.lemmas.List.{get_or_append_left, get_or-append_right, get_or-take, get_or-drop}
-use Rattle.std.proofs.lemmas.Bool.{cases_lt}
-use Rattle.block_pool.specs.Links.{block_at, linked_byte, region_behind}
+use Rattle.std.proofs.lemmas.List.{get_or-take}
+use Rattle.block_pool.proofs.Words.{List, ap, arith, block_at, cases_lt, drop, get_or, get_or-append_right, get_or-drop, get_or_append_left, inl, inr, length}
+use Rattle.block_pool.proofs.Words.{length-append, length-drop, length-take, linked_byte, region_behind, take, ℕ, ◌%◌, ◌*◌, ◌++◌, ◌+◌, ◌-◌, ◌/◌, ◌<◌, ◌∙◌, ◌≡◌}
+use Rattle.block_pool.proofs.Words.{◌≤◌}
 
 module _ (region next out : List ℕ) (first from done count n block : ℕ) (at : block ≡ block_at next first ((from + done) / 32))
     (one_block : (from + done) % 32 + count ≤ 32) (fits : done + count ≤ length out) (within : 32 * block + (from + done) % 32 + count ≤ length region)

@@ -1,17 +1,13 @@
 -- How calls change what owners use.
-use Rattle.std.proofs.Common.{◌≡◌, ◌≢◌, ℕ, zero, suc, ◌+◌, ◌-◌, ◌<◌, ◌≤◌, inl, inr, cond, List, [], ◌∷◌, ◌++◌, length, get_or, set, refl, sym, ap, ◌∙◌, subst}
-use Rattle.std.proofs.Common.{arith, length-set, length-append, replicate, get_or-set_same, get_or-set_other}
-use Rattle.std.specs.Prelude.{Option, Some, None}
-use Rattle.std.specs.List.{sum_by}
-use Rattle.std.proofs.lemmas.List.{set-set, length-map}
-use Rattle.std.proofs.lemmas.List.Sums.{sum_by-cons, sum_by-set, get_or-le-sum_by}
-use Rattle.std.proofs.lemmas.Bool.{cases_eq, eq-eqb, ne_eqb}
-use Rattle.block_pool.specs.declared.owners.Owner.{Owner}
-use Rattle.block_pool.specs.Slots.{Held, blocks_for, slot, with_chain, held_bytes}
-use Rattle.block_pool.specs.Names.{named_bytes, IsLiveAt, put_at, removed_at, IsNamedAfter}
+use Rattle.std.proofs.lemmas.List.Sums.{get_or-le-sum_by}
+use Rattle.block_pool.proofs.Words.{AreCounted, AreFree, Held, List, None, Option, Owner, PoolState, Some, [], ap, arith, blocks_for, cases_eq, cond, eq-eqb}
+use Rattle.block_pool.proofs.Words.{get_or, get_or-set_other, get_or-set_same, held_bytes, inl, inr, length, length-append, length-map, length-set, named_bytes}
+use Rattle.block_pool.proofs.Words.{ne_eqb, refl, replicate, set, set-set, slot, spare_of, subst, suc, sum_by, sum_by-cons, sum_by-set, sym, with_chain, zero}
+use Rattle.block_pool.proofs.Words.{ℕ, ◌++◌, ◌+◌, ◌-◌, ◌<◌, ◌∙◌, ◌∷◌, ◌≡◌, ◌≢◌, ◌≤◌}
+use Rattle.block_pool.specs.Names.{IsLiveAt, IsNamedAfter, put_at, removed_at}
 use Rattle.block_pool.specs.Owners.{owner_at, with_aside, new_owners}
-use Rattle.block_pool.specs.Pool.{PoolState, quota_of, used_of, aside_of, spare_of}
-use Rattle.block_pool.specs.Counts.{blocks_in, blocks_held, AreCounted, AreFree, IsCounted}
+use Rattle.block_pool.specs.Pool.{aside_of, quota_of, used_of}
+use Rattle.block_pool.specs.Counts.{IsCounted, blocks_held, blocks_in}
 use Rattle.block_pool.proofs.SlotLemmas.{slot_low}
 
 -- ---- sums

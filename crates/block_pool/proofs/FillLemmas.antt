@@ -1,12 +1,8 @@
 -- Bytes that are written behind one another in the last block of a chain.
-use Rattle.std.proofs.Common.{◌≡◌, ℕ, zero, suc, ◌+◌, ◌-◌, ◌*◌, ◌%◌, ◌<◌, ◌≤◌, List, [], ◌∷◌, ◌++◌, length, get_or, set, take, drop, sym, ap, ◌∙◌, subst, arith}
-use Rattle.std.proofs.Common.{length-set, get_or-set_same, append_assoc}
-use Rattle.std.specs.Prelude.{Option, Some, None}
-use Rattle.std.proofs.lemmas.List.{set-set, take_more_set, drop-set-lt, take-append-drop}
-use Rattle.block_pool.specs.declared.heads.Head.{Head}
-use Rattle.block_pool.specs.Slots.{with_chain}
-use Rattle.block_pool.specs.Links.{region_behind}
-use Rattle.block_pool.specs.Layout.{laid_bytes, slots_of, AreSoundBlocks}
+use Rattle.std.proofs.lemmas.List.{drop-set-lt, take_more_set}
+use Rattle.block_pool.proofs.Words.{AreSoundBlocks, Head, List, None, Option, Some, [], ap, append_assoc, arith, drop, get_or, get_or-set_same, laid_bytes}
+use Rattle.block_pool.proofs.Words.{length, length-set, region_behind, set, set-set, slots_of, subst, suc, sym, take, take-append-drop, with_chain, zero, ℕ}
+use Rattle.block_pool.proofs.Words.{◌%◌, ◌*◌, ◌++◌, ◌+◌, ◌-◌, ◌<◌, ◌∙◌, ◌∷◌, ◌≡◌, ◌≤◌}
 use Rattle.block_pool.proofs.SlotLemmas.{put-put}
 use Rattle.block_pool.proofs.LinkLemmas.{in_pool}
 use Rattle.block_pool.proofs.LayoutLemmas.{push_in_block_sound, push_in_block_slots, pushed_bytes, first_free, begin_sound, begin_slots, begun_bytes}

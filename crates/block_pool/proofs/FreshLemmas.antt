@@ -1,9 +1,7 @@
 -- Lists that are filled up with one value.
-use Rattle.std.proofs.Common.{◌≡◌, ℕ, zero, suc, ◌-◌, ◌<◌, inl, inr, List, [], ◌∷◌, ◌++◌, length, get_or, set, replicate, refl, sym, ap, ◌∙◌, arith}
-use Rattle.std.specs.List.{sum_by}
-use Rattle.std.proofs.lemmas.List.{get_or_past, get_or_append_left, get_or-append_right, get_or-replicate, length-replicate}
-use Rattle.std.proofs.lemmas.List.Sums.{sum_by-cons}
-use Rattle.std.proofs.lemmas.Bool.{cases_lt}
+use Rattle.std.proofs.lemmas.List.{get_or-replicate}
+use Rattle.block_pool.proofs.Words.{List, [], ap, arith, cases_lt, get_or, get_or-append_right, get_or_append_left, get_or_past, inl, inr, length}
+use Rattle.block_pool.proofs.Words.{length-replicate, refl, replicate, set, suc, sum_by, sum_by-cons, sym, zero, ℕ, ◌++◌, ◌-◌, ◌<◌, ◌∙◌, ◌∷◌, ◌≡◌}
 
 -- an element of what is there, and the value behind it
 pub get_or-filled : {A : Type 0} (xs : List A) (n k : ℕ) (x : A) → get_or (xs ++ replicate n x) k x ≡ get_or xs k x

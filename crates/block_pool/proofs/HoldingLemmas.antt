@@ -1,14 +1,10 @@
 -- What chains keep over a call that doesn't touch them, and which chains lie apart.
-use Rattle.std.proofs.Common.{◌≡◌, ◌≢◌, ℕ, ◌+◌, ◌<◌, List, [], ◌∷◌, ◌++◌, length, set, refl, sym, ap, ◌∙◌, arith, get_or-set_same, get_or-set_other, length-set}
-use Rattle.std.specs.Prelude.{Some, None}
 use Rattle.std.specs.List.{AllByRecursion}
-use Rattle.std.proofs.lemmas.List.{set-set, set-get_or}
-use Rattle.std.proofs.lemmas.List.Sums.{sum_by-cons}
-use Rattle.block_pool.specs.declared.chain.Chain.{Chain}
-use Rattle.block_pool.specs.declared.owners.Owner.{Owner}
-use Rattle.block_pool.specs.Slots.{blocks_for}
+use Rattle.std.proofs.lemmas.List.{set-get_or}
+use Rattle.block_pool.proofs.Words.{Chain, IsLive, List, None, Owner, PoolState, Some, [], ap, arith, blocks_for, chain_bytes, get_or-set_other}
+use Rattle.block_pool.proofs.Words.{get_or-set_same, length, length-set, refl, set, set-set, sum_by-cons, sym, ℕ, ◌++◌, ◌+◌, ◌<◌, ◌∙◌, ◌∷◌, ◌≡◌, ◌≢◌}
 use Rattle.block_pool.specs.Owners.{owner_at, with_used, with_aside}
-use Rattle.block_pool.specs.Pool.{PoolState, IsLive, IsApart, chain_bytes, KeepsOthers}
+use Rattle.block_pool.specs.Pool.{IsApart, KeepsOthers}
 use Rattle.block_pool.specs.Holdings.{IsOwnChain, OwnsAll, LiesApart, LieApart, all_bytes, all_blocks, KeptAll}
 
 -- two chains of two owners don't lie in one place

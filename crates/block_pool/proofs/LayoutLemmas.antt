@@ -1,19 +1,13 @@
 -- Linked blocks: what writes to links, bytes and heads leave of the chains.
-use Rattle.std.proofs.Common.{◌≡◌, ◌≢◌, ℕ, suc, ◌+◌, ◌-◌, ◌*◌, ◌/◌, ◌%◌, ◌^◌, ◌<◌, ◌≤◌, inl, inr, List, [], ◌∷◌, ◌++◌, length, get_or, set, take, drop}
-use Rattle.std.proofs.Common.{replicate, map, refl, sym, ap, ◌∙◌, subst, arith, Fits, w16, w32, length-set, get_or-set_same, get_or-set_other}
-use Rattle.std.proofs.Common.{length-drop, length-take, get_or-drop, min}
-use Rattle.std.specs.Prelude.{Option, Some, None, IsSome}
-use Rattle.std.specs.List.{range_with_len}
+use Rattle.std.proofs.Common.{Fits, min, w16, w32}
 use Rattle.std.specs.Int.{div_ceil}
-use Rattle.std.proofs.lemmas.List.{same_lists, get_or_past}
-use Rattle.std.proofs.lemmas.List.Sums.{sum_by-set}
-use Rattle.std.proofs.lemmas.Bool.{cases_lt, cases_eq}
 use Rattle.std.proofs.lemmas.List.FromFn.{length-map-range_with_len, get_or-map-range_with_len, take-map-range_with_len}
-use Rattle.std.proofs.lemmas.Grind.{common_steps}
-use Rattle.block_pool.specs.declared.heads.Head.{Head}
-use Rattle.block_pool.specs.Slots.{Held, blocks_for, slot, with_chain, bytes_in, held_bytes, owner_in, owner_of}
-use Rattle.block_pool.specs.Links.{block_at, linked_byte}
-use Rattle.block_pool.specs.Layout.{laid_bytes, held_by, slots_of, head_blocks, IsMarked, IsChain, AreSoundBlocks}
+use Rattle.block_pool.proofs.Words.{AreSoundBlocks, Head, Held, IsChain, IsMarked, IsSome, List, None, Option, Some, [], ap, arith, block_at, blocks_for}
+use Rattle.block_pool.proofs.Words.{bytes_in, cases_eq, cases_lt, common_steps, drop, get_or, get_or-drop, get_or-set_other, get_or-set_same, get_or_past}
+use Rattle.block_pool.proofs.Words.{head_blocks, held_by, held_bytes, inl, inr, length, length-drop, length-set, length-take, linked_byte, map, owner_in}
+use Rattle.block_pool.proofs.Words.{owner_of, range_with_len, refl, replicate, same_lists, set, slot, subst, suc, sum_by-set, sym, take, with_chain, ℕ, ◌%◌}
+use Rattle.block_pool.proofs.Words.{◌*◌, ◌++◌, ◌+◌, ◌-◌, ◌/◌, ◌<◌, ◌^◌, ◌∙◌, ◌∷◌, ◌≡◌, ◌≢◌, ◌≤◌}
+use Rattle.block_pool.specs.Layout.{laid_bytes, slots_of}
 use Rattle.block_pool.proofs.FreshLemmas.{get_or-filled}
 use Rattle.block_pool.proofs.LinkLemmas.{unchanged, behind, same_bytes, one_more_byte, one_byte, length-chain_bytes, length-slots_of, slot_is, same_slots}
 use Rattle.block_pool.proofs.LinkLemmas.{slots_set, none_is_some, same_mark, other_block, popped, popped_other, popped_rest, freed, freed_chain}

@@ -1,3 +1,4 @@
+mod Words
 pub mod LinkLemmas
 pub mod LayoutLemmas
 pub mod CopyLemmas

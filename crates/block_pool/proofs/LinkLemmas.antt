@@ -1,15 +1,10 @@
 -- Links between blocks, bytes and marks, one by one.
-use Rattle.std.proofs.Common.{◌≡◌, ◌≢◌, ℕ, zero, suc, ◌+◌, ◌-◌, ◌*◌, ◌/◌, ◌%◌, ◌<◌, ◌≤◌, cond, eqb, ◌⊎◌, inl, inr, List, [], ◌∷◌, ◌++◌, length, get_or, set}
-use Rattle.std.proofs.Common.{map, refl, sym, ap, ◌∙◌, arith, length-set, get_or-set_same, get_or-set_other}
-use Rattle.std.specs.Prelude.{Option, Some, None}
-use Rattle.std.specs.List.{range_with_len}
-use Rattle.std.proofs.lemmas.List.{same_lists, get_or_past, get_or_default}
-use Rattle.std.proofs.lemmas.Bool.{cases_lt, cases_eq, eq-eqb, ne_eqb}
 use Rattle.std.proofs.lemmas.List.FromFn.{length-map-range_with_len, get_or-map-range_with_len, map-range_with_len_more}
-use Rattle.block_pool.specs.declared.heads.Head.{Head}
-use Rattle.block_pool.specs.Slots.{Held, blocks_for, slot}
-use Rattle.block_pool.specs.Links.{block_at, linked_byte}
-use Rattle.block_pool.specs.Layout.{laid_bytes, held_by, slots_of, IsMarked, IsChain, AreSoundBlocks}
+use Rattle.block_pool.proofs.Words.{AreSoundBlocks, Head, Held, IsChain, IsMarked, List, None, Option, Some, [], ap, arith, block_at, blocks_for, cases_eq}
+use Rattle.block_pool.proofs.Words.{cases_lt, cond, eq-eqb, eqb, get_or, get_or-set_other, get_or-set_same, get_or_default, get_or_past, held_by, inl, inr}
+use Rattle.block_pool.proofs.Words.{length, length-set, linked_byte, map, ne_eqb, range_with_len, refl, same_lists, set, slot, suc, sym, zero, ℕ, ◌%◌, ◌*◌}
+use Rattle.block_pool.proofs.Words.{◌++◌, ◌+◌, ◌-◌, ◌/◌, ◌<◌, ◌∙◌, ◌∷◌, ◌≡◌, ◌≢◌, ◌≤◌, ◌⊎◌}
+use Rattle.block_pool.specs.Layout.{laid_bytes, slots_of}
 
 -- ---- links
 

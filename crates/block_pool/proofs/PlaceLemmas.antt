@@ -1,21 +1,16 @@
 -- Where chains lie: each block in one of them, once, or free.
-use Rattle.std.proofs.Common.{◌≡◌, ◌≢◌, ℕ, ◌+◌, ◌-◌, ◌*◌, ◌/◌, ◌%◌, ◌<◌, ◌≤◌, ◌⊎◌, inl, inr, List}
-use Rattle.std.proofs.Common.{[], ◌++◌, length, get_or, set, map, refl, sym, ap, ◌∙◌, subst, arith, length-set}
-use Rattle.std.proofs.Common.{get_or-set_same, get_or-set_other, replicate, length-append}
-use Rattle.std.specs.Prelude.{Option, Some, None}
-use Rattle.std.specs.List.{range_with_len, sum_by, sum}
-use Rattle.std.proofs.lemmas.List.{same_lists, get_or_past, get_or_default, length-map, get_or-map, get_or_append_left}
-use Rattle.std.proofs.lemmas.List.{get_or-append_right, length-replicate, append-nil}
+use Rattle.std.specs.List.{sum}
+use Rattle.std.proofs.lemmas.List.{append-nil, get_or-map}
 use Rattle.std.proofs.lemmas.List.Sums.{sum-map}
-use Rattle.std.proofs.lemmas.Bool.{cases_lt, cases_eq}
 use Rattle.std.proofs.lemmas.List.FromFn.{length-map-range_with_len, get_or-map-range_with_len, length-range_with_len, get_or-range_with_len}
-use Rattle.block_pool.specs.declared.heads.Head.{Head}
-use Rattle.block_pool.specs.declared.chain.Chain.{Chain}
-use Rattle.block_pool.specs.Slots.{Held, BlocksState, ShareNoBlock, blocks_for, bytes_in, held_bytes}
+use Rattle.block_pool.proofs.Words.{AreSoundBlocks, BlocksState, Chain, Head, Held, IsMarked, List, None, Option, PoolState, ShareNoBlock, Some, [], ap, arith}
+use Rattle.block_pool.proofs.Words.{block_at, blocks_for, bytes_in, cases_eq, cases_lt, chain_bytes, get_or, get_or-append_right, get_or-set_other}
+use Rattle.block_pool.proofs.Words.{get_or-set_same, get_or_append_left, get_or_default, get_or_past, head_blocks, held_bytes, inl, inr, length, length-append}
+use Rattle.block_pool.proofs.Words.{length-map, length-replicate, length-set, linked_byte, map, range_with_len, refl, replicate, same_lists, set, slots_of}
+use Rattle.block_pool.proofs.Words.{subst, sum_by, sym, ℕ, ◌%◌, ◌*◌, ◌++◌, ◌+◌, ◌-◌, ◌/◌, ◌<◌, ◌∙◌, ◌≡◌, ◌≢◌, ◌≤◌, ◌⊎◌}
 use Rattle.block_pool.specs.Names.{blocks_named}
-use Rattle.block_pool.specs.Pool.{PoolState, chain_bytes, chain_blocks}
-use Rattle.block_pool.specs.Links.{block_at, linked_byte}
-use Rattle.block_pool.specs.Layout.{laid_bytes as bytes_along, slots_of, blocks_by, chains_of, places_of, head_blocks, IsMarked, AreSoundBlocks}
+use Rattle.block_pool.specs.Pool.{chain_blocks}
+use Rattle.block_pool.specs.Layout.{blocks_by, chains_of, laid_bytes as bytes_along, places_of}
 use Rattle.block_pool.proofs.FreshLemmas.{get_or-filled, sum_by-filled}
 use Rattle.block_pool.proofs.LayoutLemmas.{not_none, bytes_say, len_says}
 use Rattle.block_pool.proofs.LinkLemmas.{same_mark, in_pool, length-slots_of}

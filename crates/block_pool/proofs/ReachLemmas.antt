@@ -1,13 +1,7 @@
 -- Lists of blocks that are lengthened by one fresh block.
-use Rattle.std.proofs.Common.{◌≡◌, ◌≢◌, ℕ, zero, suc, ◌+◌, ◌-◌, ◌*◌, ◌/◌, ◌%◌, ◌<◌, cond, eqb, List, [], ◌∷◌, ◌++◌, length, get_or, replicate, refl, sym}
-use Rattle.std.proofs.Common.{ap, ◌∙◌, subst, arith, length-append}
-use Rattle.std.specs.Prelude.{Option, Some, None}
-use Rattle.std.proofs.lemmas.List.{same_lists, get_or_default, get_or_append_left, length-replicate}
-use Rattle.std.proofs.lemmas.Bool.{ne_eqb}
-use Rattle.block_pool.specs.declared.heads.Head.{Head}
-use Rattle.block_pool.specs.Slots.{Held, blocks_for}
-use Rattle.block_pool.specs.Links.{block_at}
-use Rattle.block_pool.specs.Layout.{held_by, slots_of, head_blocks, IsMarked, IsChain, AreSoundBlocks}
+use Rattle.block_pool.proofs.Words.{AreSoundBlocks, Head, Held, IsChain, IsMarked, List, None, Option, Some, [], ap, arith, block_at, blocks_for, cond, eqb}
+use Rattle.block_pool.proofs.Words.{get_or, get_or_append_left, get_or_default, head_blocks, held_by, length, length-append, length-replicate, ne_eqb, refl}
+use Rattle.block_pool.proofs.Words.{replicate, same_lists, slots_of, subst, suc, sym, zero, ℕ, ◌%◌, ◌*◌, ◌++◌, ◌+◌, ◌-◌, ◌/◌, ◌<◌, ◌∙◌, ◌∷◌, ◌≡◌, ◌≢◌}
 use Rattle.block_pool.proofs.FreshLemmas.{get_or-filled, sum_by-filled}
 use Rattle.block_pool.proofs.LinkLemmas.{same_bytes, block_of_byte, length-slots_of, slot_is}
 

@@ -1,9 +1,6 @@
 -- Chains by their first blocks, and what writing one leaves.
-use Rattle.std.proofs.Common.{◌≡◌, ℕ, ◌<◌, inl, inr, List, length, ap, arith, get_or-set_same}
-use Rattle.std.specs.Prelude.{Option, Some, None}
-use Rattle.std.proofs.lemmas.List.{get_or_past, set-set}
-use Rattle.std.proofs.lemmas.Bool.{cases_lt}
-use Rattle.block_pool.specs.Slots.{Held, slot, with_chain, bytes_in, held_bytes, owner_in, owner_of}
+use Rattle.block_pool.proofs.Words.{Held, List, None, Option, Some, ap, arith, bytes_in, cases_lt, get_or-set_same, get_or_past, held_bytes, inl, inr, length}
+use Rattle.block_pool.proofs.Words.{owner_in, owner_of, set-set, slot, with_chain, ℕ, ◌<◌, ◌≡◌}
 
 module _ (slots : List (Option Held)) (b : ℕ) where
   -- a chain with bytes begins at a block of the pool

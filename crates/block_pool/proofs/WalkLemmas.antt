@@ -1,9 +1,8 @@
 -- Walking along linked blocks, and lists made by place.
-use Rattle.std.proofs.Common.{◌≡◌, ◌≢◌, ℕ, ◌+◌, ◌/◌, ◌%◌, ◌<◌, List, length, get_or, map, refl, sym, ◌∙◌, arith, add-one}
-use Rattle.std.specs.List.{range_with_len}
-use Rattle.std.proofs.lemmas.List.{same_lists, get_or_default}
+use Rattle.std.proofs.Common.{add-one}
 use Rattle.std.proofs.lemmas.List.FromFn.{length-map-range_with_len, get_or-map-range_with_len}
-use Rattle.block_pool.specs.Links.{block_at}
+use Rattle.block_pool.proofs.Words.{List, arith, block_at, get_or, get_or_default, length, map, range_with_len, refl, same_lists, sym, ℕ, ◌%◌, ◌+◌, ◌/◌, ◌<◌}
+use Rattle.block_pool.proofs.Words.{◌∙◌, ◌≡◌, ◌≢◌}
 
 pub block_at-more : (next : List ℕ) (first k : ℕ) → get_or next (block_at next first k) 0 ≡ block_at next first (k + 1)
 block_at-more next first k = rw add-one refl

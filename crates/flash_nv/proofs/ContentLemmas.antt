@@ -1,21 +1,18 @@
 -- What pages hold, and what a write and its steps make of it.
-use Rattle.std.proofs.Common.{◌≡◌, ◌⊎◌, inl, inr, ℕ, ◌+◌, ◌*◌, ◌^◌, ◌<◌, ◌≤◌, Bool, true, false, ◌&&◌, ◌==◌, List, Option, Some, None, length, slice_index}
-use Rattle.std.proofs.Common.{slice_index_or, slice_set, sym, refl, ap, ap₂, ◌∙◌, subst, arith, ◌-◌, ◌/◌, ◌%◌, min, take, drop, slice_range, suc, if◌then◌else◌}
-use Rattle.std.proofs.Common.{◌++◌, zero-add}
-use Rattle.std.proofs.lemmas.Bool.{cases_Bool, cases_eq, eq-eqb, eqb-true, false≢true, cases_lt}
-use Rattle.std.proofs.lemmas.List.{get_or-set_same, get_or-set_other, get_or-take, get_or-drop, length-take, length-drop, take-take, ext_get_or, length-take-le}
+use Rattle.std.proofs.lemmas.List.{take-take}
 use Rattle.std.proofs.lemmas.List.{length-append, get_or_append_left, get_or-append_right}
-use Rattle.std.proofs.lemmas.List.FromFn.{get_or-map-range_with_len}
-use Rattle.flash_nv.specs.Cells.{AreCells}
-use Rattle.flash_nv.specs.Pages.{header_at, page_header, is_valid, sector_of, version_of, is_page_of, page_below, page_of, data_byte, sector_byte, version_on}
-use Rattle.flash_nv.specs.Pages.{sector_version, IsClean, ArePages, content_byte, content_front}
-use Rattle.flash_nv.specs.Putting.{HasSector, IsPut}
-use Rattle.flash_nv.specs.Writing.{IsSectorKept, IsSectorWritten, AreLaid, IsKeptBeside, IsFrontWritten, HasSpent}
+use Rattle.flash_nv.proofs.Words.{AreCells, ArePages, AreSteps, Bool, HasSector, IsClean, IsFrontWritten, IsKeptBeside, IsPut, List, Map, None, Option, Some}
+use Rattle.flash_nv.proofs.Words.{ap, ap₂, arith, cases_Bool, cases_eq, cases_lt, content_byte, data_byte, drop, eq-eqb, eqb-true, ext_get_or, false}
+use Rattle.flash_nv.proofs.Words.{false≢true, get_or-drop, get_or-map-range_with_len, get_or-set_other, get_or-set_same, get_or-take, header_at, if◌then◌else◌}
+use Rattle.flash_nv.proofs.Words.{inl, inr, is_page_of, is_valid, length, length-content_front, length-drop, length-take, length-take-le, min, page_below}
+use Rattle.flash_nv.proofs.Words.{page_of, refl, sector_of, sectors, slice_index, slice_index_or, slice_range, slice_set, subst, suc, sym, take, true}
+use Rattle.flash_nv.proofs.Words.{version_of, version_on, zero-add, ℕ, ◌%◌, ◌&&◌, ◌*◌, ◌++◌, ◌+◌, ◌-◌, ◌/◌, ◌<◌, ◌==◌, ◌^◌, ◌∙◌, ◌≡◌, ◌≤◌, ◌⊎◌}
+use Rattle.flash_nv.specs.Pages.{content_front, page_header, sector_byte, sector_version}
+use Rattle.flash_nv.specs.Writing.{AreLaid, HasSpent, IsSectorKept, IsSectorWritten}
 use Rattle.flash_nv.proofs.PageLemmas.{of_header, of_is_valid, page_below-best, page_stays, page_replaced}
 use Rattle.flash_nv.proofs.PutLemmas.{same_header, made_sector, made_version, made_valid, OthersStay, apart, within-true}
-use Rattle.flash_nv.specs.Maps.{Map, IsNextFree, page_behind}
-use Rattle.flash_nv.specs.Steps.{IsStep, piece_byte, laid_byte, sectors, AreSteps}
-use Rattle.flash_nv.specs.Content.{length-content_front}
+use Rattle.flash_nv.specs.Maps.{IsNextFree, page_behind}
+use Rattle.flash_nv.specs.Steps.{IsStep, laid_byte, piece_byte}
 use Rattle.swp_base.specs.Outside.{overwritten, IsTorn}
 
 pub and_second : (a b : Bool) → a && b ≡ true → b ≡ true

@@ -1,3 +1,4 @@
+mod Words
 pub mod PutLemmas
 pub mod ContentLemmas
 pub mod MapLemmas

@@ -1,10 +1,9 @@
 -- A pass over the pages finds the page of each sector.
-use Rattle.std.proofs.Common.{◌≡◌, ◌⊎◌, inl, inr, ℕ, ◌+◌, ◌<◌, Bool, true, false, ◌&&◌, if◌then◌else◌, List, Option, Some, None, replicate, slice_index}
-use Rattle.std.proofs.Common.{slice_index_or, slice_set, length, sym, ap, ◌∙◌, arith, add-one}
-use Rattle.std.proofs.lemmas.Bool.{cases_eq}
-use Rattle.std.proofs.lemmas.List.{get_or-set_same, get_or-set_other}
-use Rattle.flash_nv.specs.Pages.{header_at, is_valid, sector_of, version_of, is_page_of, is_newer, page_below}
-use Rattle.flash_nv.specs.Scanning.{ArePagesFound, beats}
+use Rattle.std.proofs.Common.{add-one}
+use Rattle.flash_nv.proofs.Words.{ArePagesFound, Bool, List, None, Option, Some, ap, arith, cases_eq, false, get_or-set_other, get_or-set_same, header_at}
+use Rattle.flash_nv.proofs.Words.{if◌then◌else◌, inl, inr, is_newer, is_page_of, is_valid, length, page_below, replicate, sector_of, slice_index}
+use Rattle.flash_nv.proofs.Words.{slice_index_or, slice_set, sym, true, version_of, ℕ, ◌&&◌, ◌+◌, ◌<◌, ◌∙◌, ◌≡◌, ◌⊎◌}
+use Rattle.flash_nv.specs.Scanning.{beats}
 use Rattle.flash_nv.proofs.MapLemmas.{none_at, some_is, none_is}
 use Rattle.flash_nv.proofs.PageLemmas.{page_below-suc, page_below-zero}
 

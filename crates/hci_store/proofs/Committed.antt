@@ -1,41 +1,38 @@
 -- The tables that the commands of a journal's records make, their snapshot, and what a commit or a cut of it leaves.
-use Rattle.std.proofs.Common.{◌≡◌, ℕ, ◌+◌, ◌*◌, ◌/◌, ◌%◌, ◌≤◌, Bool, true, false, not, cond, ◌&&◌, ◌==◌, nat_le, List, [], ◌∷◌, length, fold, map, Some, None}
-use Rattle.std.proofs.Common.{is_some, sym, refl, ap, ◌∙◌, arith, eqb-true, nat_lt, ◌++◌, filter, ap₂, subst, append_assoc, append-nil, ◌⊎◌, inl, inr, zero}
-use Rattle.std.proofs.Common.{suc, take, slice_get, add-one, add-zero, Result, Ok, Err, OnOk, IfErr, IsTrue, ◌<◌, ◌^◌, slice_index, IsSome}
-use Rattle.std.specs.Option.{option_map_or}
+use Rattle.std.proofs.Common.{IfErr, IsSome, OnOk, add-one, add-zero, append-nil, append_assoc, ap₂, eqb-true, is_some, nat_le, nat_lt, not, slice_index, suc}
+use Rattle.std.proofs.Common.{zero, ◌%◌, ◌&&◌, ◌/◌, ◌<◌, ◌^◌}
 use Rattle.std.specs.List.{AllByRecursion, All}
 use Rattle.std.proofs.lemmas.Bool.{and_parts, leb-true, le-leb, not-true, and_from, lt-ltb, true≢false}
 use Rattle.std.proofs.lemmas.List.Elements.{All-from_recursion}
-use Rattle.std.proofs.lemmas.Bool.Decides.{nat_tests}
+use Rattle.hci_store.proofs.Words.{AreMade, BadRecord, Bool, Err, GenerationsSpent, HasRoomForBody, HciTables, HoldsTables, IsKnown, IsRecordable, IsSound}
+use Rattle.hci_store.proofs.Words.{IsTrue, JournalFault, Keeps, LeftByCut, List, None, NvFault, Ok, Result, Says, Some, State, [], after_writes, ap, appended}
+use Rattle.hci_store.proofs.Words.{applied, apply, are_commands, arith, body_of, close, command_of, compact_writes, cond, count_of, create_command, false}
+use Rattle.hci_store.proofs.Words.{fault, filter, first_other, fold, gate_at, inl, inr, is_known, is_opened_gate, journal, length, map, nat_tests, no_tables}
+use Rattle.hci_store.proofs.Words.{open_command, option_map_or, pid_of, place_of_value, records, refl, set_command, slice_get, static_command, static_place}
+use Rattle.hci_store.proofs.Words.{subst, sym, sync_command, sync_host, tables_of, take, true, used, ℕ, ◌*◌, ◌++◌, ◌+◌, ◌==◌, ◌∙◌, ◌∷◌, ◌≡◌, ◌≤◌, ◌⊎◌}
 use Rattle.whitelist.specs.Whitelist.{holds, all_differ, is_whitelist}
-use Rattle.registry.specs.Values.{is_kept, is_default, value_place, place_of_value, IsPresent}
+use Rattle.registry.specs.Values.{IsPresent, is_default, is_kept, value_place}
 use Rattle.registry.specs.declared.value.RegValue.{RegValue}
 use Rattle.hci_tables.specs.declared.command.Command.{Command}
 use Rattle.hci_tables.specs.declared.command.Command.TheVariants.{Create, Delete, Clear, SetOpened, Set, Sync}
 use Rattle.hci_tables.specs.Commands.{is_dynamic, is_host, is_allowed, IsCommand}
-use Rattle.hci_tables.specs.Bodies.{body_of, command_of, if_command}
-use Rattle.hci_tables.specs.Tables.{HciTables, apply, no_tables, with_static, is_kept_sync, without_identity, close, sync_host, static_place, AreTables}
-use Rattle.hci_store.specs.Image.{applied, are_commands, first_other, image_fault, tables_of}
-use Rattle.hci_store.specs.Snapshots.{create_command, set_command, sync_command, open_command, static_command, snapshot_of}
-use Rattle.hci_store.specs.Recordable.{IsRecordable}
-use Rattle.hci_store.specs.Stored.{HoldsTables, Keeps}
+use Rattle.hci_tables.specs.Bodies.{if_command}
+use Rattle.hci_tables.specs.Tables.{AreTables, is_kept_sync, with_static, without_identity}
+use Rattle.hci_store.specs.Image.{image_fault}
+use Rattle.hci_store.specs.Snapshots.{snapshot_of}
 use Rattle.hci_store.specs.Committing.{room_writes, with_room, commit_writes, record_fits, snapshot_bodies, committed}
 use Rattle.pipe_table.specs.declared.row.PipeRow.{PipeRow}
-use Rattle.pipe_table.specs.PipeRows.{as_opened, joins_host, all_closed, with_pipe, with_opened, pid_of, ArePipeRows}
+use Rattle.pipe_table.specs.PipeRows.{ArePipeRows, all_closed, as_opened, joins_host, with_opened, with_pipe}
 use Rattle.sorted_rows.specs.Rows.{AreRows, rows_before, rows_behind, with_row}
 use Rattle.sorted_rows.proofs.RowLemmas.{AreRows-map}
-use Rattle.nv_journal.specs.declared.JournalFault.{JournalFault}
-use Rattle.nv_journal.specs.declared.JournalFault.TheVariants.{BadRecord, UnknownFormat, NvFault, GenerationsSpent}
-use Rattle.nv_journal.specs.Faults.{IsKnown, is_known, IsFaulty, fault}
-use Rattle.nv_journal.specs.Kept.{Says}
+use Rattle.nv_journal.specs.declared.JournalFault.TheVariants.{UnknownFormat}
+use Rattle.nv_journal.specs.Faults.{IsFaulty}
 use Rattle.nv_journal.proofs.Appending as appending
 use Rattle.nv_journal.proofs.Compacting as compacting
-use Rattle.journal_laws.specs.Journal.{journal, records, gate_at, IsSound, Journal, count_of}
-use Rattle.journal_laws.specs.Writes.{Write, AreMade, after_writes, last_place}
-use Rattle.journal_laws.specs.declared.state.State.{State}
-use Rattle.journal_laws.specs.Operations.{append_writes, compact_writes, HasRoomForBody, CanCompact, appended, compacted, LeftByCut}
-use Rattle.journal_laws.specs.Banks.{is_opened_gate}
-use Rattle.journal_laws.specs.Records.{IsBody, used}
+use Rattle.journal_laws.specs.Journal.{Journal}
+use Rattle.journal_laws.specs.Writes.{Write, last_place}
+use Rattle.journal_laws.specs.Operations.{CanCompact, append_writes, compacted}
+use Rattle.journal_laws.specs.Records.{IsBody}
 use Rattle.journal_laws.proofs.Opening.{compact_count, same_count}
 
 -- a value that is allowed is short

@@ -1,3 +1,4 @@
+mod Words
 pub mod Committed
 pub mod Refusing
 pub mod Starting

@@ -1,15 +1,11 @@
 -- Why a start of a store is refused.
-use Rattle.std.proofs.Common.{◌≡◌, ◌⊎◌, inl, inr, ℕ, ◌≤◌, Bool, true, false, cond, List, Some, IsTrue, sym, ap, ◌∙◌, subst, arith}
-use Rattle.std.specs.Option.{option_map_or}
+use Rattle.hci_store.proofs.Words.{BadRecord, Bool, GenerationsSpent, IsKnown, IsOnlyRead, IsTrue, JournalFault, List, NvFault, Some, ap, arith, cond, false}
+use Rattle.hci_store.proofs.Words.{fault, first_other, gate_at, inl, inr, is_known, journal, option_map_or, records, subst, sym, true, ℕ, ◌∙◌, ◌≡◌, ◌≤◌, ◌⊎◌}
 use Rattle.swp_base.specs.Outside.{Rose}
-use Rattle.nv_journal.specs.declared.JournalFault.{JournalFault}
-use Rattle.nv_journal.specs.declared.JournalFault.TheVariants.{NvFault, GenerationsSpent, BadRecord}
-use Rattle.journal_laws.specs.Journal.{journal, records, gate_at}
 use Rattle.journal_laws.specs.Writes.{AreRead}
-use Rattle.nv_journal.specs.Faults.{is_known, IsKnown, fault}
 use Rattle.nv_journal.specs.Refusals as journal_refusals
-use Rattle.hci_store.specs.Image.{first_other, image_fault}
-use Rattle.hci_store.specs.Refusals.{AreRecordsRefused, IsOnlyRead}
+use Rattle.hci_store.specs.Image.{image_fault}
+use Rattle.hci_store.specs.Refusals.{AreRecordsRefused}
 
 pub unknown_is_told : (content : List ℕ) → is_known (journal content).head.version ≡ false → image_fault content ≡ fault content
 unfolding image_fault

@@ -1,17 +1,12 @@
 -- What a start finds in the bank in use.
-use Rattle.std.proofs.Common.{◌≡◌, ◌≢◌, ℕ, Bool, true, false, ◌==◌, ◌||◌, List, [], ◌++◌, Option, Some, None, IsTrue, sym, refl, ap, ◌∙◌, subst, arith}
-use Rattle.std.specs.Option.{option_map_or}
-use Rattle.std.proofs.lemmas.Bool.Decides.{nat_tests}
+use Rattle.std.proofs.Common.{Option, ◌||◌, ◌≢◌}
+use Rattle.hci_store.proofs.Words.{AreMade, Bool, HciTables, IsTrue, List, None, Says, Some, State, [], ap, are_commands, arith, close, count, count_of, false}
+use Rattle.hci_store.proofs.Words.{format_writes, formatted, is_opened_gate, journal, migration_writes, nat_tests, option_map_or, records, refl, start_writes}
+use Rattle.hci_store.proofs.Words.{started_state, subst, sym, tables_of, true, ℕ, ◌++◌, ◌==◌, ◌∙◌, ◌≡◌}
 use Rattle.journal_laws.specs.declared.banks.Side.{Side}
-use Rattle.journal_laws.specs.declared.state.State.{State}
-use Rattle.journal_laws.specs.Writes.{AreMade}
-use Rattle.journal_laws.specs.Banks.{other, is_opened_gate, head, current}
-use Rattle.journal_laws.specs.Journal.{unformatted, journal_at, journal, records, state_by, state_of, count_of, count}
-use Rattle.journal_laws.specs.Operations.{format_writes, formatted, start_writes, started_state}
-use Rattle.nv_journal.specs.Kept.{Says}
-use Rattle.hci_tables.specs.Tables.{HciTables, close}
-use Rattle.hci_store.specs.Image.{are_commands, tables_of}
-use Rattle.hci_store.specs.Starting.{migration_writes, migrated, ready_writes, ready_state}
+use Rattle.journal_laws.specs.Banks.{current, head, other}
+use Rattle.journal_laws.specs.Journal.{journal_at, state_by, state_of, unformatted}
+use Rattle.hci_store.specs.Starting.{migrated, ready_state, ready_writes}
 use Rattle.hci_store.specs.Refusals.{IsSpent}
 use Rattle.hci_store.proofs.Committed.{sound_has_no_fault}
 

@@ -1,15 +1,8 @@
 -- Giving a joiner's chains back one by one, and a pool that changed at one chain.
-use Rattle.std.proofs.Common.{◌≡◌, ℕ, ◌+◌, ◌-◌, ◌<◌, ◌≤◌, List, [], ◌∷◌, ◌++◌, length, refl, sym, ap, ◌∙◌, subst, arith, get_or-set_same, length-set}
-use Rattle.std.specs.List.{AllByRecursion}
-use Rattle.std.proofs.lemmas.List.{append-nil}
-use Rattle.std.proofs.lemmas.List.Sums.{sum_by-cons, sum_by_push}
-use Rattle.block_pool.specs.declared.chain.Chain.{Chain}
-use Rattle.block_pool.specs.declared.owners.Owner.{Owner}
-use Rattle.block_pool.specs.Slots.{blocks_for}
-use Rattle.block_pool.specs.Owners.{owner_at, with_used}
-use Rattle.block_pool.specs.Pool.{PoolState, HasQuota, used_of, IsApart, chain_bytes, KeepsOthers, Gives}
-use Rattle.hcp_chain.specs.declared.joiner.Open.{Open}
-use Rattle.hcp_chain.specs.declared.joiner.Joiner.{Joiner}
+use Rattle.std.proofs.Common.{get_or-set_same, length-set}
+use Rattle.hcp_chain.proofs.Words.{AllByRecursion, Chain, Gives, HasQuota, IsApart, Joiner, KeepsOthers, List, Open, Owner, PoolState, [], ap, append-nil}
+use Rattle.hcp_chain.proofs.Words.{arith, blocks_for, chain_bytes, length, owner_at, refl, subst, sum_by-cons, sum_by_push, sym, used_of, with_used, ℕ, ◌++◌}
+use Rattle.hcp_chain.proofs.Words.{◌+◌, ◌-◌, ◌<◌, ◌∙◌, ◌∷◌, ◌≡◌, ◌≤◌}
 use Rattle.hcp_chain.specs.Holding.{message_of, messages_in, IsJoinerReady, IsOwnOpen, AreApart, HoldsChains, held_blocks, KeepsOtherChains}
 use Rattle.hcp_chain.proofs.HoldingLemmas.{all_front, all_map, apart_front}
 use Rattle.block_pool.proofs.HoldingLemmas.{with_used-with_used, with_used-same, used-with_used}

@@ -1,8 +1,7 @@
 -- Joining packets one at a time gives the messages of the packets.
-use Rattle.std.proofs.Common.{◌≡◌, ℕ, Bool, true, false, cond, not, ◌&&◌, eqb, ltb, List, [], ◌∷◌, ◌++◌, length, refl, sym, ap, ◌∙◌, subst, arith, rules}
 use Rattle.std.specs.Prelude.{IsTrue}
-use Rattle.std.proofs.lemmas.List.{append-nil}
-use Rattle.hcp_packet.specs.declared.Packet.{Packet}
+use Rattle.hcp_chain.proofs.Words.{Bool, List, Packet, [], ap, append-nil, arith, cond, eqb, false, length, ltb, not, refl, rules, subst, sym, true, ℕ, ◌&&◌}
+use Rattle.hcp_chain.proofs.Words.{◌++◌, ◌∙◌, ◌∷◌, ◌≡◌}
 use Rattle.hcp_packet.specs.Packets.{under_way, message_ended_by, messages_after, messages_of}
 use Rattle.hcp_chain.specs.Joining.{Nothing, Message, so_far, others, is_fifth, grown, join_step, message_in, is_fault, are_taken, given_by}
 use Rattle.hcp_packet.proofs.Joining.{under_way-push}

@@ -1,17 +1,11 @@
 -- Appending a packet's data to the chain of its message.
-use Rattle.std.proofs.Common.{◌≡◌, ◌≢◌, ℕ, ◌+◌, ◌*◌, ◌≤◌, List, [], ◌∷◌, ◌++◌, length, sym, ap, ◌∙◌, subst, arith, length-append}
+use Rattle.std.proofs.Common.{length-append}
 use Rattle.std.specs.Prelude.{Result, Ok, Err, IsOk, OnOk}
-use Rattle.std.specs.List.{AllByRecursion}
 use Rattle.std.proofs.lemmas.List.{map_push}
-use Rattle.std.proofs.lemmas.List.Sums.{sum_by-cons, sum_by_push}
-use Rattle.block_pool.specs.declared.chain.Chain.{Chain}
-use Rattle.block_pool.specs.Slots.{blocks_for}
-use Rattle.block_pool.specs.Pool.{PoolState, used_of, spare_of, chain_spare, IsLive, IsApart, chain_bytes, more_blocks, KeepsOthers, Appends}
-use Rattle.hcp_packet.specs.declared.Packet.{Packet}
-use Rattle.hcp_chain.specs.declared.joiner.Open.{Open}
-use Rattle.hcp_chain.specs.declared.joiner.Joiner.{Joiner}
+use Rattle.hcp_chain.proofs.Words.{AllByRecursion, CanGrow, Chain, Grown, IsApart, IsLive, Joiner, KeepsOthers, List, Open, Packet, PoolState, [], ap, arith}
+use Rattle.hcp_chain.proofs.Words.{blocks_for, chain_bytes, length, subst, sum_by-cons, sum_by_push, sym, used_of, ℕ, ◌*◌, ◌++◌, ◌+◌, ◌∙◌, ◌∷◌, ◌≡◌, ◌≢◌, ◌≤◌}
+use Rattle.block_pool.specs.Pool.{Appends, chain_spare, more_blocks, spare_of}
 use Rattle.hcp_chain.specs.Holding.{message_of, messages_in, IsOwnOpen, AreApart, held_blocks}
-use Rattle.hcp_chain.specs.TakingOut.{CanGrow, Grown}
 use Rattle.hcp_chain.proofs.HoldingLemmas.{all_push, all_map, all_both, apart_push}
 use Rattle.hcp_chain.proofs.ClearLemmas.{kept}
 

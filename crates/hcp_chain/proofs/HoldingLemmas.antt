@@ -1,20 +1,17 @@
 -- Chains of messages under way: one taken out, one put behind, and a pool that changed elsewhere.
-use Rattle.std.proofs.Common.{◌≡◌, ◌≢◌, ℕ, zero, suc, ◌+◌, ◌<◌, ◌≤◌, Bool, true, false, cond, not, ◌&&◌, eqb, leb, ltb, List, [], ◌∷◌, ◌++◌, length}
-use Rattle.std.proofs.Common.{get_or, refl, sym, ap, ◌∙◌, subst, arith}
+use Rattle.std.proofs.Common.{get_or, suc, zero}
 use Rattle.std.proofs.lemmas.Bool.{eq-eqb, ne_eqb}
-use Rattle.std.specs.Prelude.{Some, None, remove}
-use Rattle.std.specs.List.{AllByRecursion, position, prefix_len}
+use Rattle.std.specs.Prelude.{remove}
+use Rattle.std.specs.List.{prefix_len}
 use Rattle.std.proofs.lemmas.List.{length-map}
 use Rattle.std.proofs.lemmas.List.Sums.{sum_by-remove}
 use Rattle.std.proofs.lemmas.List.Quantifiers.{position-Some}
-use Rattle.std.proofs.lemmas.Grind.{common_steps}
 use Rattle.std.proofs.lemmas.Option.{none-some}
-use Rattle.block_pool.specs.declared.chain.Chain.{Chain}
-use Rattle.block_pool.specs.Slots.{blocks_for}
+use Rattle.hcp_chain.proofs.Words.{AllByRecursion, Bool, Chain, HasQuota, IsApart, Joiner, List, None, Open, PoolState, Some, [], ap, arith, blocks_for}
+use Rattle.hcp_chain.proofs.Words.{chain_bytes, common_steps, cond, eqb, false, leb, length, ltb, not, position, refl, subst, sym, true, ℕ, ◌&&◌, ◌++◌, ◌+◌}
+use Rattle.hcp_chain.proofs.Words.{◌<◌, ◌∙◌, ◌∷◌, ◌≡◌, ◌≢◌, ◌≤◌}
 use Rattle.block_pool.specs.Names.{named_bytes, IsLiveAt}
-use Rattle.block_pool.specs.Pool.{PoolState, HasQuota, IsEmptyChain, IsApart, chain_bytes}
-use Rattle.hcp_chain.specs.declared.joiner.Open.{Open}
-use Rattle.hcp_chain.specs.declared.joiner.Joiner.{Joiner}
+use Rattle.block_pool.specs.Pool.{IsEmptyChain}
 use Rattle.hcp_chain.specs.TakingOut.{TakesOut}
 use Rattle.hcp_chain.specs.Joining.{is_message_open, so_far, others, is_fifth}
 use Rattle.hcp_chain.specs.Holding.{message_of, messages_in, IsOwnOpen, AreApart, ArePairwiseApart, HoldsChains, held_blocks, IsApartFrom}

@@ -1,3 +1,4 @@
+mod Words
 pub mod GivenLemmas
 pub mod CutLemmas
 pub mod HoldingLemmas

@@ -1,15 +1,9 @@
 -- Joining on, and a joiner that can take the next packet again after its message was given back or passed on.
-use Rattle.std.proofs.Common.{◌≡◌, ◌≢◌, ℕ, ◌+◌, ◌-◌, Bool, not, ◌&&◌, List, [], ◌∷◌, ◌++◌, length, refl, sym, ap, ◌∙◌, arith, append_assoc}
-use Rattle.std.proofs.lemmas.List.Sums.{sum_by_push}
-use Rattle.block_pool.specs.declared.chain.Chain.{Chain}
-use Rattle.block_pool.specs.declared.owners.Owner.{Owner}
-use Rattle.block_pool.specs.Slots.{blocks_for}
-use Rattle.block_pool.specs.Owners.{owner_at, with_used}
-use Rattle.block_pool.specs.Pool.{PoolState, used_of, IsApart, chain_bytes, KeepsOthers, Gives, Passes}
+use Rattle.std.proofs.Common.{append_assoc}
+use Rattle.hcp_chain.proofs.Words.{Bool, Chain, Gives, IsApart, Joiner, KeepsOthers, List, Open, Owner, Packet, PoolState, [], ap, arith, blocks_for}
+use Rattle.hcp_chain.proofs.Words.{chain_bytes, length, not, owner_at, refl, sum_by_push, sym, used_of, with_used, ℕ, ◌&&◌, ◌++◌, ◌+◌, ◌-◌, ◌∙◌, ◌∷◌, ◌≡◌, ◌≢◌}
+use Rattle.block_pool.specs.Pool.{Passes}
 use Rattle.block_pool.proofs.HoldingLemmas.{used-with_used, quota-with_used, other-with_used, length-with_used}
-use Rattle.hcp_packet.specs.declared.Packet.{Packet}
-use Rattle.hcp_chain.specs.declared.joiner.Open.{Open}
-use Rattle.hcp_chain.specs.declared.joiner.Joiner.{Joiner}
 use Rattle.hcp_chain.specs.Joining.{join_step, message_in, is_fault, are_taken, given_by, open_after}
 use Rattle.hcp_chain.specs.Holding.{IsJoinerReady, IsOwnOpen, AreApart, HoldsWhole, held_blocks}
 use Rattle.hcp_chain.proofs.HoldingLemmas.{all_front, all_map, apart_front}

@@ -1,30 +1,17 @@
 -- What calls on a pool and on other ends leave of an end: what it stands for, and its account of the blocks for what comes.
-use Rattle.std.proofs.Common.{◌≡◌, ◌≢◌, ℕ, ◌+◌, ◌-◌, ◌≤◌, ◌⊎◌, inl, inr, false, List, [], ◌∷◌, ◌++◌, length, drop, refl, sym, ap, ◌∙◌, subst, arith}
-use Rattle.std.specs.Prelude.{Option, Some, None, option_map, IfSome, IfNone, zero, suc, ◌<◌, slice_get}
-use Rattle.std.specs.List.{AllByRecursion}
-use Rattle.std.proofs.lemmas.List.{append-nil}
-use Rattle.block_pool.specs.declared.chain.Chain.{Chain}
-use Rattle.block_pool.specs.declared.owners.Owner.{Owner}
-use Rattle.block_pool.specs.Slots.{blocks_for}
-use Rattle.block_pool.specs.Owners.{owner_at, with_used, new_owners}
-use Rattle.block_pool.specs.Pool.{PoolState, IsNew, quota_of, used_of, IsLive, IsApart, chain_bytes, Gives, KeepsOthers}
-use Rattle.block_pool.specs.Holdings.{IsOwnChain as IsChainOf, OwnsAll, LiesApart}
+use Rattle.std.specs.Prelude.{IfNone, slice_get, suc, zero}
+use Rattle.link_end.proofs.Words.{AllByRecursion, Chain, End, EndStandsFor, Got, HoldsChains, IfSome, Inbox, IsApart, IsApartFrom, IsChainOf, IsFree, IsLive}
+use Rattle.link_end.proofs.Words.{IsOwnOpen, LeavesOthersBut, LiesApart, List, Machine, MayPass, MayTake, None, Open, Option, Owner, OwnsAll, PoolState, Queued}
+use Rattle.link_end.proofs.Words.{Some, [], ap, append-nil, arith, blocks_for, chain_bytes, chain_in, chains_in, drop, false, fragments_of, got_chains}
+use Rattle.link_end.proofs.Words.{held_blocks, held_both, inl, inr, length, messages_of, messages_same, option_map, owner_at, queued_messages, quota_of, refl}
+use Rattle.link_end.proofs.Words.{subst, sym, used_of, waiting_in, ℕ, ◌++◌, ◌+◌, ◌-◌, ◌<◌, ◌∙◌, ◌∷◌, ◌≡◌, ◌≢◌, ◌≤◌, ◌⊎◌}
+use Rattle.block_pool.specs.Owners.{new_owners, with_used}
+use Rattle.block_pool.specs.Pool.{Gives, IsNew, KeepsOthers}
 use Rattle.block_pool.proofs.HoldingLemmas.{apart_by_owner, apart_turned, all_mapped, all_joined, kept_each, lies_apart_by_owner, used-with_used}
 use Rattle.block_pool.proofs.HoldingLemmas.{quota-with_used, other-with_used, length-with_used}
-use Rattle.hcp_packet.specs.Packets.{fragments_of}
-use Rattle.hcp_chain.specs.declared.joiner.Open.{Open}
-use Rattle.hcp_chain.specs.Holding.{IsOwnOpen, AreApart, HoldsChains, held_blocks, messages_in as messages_of, IsApartFrom}
+use Rattle.hcp_chain.specs.Holding.{AreApart}
 use Rattle.hcp_chain.proofs.HoldingLemmas.{all_front, all_map, apart_front}
-use Rattle.link_laws.specs.machine.Machine.{LinkEnd as Machine}
-use Rattle.link_messages.specs.declared.outbox.Queued.{Queued}
-use Rattle.link_messages.specs.declared.inbox.Got.{Got}
-use Rattle.link_messages.specs.declared.inbox.Inbox.{Inbox}
-use Rattle.link_messages.specs.Outgoing.{chain_in, queued_messages, waiting_in, LeavesOthersBut}
-use Rattle.link_messages.specs.Incoming.{got_chains, chains_in}
-use Rattle.link_messages.proofs.OutgoingLemmas.{messages_same}
-use Rattle.link_messages.proofs.IncomingLemmas.{held_both}
-use Rattle.link_end.specs.Ends.{EndStandsFor, EndLeavesOthers, MayTake, MayPass, HaveOwners, IsFetched, Accounts, Rests, IsFree, blocks_of}
-use Rattle.link_end.specs.declared.«end».End.{End}
+use Rattle.link_end.specs.Ends.{Accounts, EndLeavesOthers, HaveOwners, IsFetched, Rests, blocks_of}
 use Rattle.link_end.proofs.BoxLemmas.{OpensKept, opens_passed}
 
 -- a chain has its bytes still

@@ -1,27 +1,13 @@
 -- What is sent and what comes have two owners: what is done with the one leaves the other.
-use Rattle.std.proofs.Common.{◌≡◌, ◌≢◌, ℕ, ◌+◌, ◌≤◌, inl, inr, List, [], ◌∷◌, ◌++◌, length, refl, sym, ap, ◌∙◌, subst, arith}
-use Rattle.std.specs.List.{AllByRecursion}
 use Rattle.std.proofs.lemmas.Bool.{cases_eq}
-use Rattle.std.proofs.lemmas.List.Sums.{sum_by-cons}
-use Rattle.block_pool.specs.declared.chain.Chain.{Chain}
-use Rattle.block_pool.specs.declared.owners.Owner.{Owner}
-use Rattle.block_pool.specs.Slots.{blocks_for}
-use Rattle.block_pool.specs.Owners.{owner_at}
-use Rattle.block_pool.specs.Pool.{PoolState, quota_of, used_of, aside_of, IsLive, IsApart, chain_bytes}
-use Rattle.block_pool.specs.Holdings.{IsOwnChain as IsChainOf, OwnsAll, LiesApart}
+use Rattle.link_end.proofs.Words.{AllByRecursion, Chain, End, Halfway, Inbox, InboxLeaves, InboxLiesIn, IsApart, IsApartFrom, IsChainOf, IsLive, IsOwnOpen}
+use Rattle.link_end.proofs.Words.{LeavesBoxes, LeavesOthersBut, LiesApart, List, Machine, MayPass, Open, Outbox, OutboxLeaves, OutboxLiesIn, Owner, OwnsAll}
+use Rattle.link_end.proofs.Words.{PoolState, Queued, [], ap, arith, aside_of, blocks_for, came_whole, chain_bytes, chain_in, chains_in, front_holds, got_chains}
+use Rattle.link_end.proofs.Words.{held_blocks, inl, inr, length, messages_of, messages_same, messages_under_way, owner_at, queued_messages, quota_of, refl}
+use Rattle.link_end.proofs.Words.{subst, sum_by-cons, sym, used_of, ℕ, ◌++◌, ◌+◌, ◌∙◌, ◌∷◌, ◌≡◌, ◌≢◌, ◌≤◌}
 use Rattle.block_pool.proofs.HoldingLemmas.{apart_by_owner, apart_turned, all_mapped, all_joined, kept_each, other-with_used, length-with_used}
-use Rattle.hcp_chain.specs.declared.joiner.Open.{Open}
-use Rattle.hcp_chain.specs.Holding.{IsOwnOpen, held_blocks, messages_in as messages_of, message_of, IsApartFrom}
-use Rattle.link_laws.specs.machine.Machine.{LinkEnd as Machine}
-use Rattle.link_messages.specs.declared.outbox.Queued.{Queued}
-use Rattle.link_messages.specs.declared.outbox.Outbox.{Outbox}
-use Rattle.link_messages.specs.declared.inbox.Inbox.{Inbox}
-use Rattle.link_messages.specs.Outgoing.{chain_in, queued_messages, OutboxLiesIn, OutboxLeavesOthers as OutboxLeaves, LeavesOthersBut}
-use Rattle.link_messages.specs.Incoming.{got_chains, chains_in, messages_under_way, came_whole, InboxLiesIn, InboxLeavesOthers as InboxLeaves}
-use Rattle.link_messages.proofs.OutgoingLemmas.{messages_same}
-use Rattle.link_messages.proofs.IncomingLemmas.{front_holds, front_apart}
-use Rattle.link_end.specs.Ends.{Halfway, MayPass, LeavesBoxes}
-use Rattle.link_end.specs.declared.«end».End.{End}
+use Rattle.hcp_chain.specs.Holding.{message_of}
+use Rattle.link_messages.proofs.IncomingLemmas.{front_apart}
 
 -- ---- what comes, where what is sent changed
 

@@ -1,40 +1,20 @@
 -- What parts of a step leave of a link end.
-use Rattle.std.proofs.Common.{arith}
-use Rattle.std.proofs.Common.{◌≡◌, ◌≢◌, ℕ, ◌+◌, ◌-◌, ◌<◌, ◌⊎◌, inl, inr, Bool, true, List, [], ◌∷◌, ◌++◌, length, map, drop, min, refl, sym, ap, ◌∙◌, subst}
-use Rattle.std.specs.Prelude.{Option, Some, None, if◌then◌else◌}
-use Rattle.arrayvec.specs.ArrayVec.{ArrayVec}
-use Rattle.block_pool.specs.Owners.{owner_at}
-use Rattle.block_pool.specs.Pool.{PoolState, used_of, aside_of}
+use Rattle.link_end.proofs.Words.{Act, ActDue, ArrayVec, Bool, Cause, Due, End, EndStandsFor, EndState, ForgetsMessages, Fragment, Halfway, Inbox, InboxLeaves}
+use Rattle.link_end.proofs.Words.{InboxLiesIn, KeptEnd, LinkReport, List, Machine, None, Option, Outbox, OutboxLeaves, OutboxLiesIn, PoolState, Role}
+use Rattle.link_end.proofs.Words.{ShdlcStandsFor, Some, StandsBefore, Up, [], act_told, activated, ap, arith, aside-with_used, aside_of, came_whole, chains_in}
+use Rattle.link_end.proofs.Words.{drop, due_of, fragments_of, held_blocks, if◌then◌else◌, inl, inr, kept_in_front, length, map, messages_of, messages_of_all}
+use Rattle.link_end.proofs.Words.{messages_under_way, min, moved, nothing_told, owner_at, put_down, queued_messages, refl, role_of, stopped, subst, sym, true}
+use Rattle.link_end.proofs.Words.{used_of, waiting_in, with_act, with_out, ℕ, ◌++◌, ◌+◌, ◌-◌, ◌<◌, ◌∙◌, ◌∷◌, ◌≡◌, ◌≢◌, ◌⊎◌}
 use Rattle.std.proofs.lemmas.List.{map_push}
-use Rattle.swp_base.specs.declared.control_frames.Act.{Act}
-use Rattle.hcp_packet.specs.Packets.{fragments_of}
-use Rattle.hcp_chain.specs.Holding.{held_blocks, messages_in as messages_of}
-use Rattle.shdlc_core.specs.declared.answers.LinkState.TheVariants.{Up}
-use Rattle.shdlc_core.specs.Kept.{KeptEnd, ShdlcStandsFor}
-use Rattle.shdlc_core.specs.Machine.{EndState, Fragment, offered, stopped}
-use Rattle.shdlc_core.specs.Offering.{StandsBefore, with_out}
+use Rattle.shdlc_core.specs.Machine.{offered}
 use Rattle.shdlc_core.proofs.Offering.{stands_offered, stands_idle, stands_stopped}
-use Rattle.swp_base.specs.declared.link_terms.Cause.{Cause}
 use Rattle.swp_base.specs.declared.link_terms.Cause.TheVariants.{Act as ByAct}
 use Rattle.swp_act.specs.declared.ActEvent.{ActEvent}
 use Rattle.swp_act.specs.declared.ActOut.{ActOut}
-use Rattle.link_laws.specs.machine.Machine.{LinkEnd as Machine, ActDue as Due, Role, moved, put_down, with_act, activated, act_answer, role_after, if_up}
+use Rattle.link_laws.specs.machine.Machine.{act_answer, if_up, role_after}
 use Rattle.link_laws.specs.machine.Machine.{in_front as due_in_front}
-use Rattle.link_messages.specs.declared.outbox.Outbox.{Outbox}
-use Rattle.link_messages.specs.declared.inbox.Inbox.{Inbox}
-use Rattle.link_messages.specs.Outgoing.{queued_messages, messages_of_all, waiting_in, OutboxLiesIn, OutboxLeavesOthers as OutboxLeaves}
-use Rattle.link_messages.specs.Incoming.{chains_in, messages_under_way, came_whole, InboxLiesIn, InboxLeavesOthers as InboxLeaves}
-use Rattle.link_messages.proofs.OutgoingLemmas.{aside-with_used}
-use Rattle.link_end.specs.Dues.{kept_in_front}
-use Rattle.link_end.specs.Steps.{ForgetsMessages}
-use Rattle.link_end.specs.declared.acts.ActDue.{ActDue}
 use Rattle.link_end.proofs.BoxLemmas.{inbox_kept, outbox_kept, leaves_out, leaves_in, leaves_more}
-use Rattle.link_end.specs.Ends.{due_of, Halfway, EndStandsFor}
-use Rattle.link_end.specs.Roles.{role_of}
-use Rattle.link_end.specs.Reports.{nothing_told, act_told}
-use Rattle.link_end.specs.declared.report.LinkReport.{LinkReport}
 use Rattle.link_end.specs.declared.activation.Activation.{Activation}
-use Rattle.link_end.specs.declared.«end».End.{End}
 
 -- ---- offering what waits
 

@@ -1,9 +1,5 @@
 -- The input forms of a link end.
-use Rattle.std.proofs.Common.{◌≡◌, List, arith}
-use Rattle.std.specs.Prelude.{Some}
-use Rattle.swp_base.specs.declared.control_frames.Control.{Control}
-use Rattle.swp_lpdu.specs.Controls.{HasNumbers}
-use Rattle.link_laws.specs.machine.Machine.{LinkEnd as Machine, ActDue as Due, next_frame}
+use Rattle.link_end.proofs.Words.{Control, Due, HasNumbers, List, Machine, Some, arith, next_frame, ◌≡◌}
 
 numbers_in : (m : Machine) (acts : List Due) (c : Control) → next_frame (record m { acts = acts }) ≡ Some c → HasNumbers c
 numbers_in m acts c is = grind arith

@@ -1,44 +1,29 @@
 -- What a frame of SHDLC does to a link end that is open.
-use Rattle.std.proofs.Common.{◌≡◌, ℕ, ◌+◌, ◌-◌, ◌≤◌, ◌⊎◌, inl, inr, Bool, true, false, List, [], ◌∷◌, ◌++◌, length, drop, refl, sym, ap, ◌∙◌, subst, arith}
-use Rattle.std.proofs.Common.{length-append, length-drop}
-use Rattle.std.specs.Prelude.{Option, Some, None, is_some, not, ◌&&◌, if◌then◌else◌, IsTrue, IfSome}
-use Rattle.std.specs.Option.{option_to_list}
-use Rattle.std.proofs.lemmas.List.{append-nil, drop-drop}
+use Rattle.std.specs.Prelude.{◌&&◌}
+use Rattle.std.proofs.lemmas.List.{drop-drop}
 use Rattle.std.proofs.lemmas.List.Elements.{filter_map-append}
 use Rattle.std.proofs.Math.Seq.{drop-append_seam}
-use Rattle.block_pool.specs.Pool.{PoolState, used_of, aside_of}
-use Rattle.swp_base.specs.declared.control_frames.Control.{Control}
-use Rattle.swp_base.specs.declared.link_terms.Cause.{Cause}
+use Rattle.link_end.proofs.Words.{Bool, Cause, Control, End, EndStandsFor, EndState, ForgetsMessages, Fragment, Halfway, IfSome, Inbox, InboxLeaves}
+use Rattle.link_end.proofs.Words.{InboxLiesIn, IsTrue, KeptEnd, LeavesBoxes, LinkReport, LinkState, List, Machine, MayTake, Message, None, Open, Option, Outbox}
+use Rattle.link_end.proofs.Words.{OutboxLiesIn, PoolState, ReceivesOn, Session, ShdlcStandsFor, Some, StandsBefore, Up, [], ap, append-nil, arith}
+use Rattle.link_end.proofs.Words.{aside-with_used, aside_of, came_whole, chains_in, drop, false, fragments_of, got_chains, heard, heard_told, held_blocks}
+use Rattle.link_end.proofs.Words.{if◌then◌else◌, in_phase, inl, inr, is_some, left_waiting, length, length-append, length-drop, messages_of, messages_under_way}
+use Rattle.link_end.proofs.Words.{moved, not, nothing_told, option_to_list, owner_at, packet_of, packets_in, put_down, queued_messages, refl, stopped, subst}
+use Rattle.link_end.proofs.Words.{sym, take_answer, true, used_of, waiting_in, whole_acked, whole_among, with_out, ℕ, ◌++◌, ◌+◌, ◌-◌, ◌∙◌, ◌∷◌, ◌≡◌, ◌≤◌, ◌⊎◌}
 use Rattle.swp_base.specs.declared.link_terms.Cause.TheVariants.{Chain}
-use Rattle.shdlc_core.specs.declared.answers.LinkState.{LinkState}
-use Rattle.shdlc_core.specs.declared.answers.LinkState.TheVariants.{Up}
 use Rattle.shdlc_core.specs.declared.answers.Taken.{Taken}
-use Rattle.shdlc_core.specs.Kept.{KeptEnd, ShdlcStandsFor}
-use Rattle.shdlc_core.specs.Machine.{EndState, Fragment, Session, taken, take_answer, stopped}
-use Rattle.shdlc_core.specs.Offering.{StandsBefore, with_out, left_waiting}
+use Rattle.shdlc_core.specs.Machine.{taken}
 use Rattle.shdlc_core.proofs.Offering.{stands_taken, takes_on, TakesOn, brings_fragment}
-use Rattle.shdlc_core.proofs.Histories.{in_phase}
-use Rattle.hcp_packet.specs.Packets.{packets_in, fragments_of, good_of, packet_of}
+use Rattle.hcp_packet.specs.Packets.{good_of}
 use Rattle.hcp_chain.specs.Joining.{are_taken, given_by, open_after}
 use Rattle.hcp_chain.proofs.ReadyLemmas.{open_after-append, given_by-append, are_taken-append}
-use Rattle.link_laws.specs.machine.Machine.{LinkEnd as Machine, Message, moved, put_down, heard, is_faulty, messages_got, news, whole_acked, whole_among}
+use Rattle.link_laws.specs.machine.Machine.{is_faulty, messages_got, news}
 use Rattle.link_laws.specs.machine.Machine.{oldest}
-use Rattle.link_messages.specs.declared.outbox.Outbox.{Outbox}
-use Rattle.link_messages.specs.declared.inbox.Inbox.{Inbox}
-use Rattle.link_messages.specs.Outgoing.{queued_messages, waiting_in, rest_among, OutboxLiesIn, GivesBack, acked_more}
-use Rattle.block_pool.specs.Owners.{owner_at}
-use Rattle.hcp_chain.specs.declared.joiner.Open.{Open}
-use Rattle.hcp_chain.specs.Holding.{held_blocks, messages_in as messages_of}
-use Rattle.link_messages.specs.Incoming.{got_chains, chains_in, messages_under_way, came_whole, InboxLiesIn, IsInboxReady as InboxIsReady}
-use Rattle.link_messages.specs.Incoming.{InboxLeavesOthers as InboxLeaves}
-use Rattle.link_messages.proofs.OutgoingLemmas.{aside-with_used}
+use Rattle.link_messages.specs.Outgoing.{GivesBack, acked_more, rest_among}
+use Rattle.link_messages.specs.Incoming.{IsInboxReady as InboxIsReady}
 use Rattle.link_messages.proofs.Among.{whole-more, whole-length}
-use Rattle.link_end.specs.Ends.{OutboxStandsFor, Halfway, EndStandsFor, MayTake, LeavesBoxes}
-use Rattle.link_end.specs.Steps.{ForgetsMessages}
-use Rattle.link_end.specs.Received.{ReceivesOn, fragment_in}
-use Rattle.link_end.specs.Reports.{nothing_told, heard_told}
-use Rattle.link_end.specs.declared.«end».End.{End}
-use Rattle.link_end.specs.declared.report.LinkReport.{LinkReport}
+use Rattle.link_end.specs.Ends.{OutboxStandsFor}
+use Rattle.link_end.specs.Received.{fragment_in}
 use Rattle.link_end.proofs.EndLemmas.{Carries, carries, session_over, session_ended, stopped_before}
 use Rattle.link_end.proofs.BoxLemmas.{OutboxKept, inbox_kept, outbox_kept, leaves_out, leaves_in, leaves_more}
 use Rattle.link_laws.proofs.machine.Reports.{good-append, empty_news}

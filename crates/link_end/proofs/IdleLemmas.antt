@@ -1,14 +1,8 @@
 -- An end at which nothing is under way.
-use Rattle.std.proofs.Common.{◌≡◌, ◌+◌, ◌⊎◌, inl, inr, true, List, [], ◌++◌, length, sym, ap, ◌∙◌, subst, arith}
-use Rattle.std.proofs.lemmas.List.{append-nil}
-use Rattle.block_pool.specs.Pool.{PoolState}
-use Rattle.shdlc_core.specs.Kept.{KeptEnd, ShdlcStandsFor}
-use Rattle.shdlc_core.specs.Machine.{EndState, Fragment, ticked, tick_answer, nothing_ticked, all_frames, all_fetched}
-use Rattle.shdlc_core.specs.Offering.{StandsBefore, with_out}
-use Rattle.link_laws.specs.machine.Machine.{LinkEnd as Machine, is_open}
-use Rattle.link_end.specs.Ends.{EndStandsFor}
+use Rattle.link_end.proofs.Words.{End, EndStandsFor, EndState, Fragment, KeptEnd, List, Machine, PoolState, ShdlcStandsFor, StandsBefore, [], ap, append-nil}
+use Rattle.link_end.proofs.Words.{arith, inl, inr, is_open, length, subst, sym, tick_answer, ticked, true, with_out, ◌++◌, ◌+◌, ◌∙◌, ◌≡◌, ◌⊎◌}
+use Rattle.shdlc_core.specs.Machine.{all_fetched, all_frames, nothing_ticked}
 use Rattle.link_end.specs.Idle.{IsIdle}
-use Rattle.link_end.specs.declared.«end».End.{End}
 
 -- where all that was offered is acknowledged no fragment waits, and what is kept stands for the machine itself
 pub stands_whole : (k : KeptEnd) (waiting : List Fragment) (e : EndState) (h : StandsBefore k waiting e)

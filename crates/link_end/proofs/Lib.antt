@@ -1,3 +1,4 @@
+mod Words
 pub mod EndLemmas
 pub mod BoxLemmas
 pub mod ReceiveLemmas

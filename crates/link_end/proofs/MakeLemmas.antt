@@ -1,17 +1,8 @@
 -- A new end of a link.
-use Rattle.std.proofs.Common.{◌≡◌, ℕ, List, [], ◌∷◌, ◌++◌, refl, subst, arith}
+use Rattle.link_end.proofs.Words.{End, EndStandsFor, HoldsChains, IsFree, List, Open, Outbox, PoolState, ShdlcStandsFor, [], arith, chains_in, got_chains}
+use Rattle.link_end.proofs.Words.{new_link_end, new_role, refl, role_of, subst, ℕ, ◌++◌, ◌∷◌, ◌≡◌}
 use Rattle.circular_buffer.specs.Buffer.{buffer}
-use Rattle.block_pool.specs.Pool.{PoolState}
 use Rattle.swp_base.specs.declared.link_terms.Role.{Role as Named}
-use Rattle.shdlc_core.specs.Kept.{ShdlcStandsFor}
-use Rattle.hcp_chain.specs.declared.joiner.Open.{Open}
-use Rattle.hcp_chain.specs.Holding.{HoldsChains}
-use Rattle.link_laws.specs.machine.Machine.{new_link_end}
-use Rattle.link_messages.specs.declared.outbox.Outbox.{Outbox}
-use Rattle.link_messages.specs.Incoming.{chains_in, got_chains}
-use Rattle.link_end.specs.Ends.{IsFree, EndStandsFor}
-use Rattle.link_end.specs.Roles.{role_of, new_role}
-use Rattle.link_end.specs.declared.«end».End.{End}
 
 none_in : (xs ys : List Open) → xs ++ ys ≡ [] → (xs ≡ []) × (ys ≡ [])
 none_in [] ys e = (refl, e)

@@ -1,49 +1,29 @@
 -- What a node asks of a link end: resets, messages fetched and given, and frames fetched.
-use Rattle.std.proofs.Common.{◌≡◌, ℕ, ◌+◌, ◌-◌, ◌<◌, ◌≤◌, Bool, true, false, List, [], ◌∷◌, ◌++◌, length, map, drop, refl, sym, ap, ◌∙◌, subst, arith}
-use Rattle.std.proofs.Common.{length-append}
-use Rattle.std.specs.Prelude.{Option, Some, None, IfSome, unwrap_or, not}
-use Rattle.std.proofs.lemmas.List.{append-nil, drop-append-le}
-use Rattle.std.proofs.lemmas.List.Sums.{sum_by-cons}
+use Rattle.std.specs.Prelude.{unwrap_or}
+use Rattle.std.proofs.lemmas.List.{drop-append-le}
 use Rattle.std.proofs.lemmas.Bool.{lt-ltb}
-use Rattle.arrayvec.specs.ArrayVec.{ArrayVec}
-use Rattle.block_pool.specs.declared.chain.Chain.{Chain}
-use Rattle.block_pool.specs.Slots.{blocks_for}
-use Rattle.block_pool.specs.Owners.{owner_at}
-use Rattle.block_pool.specs.Pool.{PoolState, used_of, aside_of, spare_of, chain_bytes}
+use Rattle.link_end.proofs.Words.{Act, ActDue, ActFrame, ArrayVec, Bool, Chain, Control, Down, Due, End, EndStandsFor, EndState, ForgetsMessages, Fragment}
+use Rattle.link_end.proofs.Words.{Full, Got, Halfway, HoldsChains, IfSome, Inbox, InboxLiesIn, KeptEnd, LeavesBoxes, LeavesOthersBut, LinkState, List, Machine}
+use Rattle.link_end.proofs.Words.{MayPass, Message, None, Option, Outbox, OutboxLeaves, PoolState, Queued, Session, ShdlcStandsFor, Some, StandsBefore, TooLong}
+use Rattle.link_end.proofs.Words.{Up, [], after_input, ap, append-nil, arith, aside-with_used, aside_of, behind_front, blocks_for, came_whole, chain_bytes}
+use Rattle.link_end.proofs.Words.{chain_in, drop, due_of, false, fragments_of, frame_due, frame_fetched, front_act, front_holds, got_chains, held_blocks}
+use Rattle.link_end.proofs.Words.{held_both, is_open, kept_nearer, left_waiting, length, length-append, map, messages_of, messages_of_all, messages_under_way}
+use Rattle.link_end.proofs.Words.{moved, next_frame, not, owner_at, refl, spare, subst, sum_by-cons, sym, true, used_of, waiting_in, whole_among, whole_few}
+use Rattle.link_end.proofs.Words.{with_out, ℕ, ◌++◌, ◌+◌, ◌-◌, ◌<◌, ◌∙◌, ◌∷◌, ◌≡◌, ◌≤◌}
+use Rattle.block_pool.specs.Pool.{spare_of}
 use Rattle.block_pool.specs.Holdings.{all_blocks}
 use Rattle.block_pool.proofs.HoldingLemmas.{all_pushed}
-use Rattle.swp_base.specs.declared.control_frames.Act.{Act}
-use Rattle.swp_base.specs.declared.control_frames.Control.{Control}
-use Rattle.swp_base.specs.declared.control_frames.Control.TheVariants.{Act as ActFrame}
-use Rattle.shdlc_core.specs.declared.answers.LinkState.{LinkState}
-use Rattle.shdlc_core.specs.declared.answers.LinkState.TheVariants.{Up, Down, Waiting}
+use Rattle.shdlc_core.specs.declared.answers.LinkState.TheVariants.{Waiting}
 use Rattle.shdlc_core.specs.declared.answers.Due.{Due as Shdlc_due}
-use Rattle.shdlc_core.specs.Kept.{KeptEnd, ShdlcStandsFor}
-use Rattle.shdlc_core.specs.Machine.{EndState, Session, Fragment, reset_with, is_waiting, no_session, fetched, frame_due, fragment_due, put_out}
-use Rattle.shdlc_core.specs.Offering.{StandsBefore, StandsWith, HasSession, with_out, left_waiting}
+use Rattle.shdlc_core.specs.Machine.{fetched, fragment_due, is_waiting, no_session, put_out, reset_with}
+use Rattle.shdlc_core.specs.Offering.{HasSession, StandsWith}
 use Rattle.shdlc_core.proofs.Offering.{stands_reset, stands_fetched, fetched_alike, stands_put}
-use Rattle.hcp_packet.specs.Packets.{packets_of, packet_bytes, fragments_of, IsSendable}
-use Rattle.hcp_chain.specs.Holding.{held_blocks, HoldsChains, messages_in as messages_of}
-use Rattle.link_laws.specs.machine.Machine.{LinkEnd as Machine, ActDue as Due, Message, Refused, moved, after_input, is_open, window_of, frame_fetched}
-use Rattle.link_laws.specs.machine.Machine.{next_frame, nearer as due_nearer, need_of_all, spare, in_use, whole_among, give_refusal, given, turn, unless}
-use Rattle.link_laws.specs.machine.Machine.Refused.{TooLong, Full}
+use Rattle.hcp_packet.specs.Packets.{IsSendable, packet_bytes, packets_of}
+use Rattle.link_laws.specs.machine.Machine.{Refused, give_refusal, given, in_use, nearer as due_nearer, need_of_all, turn, unless, window_of}
 use Rattle.link_laws.specs.machine.Machine.Turn.{Give}
 use Rattle.link_laws.specs.machine.Machine.LinkInput.{Reset}
-use Rattle.link_laws.proofs.machine.Sound.{whole_few}
-use Rattle.link_messages.specs.declared.outbox.Queued.{Queued}
-use Rattle.link_messages.specs.declared.outbox.Outbox.{Outbox}
-use Rattle.link_messages.specs.declared.inbox.Got.{Got}
-use Rattle.link_messages.specs.declared.inbox.Inbox.{Inbox}
-use Rattle.link_messages.specs.Outgoing.{chain_in, messages_of_all, waiting_in, Accepts, OutboxLeavesOthers as OutboxLeaves, LeavesOthersBut}
-use Rattle.link_messages.proofs.OutgoingLemmas.{aside-with_used}
-use Rattle.link_messages.specs.Incoming.{got_chains, messages_under_way, came_whole, InboxLiesIn}
+use Rattle.link_messages.specs.Outgoing.{Accepts}
 use Rattle.link_messages.proofs.Among.{whole-push, fragments-push}
-use Rattle.link_messages.proofs.IncomingLemmas.{front_holds, held_both}
-use Rattle.link_end.specs.Dues.{kept_nearer, front_act, behind_front}
-use Rattle.link_end.specs.Ends.{due_of, Halfway, EndStandsFor, MayPass, LeavesBoxes}
-use Rattle.link_end.specs.Steps.{ForgetsMessages}
-use Rattle.link_end.specs.declared.acts.ActDue.{ActDue}
-use Rattle.link_end.specs.declared.«end».End.{End}
 use Rattle.link_end.proofs.EndLemmas.{session_ended, carries}
 use Rattle.link_end.proofs.StepLemmas.{same_session}
 use Rattle.link_end.proofs.BoxLemmas.{inbox_kept, inbox_passed, leaves_out}

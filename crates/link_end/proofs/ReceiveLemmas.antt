@@ -1,15 +1,9 @@
 -- A fragment that was accepted, and its packet.
-use Rattle.std.proofs.Common.{◌≡◌, [], ◌∷◌, ◌++◌, refl, sym, ap, ◌∙◌, arith}
-use Rattle.std.specs.Option.{option_to_list}
-use Rattle.std.proofs.lemmas.List.{append-nil}
-use Rattle.block_pool.specs.Pool.{PoolState, used_of}
+use Rattle.link_end.proofs.Words.{Fragment, Inbox, InboxLiesIn, IsInboxReady, PoolState, ReceivesOn, [], ap, append-nil, arith, came_whole, chains_in}
+use Rattle.link_end.proofs.Words.{got_chains, held_blocks, option_to_list, packet_of, packets_in, refl, sym, used_of, ◌++◌, ◌∙◌, ◌∷◌, ◌≡◌}
 use Rattle.block_pool.proofs.HoldingLemmas.{with_used-same}
-use Rattle.hcp_packet.specs.Packets.{packets_in, packet_of}
-use Rattle.hcp_chain.specs.Holding.{held_blocks, messages_in}
-use Rattle.shdlc_core.specs.Machine.{Fragment}
-use Rattle.link_messages.specs.declared.inbox.Inbox.{Inbox}
-use Rattle.link_messages.specs.Incoming.{got_chains, chains_in, came_whole, InboxLiesIn, IsInboxReady, Joins}
-use Rattle.link_end.specs.Received.{ReceivesOn}
+use Rattle.hcp_chain.specs.Holding.{messages_in}
+use Rattle.link_messages.specs.Incoming.{Joins}
 
 -- the packet of one fragment
 pub packets_in-one : (f : Fragment) → packets_in (f ∷ []) ≡ option_to_list (packet_of f)

@@ -1,17 +1,11 @@
 -- Whether an end is at rest, by what is kept of it.
-use Rattle.std.proofs.Common.{◌≡◌, ◌-◌, ◌↔◌, Bool, true, false, List, [], ◌∷◌, length, refl, sym, ap, ◌∙◌, arith}
-use Rattle.std.proofs.lemmas.List.{length-map, length-drop}
+use Rattle.std.proofs.Common.{◌↔◌}
+use Rattle.std.proofs.lemmas.List.{length-map}
 use Rattle.std.proofs.lemmas.Bool.{eq-eqb, ne_eqb}
-use Rattle.std.specs.Prelude.{◌==◌, IsTrue}
-use Rattle.block_pool.specs.Pool.{PoolState}
-use Rattle.shdlc_core.specs.declared.answers.LinkState.TheVariants.{Up}
-use Rattle.link_laws.specs.machine.Machine.{LinkEnd as Machine, whole_acked}
+use Rattle.link_end.proofs.Words.{Bool, End, EndStandsFor, IsTrue, List, Machine, PoolState, Queued, Up, [], ap, arith, false, length, length-drop, refl, sym}
+use Rattle.link_end.proofs.Words.{true, whole_acked, whole_few, ◌-◌, ◌==◌, ◌∙◌, ◌∷◌, ◌≡◌}
 use Rattle.link_laws.specs.machine.AtRest.{end_rests}
-use Rattle.link_laws.proofs.machine.Sound.{whole_few}
-use Rattle.link_messages.specs.declared.outbox.Queued.{Queued}
 use Rattle.link_messages.specs.Outgoing.{queued_message}
-use Rattle.link_end.specs.Ends.{EndStandsFor}
-use Rattle.link_end.specs.declared.«end».End.{End}
 
 -- so many messages wait as aren't acknowledged whole
 kept_count : (k : End) (pool : PoolState) (m : Machine) → EndStandsFor k pool m → length k.outbox.queue.items ≡ length m.sent - whole_acked m

@@ -1,28 +1,16 @@
 -- What the inputs of a link end do.
-use Rattle.std.proofs.Common.{◌≡◌, ℕ, ◌+◌, ◌⊎◌, Bool, true, false, length, min, sym, ap, ◌∙◌, subst, arith, length-append}
-use Rattle.std.specs.Prelude.{is_some, if◌then◌else◌}
 use Rattle.std.specs.Bool.{OnTrue, OnFalse}
-use Rattle.block_pool.specs.Pool.{PoolState}
-use Rattle.swp_base.specs.declared.control_frames.Control.{Control}
-use Rattle.swp_base.specs.declared.control_frames.Control.TheVariants.{I, S, Rset, Ua, Act as ActFrame, Clt}
-use Rattle.swp_base.specs.declared.control_frames.Act.{Act}
-use Rattle.shdlc_core.specs.declared.answers.LinkState.{LinkState}
+use Rattle.link_end.proofs.Words.{Act, ActFrame, Bool, Control, End, EndStandsFor, EndState, ForgetsMessages, Halfway, IsShdlc, KeptEnd, LinkReport, LinkState}
+use Rattle.link_end.proofs.Words.{Machine, PoolState, Role, ShdlcStandsFor, StandsBefore, act_told, activated, after_input, ap, arith, false, heard, heard_told}
+use Rattle.link_end.proofs.Words.{if◌then◌else◌, in_phase, is_open, is_some, left_waiting, length, length-append, min, moved, nothing_told, report, report_told}
+use Rattle.link_end.proofs.Words.{subst, sym, take_answer, tick_answer, ticked, true, waiting_in, with_out, ℕ, ◌+◌, ◌∙◌, ◌≡◌, ◌⊎◌}
+use Rattle.swp_base.specs.declared.control_frames.Control.TheVariants.{Clt, I, Rset, S, Ua}
 use Rattle.shdlc_core.specs.declared.answers.Ticked.{Ticked}
-use Rattle.shdlc_core.specs.Kept.{KeptEnd, ShdlcStandsFor}
-use Rattle.shdlc_core.specs.Machine.{EndState, ticked, tick_answer, with_ready, take_answer}
-use Rattle.shdlc_core.specs.Offering.{StandsBefore, with_out, left_waiting}
+use Rattle.shdlc_core.specs.Machine.{with_ready}
 use Rattle.shdlc_core.proofs.Offering.{stands_ticked, ticked_alike, TicksAlike, stands_ready, ready_alike}
-use Rattle.shdlc_core.proofs.Histories.{in_phase}
 use Rattle.swp_act.specs.declared.ActEvent.TheVariants.{Take as ActTake, Tick as ActTick}
-use Rattle.link_laws.specs.machine.Machine.{LinkEnd as Machine, Role, moved, heard, is_open, after_input, activated, report}
 use Rattle.link_laws.specs.machine.Machine.LinkInput.{Take, Tick}
-use Rattle.link_messages.specs.Outgoing.{waiting_in}
-use Rattle.link_end.specs.Ends.{Halfway, EndStandsFor}
 use Rattle.link_end.specs.Roles.{MayStart}
-use Rattle.link_end.specs.Reports.{IsShdlc, nothing_told, act_told, heard_told, report_told}
-use Rattle.link_end.specs.declared.report.LinkReport.{LinkReport}
-use Rattle.link_end.specs.Steps.{ForgetsMessages}
-use Rattle.link_end.specs.declared.«end».End.{End}
 use Rattle.link_end.proofs.EndLemmas.{session_ended, carries}
 
 pub passed : (pool : PoolState) (k : End) (p : ℕ) (m : Machine) → p ≡ min (k.passed_over + 1) 4294967295 → EndStandsFor k pool m

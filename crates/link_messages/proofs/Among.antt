@@ -1,14 +1,13 @@
 -- Messages of which so many fragments are acknowledged, and the fragments of messages.
-use Rattle.std.proofs.Common.{◌≡◌, ℕ, suc, ◌+◌, ◌-◌, ◌<◌, ◌≤◌, Bool, true, false, List, [], ◌∷◌, ◌++◌, length, map, drop, refl, ap, ◌∙◌, arith, length-append}
+use Rattle.std.proofs.Common.{length-append}
 use Rattle.std.specs.Prelude.{nat_le}
 use Rattle.std.proofs.lemmas.List.{drop-append-le}
 use Rattle.std.proofs.Math.Seq.{drop-append-add}
-use Rattle.std.proofs.lemmas.Bool.{leb-true, le-leb}
+use Rattle.std.proofs.lemmas.Bool.{leb-true}
 use Rattle.std.proofs.lemmas.Grind.{flat_map-append, common_steps}
+use Rattle.link_messages.proofs.Words.{Bool, List, Message, [], ap, arith, drop, false, le-leb, length, length-fragments, map, refl, rest_among, suc, true}
+use Rattle.link_messages.proofs.Words.{whole_among, ℕ, ◌++◌, ◌+◌, ◌-◌, ◌<◌, ◌∙◌, ◌∷◌, ◌≡◌, ◌≤◌}
 use Rattle.hcp_packet.specs.Packets.{packets_of, packet_count, packet_bytes, fragments_of, IsSendable}
-use Rattle.link_laws.specs.machine.Machine.{Message, whole_among}
-use Rattle.link_messages.specs.Outgoing.{rest_among}
-use Rattle.link_laws.proofs.machine.Sound.{fragments_count as length-fragments}
 
 abbrev fragments : Message → List (List ℕ)
 fragments m = map packet_bytes (packets_of m.0 m.1)

@@ -1,30 +1,25 @@
 -- What calls on a pool leave of the messages that come.
-use Rattle.std.proofs.Common.{◌≡◌, ℕ, ◌+◌, ◌-◌, ◌<◌, ◌≤◌, Bool, true, false, List, [], ◌∷◌, ◌++◌, length, min, take, drop, refl, sym, ap, ◌∙◌, subst, arith}
-use Rattle.std.specs.Prelude.{Option, Some, None, nat_lt, if◌then◌else◌}
+use Rattle.std.specs.Prelude.{Option, nat_lt}
 use Rattle.std.specs.List.{AllByRecursion}
 use Rattle.std.proofs.lemmas.List.{append-nil}
 use Rattle.std.proofs.lemmas.List.Sums.{sum_by-append}
-use Rattle.block_pool.specs.declared.chain.Chain.{Chain}
-use Rattle.block_pool.specs.Slots.{blocks_for}
-use Rattle.block_pool.specs.Owners.{owner_at, with_used}
-use Rattle.block_pool.specs.Pool.{PoolState, quota_of, used_of, IsApart, chain_bytes, KeepsOthers, Gives}
+use Rattle.link_messages.proofs.Words.{Bool, Chain, Gives, HoldsWhole, Inbox, IsApart, KeepsOthers, List, Message, None, Packet, PoolState, Some, [], ap, arith}
+use Rattle.link_messages.proofs.Words.{blocks_for, chain_bytes, drop, false, if◌then◌else◌, join_step, length, min, owner_at, quota_of, refl, subst, sym, take}
+use Rattle.link_messages.proofs.Words.{true, used_of, with_used, ℕ, ◌++◌, ◌+◌, ◌-◌, ◌<◌, ◌∙◌, ◌∷◌, ◌≡◌, ◌≤◌}
 use Rattle.block_pool.proofs.HoldingLemmas.{used-with_used, quota-with_used, length-with_used, with_used-with_used, with_used-same}
-use Rattle.hcp_packet.specs.declared.Packet.{Packet}
 use Rattle.hcp_packet.specs.Packets.{is_good, good_of}
 use Rattle.hcp_chain.specs.declared.joiner.Open.{Open}
 use Rattle.hcp_chain.specs.declared.joiner.Joiner.{Joiner}
 use Rattle.hcp_chain.specs.declared.joiner.ChainFault.{ChainFault}
 use Rattle.hcp_chain.specs.declared.joiner.ChainFault.TheVariants.{TooManyChains, MessageTooLong}
 use Rattle.hcp_chain.specs.declared.joiner.Joined.TheVariants.{Fault}
-use Rattle.hcp_chain.specs.Joining.{JoinOutcome, Message as Ended, join_step, message_in, is_fault, given_by, is_fifth, grown}
-use Rattle.hcp_chain.specs.Holding.{IsOwnOpen, AreApart, HoldsChains, HoldsWhole, held_blocks, open_messages, messages_in}
+use Rattle.hcp_chain.specs.Joining.{JoinOutcome, Message as Ended, given_by, grown, is_fault, is_fifth, message_in}
+use Rattle.hcp_chain.specs.Holding.{AreApart, HoldsChains, IsOwnOpen, held_blocks, messages_in, open_messages}
 use Rattle.hcp_chain.specs.Holding.{KeepsOtherChains, IsApartFrom, AnswersOutcome}
 use Rattle.hcp_chain.proofs.HoldingLemmas.{all_front, all_map, apart_front}
 use Rattle.hcp_chain.proofs.ClearLemmas.{kept}
 use Rattle.hcp_chain.proofs.ReadyLemmas.{ready_given}
-use Rattle.link_laws.specs.machine.Machine.{Message}
 use Rattle.link_messages.specs.declared.inbox.Got.{Got}
-use Rattle.link_messages.specs.declared.inbox.Inbox.{Inbox}
 use Rattle.link_messages.specs.Incoming.{got_chains, chains_in, messages_under_way, came_whole, InboxLiesIn, IsInboxReady, InboxLeavesOthers, Joins}
 
 -- ---- the chains under way, and the one that was got

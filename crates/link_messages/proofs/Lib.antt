@@ -1,3 +1,4 @@
+mod Words
 pub mod Among
 pub mod OutgoingLemmas
 pub mod IncomingLemmas

@@ -1,30 +1,22 @@
 -- What calls on a pool leave of the messages that are kept in it.
-use Rattle.std.proofs.Common.{◌≡◌, ◌≢◌, ℕ, zero, suc, ◌+◌, ◌-◌, ◌*◌, ◌<◌, ◌≤◌, Bool, true, false, List, [], ◌∷◌, ◌++◌, length, map, drop, refl, sym, ap, ◌∙◌}
-use Rattle.std.proofs.Common.{subst, arith, get_or-set_same}
-use Rattle.std.specs.Prelude.{Some, None, slice_get}
+use Rattle.std.proofs.Common.{get_or-set_same, zero, ◌≢◌}
 use Rattle.std.specs.Bool.{OnTrue, OnFalse}
-use Rattle.std.proofs.lemmas.Option.{slice_get_within}
 use Rattle.std.proofs.lemmas.List.{map_push, drop-drop, drop_all, length-drop}
 use Rattle.std.proofs.lemmas.List.Sums.{sum_by-cons, sum_by_push}
-use Rattle.circular_buffer.specs.Buffer.{Buffer, buffer}
-use Rattle.block_pool.specs.declared.chain.Chain.{Chain}
+use Rattle.link_messages.proofs.Words.{Accepts, Bool, Buffer, Chain, Gives, IsApart, KeepsOthers, LeavesOthersBut, List, Message, None, Outbox, OutboxLiesIn}
+use Rattle.link_messages.proofs.Words.{PoolState, Queued, Some, [], ap, arith, blocks_for, chain_bytes, drop, false, length, length-fragments, map, owner_at}
+use Rattle.link_messages.proofs.Words.{queued_message, queued_messages, quota_of, refl, rest_among, slice_get, slice_get_within, subst, suc, sym, true, used_of}
+use Rattle.link_messages.proofs.Words.{whole_among, with_used, ℕ, ◌*◌, ◌++◌, ◌+◌, ◌-◌, ◌<◌, ◌∙◌, ◌∷◌, ◌≡◌, ◌≤◌}
+use Rattle.circular_buffer.specs.Buffer.{buffer}
 use Rattle.block_pool.specs.declared.owners.Owner.{Owner}
-use Rattle.block_pool.specs.Slots.{blocks_for}
-use Rattle.block_pool.specs.Owners.{owner_at, with_used}
-use Rattle.block_pool.specs.Pool.{PoolState, HasQuota, quota_of, used_of, aside_of, IsLive, IsEmptyChain, IsApart, chain_bytes, spare_of, chain_spare}
-use Rattle.block_pool.specs.Pool.{more_blocks, KeepsOthers, Gives, Appends, Passes}
+use Rattle.block_pool.specs.Pool.{Appends, HasQuota, IsEmptyChain, IsLive, Passes, aside_of, chain_spare, more_blocks, spare_of}
 use Rattle.block_pool.specs.Names.{named_bytes}
 use Rattle.block_pool.specs.Holdings.{IsOwnChain, OwnsAll, LiesApart, LieApart, all_bytes, all_blocks}
 use Rattle.block_pool.proofs.HoldingLemmas.{kept_all, all_pushed, lie_apart_pushed, used-with_used, quota-with_used, length-with_used, with_used-with_used}
 use Rattle.block_pool.proofs.HoldingLemmas.{with_used-same, other-with_used, apart_empty, lies_apart_by_owner, OwnsAllApart}
 use Rattle.hcp_packet.specs.Packets.{packets_of, packet_count, packet_bytes, fragments_of, AreSendable, IsSendable}
-use Rattle.link_laws.specs.machine.Machine.{Message, whole_among}
-use Rattle.link_messages.specs.declared.outbox.Queued.{Queued}
-use Rattle.link_messages.specs.declared.outbox.Outbox.{Outbox}
-use Rattle.link_messages.specs.Outgoing.{chain_in, queued_message, messages_of_all, queued_messages, waiting_in, rest_among, AreKept}
-use Rattle.link_messages.specs.Outgoing.{OutboxLiesIn, OutboxLeavesOthers, Accepts, LeavesOthersBut, GivesFront, GivesBack}
+use Rattle.link_messages.specs.Outgoing.{AreKept, GivesBack, GivesFront, OutboxLeavesOthers, chain_in, messages_of_all, waiting_in}
 use Rattle.link_messages.proofs.Among.{whole-first, whole-none, waiting-first, length-first, waiting-push, length-push}
-use Rattle.link_laws.proofs.machine.Sound.{fragments_count as length-fragments}
 
 -- the same bytes are the same messages
 pub messages_same : (old new : PoolState) (queue : List Queued) → all_bytes Queued chain_in new queue ≡ all_bytes Queued chain_in old queue

@@ -1,24 +1,19 @@
 -- The verdict on a damaged frame, bit by bit.
-use Rattle.std.proofs.Common.{◌≡◌, ℕ, zero, suc, ◌+◌, ◌≤◌, ◌<◌, Bool, true, false, not, eqb, List, [], ◌∷◌, length, get_or, set, drop, map, refl, ap, sym, ◌∙◌}
-use Rattle.std.proofs.Common.{arith}
+use Rattle.std.proofs.Common.{eqb, not, set, zero}
+use Rattle.link_wires.proofs.Words.{Bool, List, Loss, LostCause, None, Option, Some, Symbol, [], answers_after, ap, arith, drop, false, flipped, get_or}
+use Rattle.link_wires.proofs.Words.{judged_by_first, length, lost_as, map, option_or, refl, suc, sym, symbol_of, told_as, true, ℕ, ◌+◌, ◌<◌, ◌∙◌, ◌∷◌, ◌≡◌, ◌≤◌}
 use lib.Pointwise.{pointwise}
 use Rattle.std.proofs.lemmas.List.{drop_more}
-use Rattle.std.specs.Prelude.{Option, Some, None, filter, ◌&&◌, if◌then◌else◌}
-use Rattle.std.specs.Option.{option_or}
-use Rattle.trace_model.specs.declared.entry.LostCause.{LostCause}
+use Rattle.std.specs.Prelude.{filter, if◌then◌else◌, ◌&&◌}
 use Rattle.trace_model.specs.declared.entry.LostCause.TheVariants as lost
 use Rattle.swp_frame.specs.declared.fed.Fed.{Fed}
 use Rattle.swp_frame.specs.declared.fed.Fed.TheVariants.{Nothing, Frame, Refused}
-use Rattle.swp_frame.specs.Signal.{Symbol, symbol_of}
-use Rattle.swp_frame.specs.Verdicts.{is_verdict, verdict, answers_after}
-use Rattle.link_laws.specs.messages.Links.{Loss}
+use Rattle.swp_frame.specs.Verdicts.{is_verdict, verdict}
 use Rattle.link_laws.specs.messages.Links.Loss.{Broken}
-use Rattle.history.specs.Damage.{flipped, first_frame, judged_by_first, read_as, same_bytes}
+use Rattle.history.specs.Damage.{first_frame, read_as, same_bytes}
 use Rattle.history.specs.Damage.Verdict.{Same, Undetected}
-use Rattle.history.specs.Steps.{lost_as}
 use Rattle.link_wires.specs.declared.damage.Verdict.{Verdict as Told}
 use Rattle.link_wires.specs.declared.damage.Verdict.TheVariants as told
-use Rattle.link_wires.specs.Damages.{told_as}
 
 -- why a frame is lost where none was read
 abbrev pub cause_is : Option LostCause → LostCause

@@ -1,17 +1,11 @@
 -- What a line that damages a frame finds on a wire.
-use Rattle.std.proofs.Common.{◌≡◌, ℕ, List, [], ◌∷◌, length, refl, ap, ◌∙◌}
-use Rattle.std.specs.Prelude.{Option, Some, None}
+use Rattle.link_wires.proofs.Words.{List, Loss, LostCause, None, OnWire, Option, Some, [], ap, if_beyond, length, lost_as, refl, told_as, ℕ, ◌∙◌, ◌∷◌, ◌≡◌}
 use Rattle.swp_frame.specs.Stuffing.{frame_of}
-use Rattle.trace_model.specs.declared.entry.LostCause.{LostCause}
-use Rattle.link_laws.specs.sessions.Sessions.{OnWire}
-use Rattle.link_laws.specs.messages.Links.{Loss}
 use Rattle.history.specs.Damage.{Verdict, verdict_on}
 use Rattle.history.specs.Damage.Verdict.{Same as ReadSame, LostFor, Undetected as ReadOther}
-use Rattle.history.specs.Steps.{lost_as}
-use Rattle.history.specs.Follows.{if_beyond}
 use Rattle.link_wires.specs.declared.damage.Verdict.TheVariants as told
 use Rattle.link_wires.specs.declared.finding.Damaged.TheVariants.{Lost}
-use Rattle.link_wires.specs.Damages.{told_as, Finds, first_lpdu}
+use Rattle.link_wires.specs.Damages.{Finds, first_lpdu}
 
 abbrev just : Option (List ℕ) → List ℕ
 just None = []

@@ -1,26 +1,17 @@
 -- A frame is put on the wire to the other end, or the first one on a wire is lost.
-use Rattle.std.proofs.Common.{◌≡◌, ℕ, ◌+◌, Bool, true, false, cond, List, [], ◌∷◌, ◌++◌, drop, refl, ap, sym, subst, ◌∙◌}
-use Rattle.std.specs.Prelude.{Ok, Some}
-use Rattle.circular_buffer.specs.Buffer.{Buffer}
+use Rattle.std.proofs.Common.{subst}
+use Rattle.link_wires.proofs.Words.{AreNoted, Bool, Buffer, End, Entry, Flying, IsMade, List, Loss, LostCause, Ok, OnWire, Some, WireStandsFor, [], ap, by_test}
+use Rattle.link_wires.proofs.Words.{cond, control_of, drop, false, fits, kept_of, lost_as, lpdu_of, other_end, pushed_out, refl, side_of, sym, true, ℕ, ◌++◌}
+use Rattle.link_wires.proofs.Words.{◌+◌, ◌∙◌, ◌∷◌, ◌≡◌}
 use Rattle.swp_base.specs.declared.control_frames.Control.{Control}
-use Rattle.swp_lpdu.specs.Controls.{lpdu_of, control_of}
-use Rattle.trace_model.specs.declared.entry.Entry.{Entry}
 use Rattle.trace_model.specs.declared.entry.Entry.TheVariants as entry
-use Rattle.trace_model.specs.declared.entry.LostCause.{LostCause}
-use Rattle.trace_model.specs.declared.line.End.{End}
-use Rattle.trace_model.specs.Ends.{other_end}
-use Rattle.link_laws.specs.sessions.Sessions.{OnWire, is_rset, fits}
-use Rattle.link_laws.specs.messages.Links.{Link, Loss, put}
+use Rattle.link_laws.specs.sessions.Sessions.{is_rset}
+use Rattle.link_laws.specs.messages.Links.{Link, put}
 use Rattle.link_laws.specs.entries.Entries.Entry.{Emit as NotedEmit}
-use Rattle.link_laws.specs.entries.Entries.{far as far_side, put_entries, pushed_out, wire_with, first_lost}
-use Rattle.history.specs.Steps.{lost_as}
-use Rattle.link_wires.specs.declared.wire.Flying.{Flying}
-use Rattle.link_wires.specs.Notes.{side_of, AreNoted}
-use Rattle.link_wires.specs.Wires.{WireStandsFor, IsMade, kept_of}
+use Rattle.link_laws.specs.entries.Entries.{far as far_side, first_lost, put_entries, wire_with}
 use Rattle.link_wires.specs.Putting.{GoesOutOf}
 use Rattle.link_wires.proofs.Notes.{end_is, more_noted}
 use Rattle.link_wires.proofs.Wires.{IsTakenOff, first_is, there_is_none, taken_off}
-use Rattle.link_laws.proofs.Cases.{by_test}
 
 other_side : (at : End) → side_of (other_end at) ≡ far_side (side_of at)
 other_side at = by_test at.at_host (λ q. rw q refl) (λ q. rw q refl)

@@ -1,3 +1,4 @@
+mod Words
 pub mod Results
 pub mod Notes
 pub mod Wires

@@ -1,12 +1,7 @@
 -- What is noted at an end, one thing behind another.
-use Rattle.std.proofs.Common.{◌≡◌, ℕ, List, ◌++◌, refl, ap, sym, ◌∙◌, append_assoc}
 use Rattle.std.proofs.lemmas.List.Concat.{flat_map-append}
-use Rattle.trace_model.specs.declared.entry.Entry.{Entry}
-use Rattle.trace_model.specs.declared.line.End.{End}
-use Rattle.link_laws.specs.entries.Entries.{Entry as Noted}
-use Rattle.history.specs.Steps.{end_of, entry_of, entries_for}
-use Rattle.link_wires.specs.Notes.{side_of, AreNoted}
-use Rattle.link_laws.proofs.Cases.{by_test}
+use Rattle.link_wires.proofs.Words.{AreNoted, End, Entry, List, Noted, ap, append_assoc, by_test, entries_for, refl, side_of, sym, ℕ, ◌++◌, ◌∙◌, ◌≡◌}
+use Rattle.history.specs.Steps.{end_of, entry_of}
 
 -- an end is the one on its side of its link
 pub end_is : (at : End) → end_of at.link (side_of at) ≡ at

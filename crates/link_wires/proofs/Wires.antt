@@ -1,27 +1,22 @@
 -- The frames on a wire: one more is put there, and all grow older.
-use Rattle.std.proofs.Common.{◌≡◌, ℕ, suc, ◌+◌, ◌-◌, ◌<◌, ◌≤◌, true, false, cond, List, [], ◌∷◌, ◌++◌, length, drop, map, refl, ap, sym, ◌∙◌}
-use Rattle.std.proofs.Common.{append_assoc, length-append, arith}
+use Rattle.std.proofs.Common.{length-append}
 use Rattle.std.proofs.lemmas.List.{append-nil}
 use Rattle.std.proofs.lemmas.Grind.{common_steps}
 use Rattle.std.proofs.lemmas.Bool.{ltb-true, ltb-false, lt-ltb, le-ltb}
-use Rattle.std.specs.Prelude.{Option, Some, None, nat_lt, slice_get}
+use Rattle.std.specs.Prelude.{nat_lt, slice_get}
 use Rattle.std.specs.List.{AllByRecursion}
-use Rattle.circular_buffer.specs.Buffer.{Buffer, buffer, keep_last}
-use Rattle.swp_lpdu.specs.Controls.{lpdu_of}
-use Rattle.trace_model.specs.declared.entry.Entry.{Entry}
+use Rattle.link_wires.proofs.Words.{AreNoted, Buffer, End, Entry, Flying, IsMade, List, None, Noted, OnWire, Option, Some, WireStandsFor, [], ap, append_assoc}
+use Rattle.link_wires.proofs.Words.{arith, by_test, cond, drop, entries_for, false, fits, kept_of, length, lpdu_of, map, pushed_out, refl, side_of, suc, sym}
+use Rattle.link_wires.proofs.Words.{true, ℕ, ◌++◌, ◌+◌, ◌-◌, ◌<◌, ◌∙◌, ◌∷◌, ◌≡◌, ◌≤◌}
+use Rattle.circular_buffer.specs.Buffer.{buffer, keep_last}
 use Rattle.trace_model.specs.declared.entry.Entry.TheVariants as entry
 use Rattle.trace_model.specs.declared.entry.LostCause.TheVariants.{Age, Full}
-use Rattle.trace_model.specs.declared.line.End.{End}
-use Rattle.link_laws.specs.sessions.Sessions.{OnWire, fits, aged_wire}
-use Rattle.link_laws.specs.entries.Entries.{Entry as Noted, pushed_out, aged_entries}
+use Rattle.link_laws.specs.sessions.Sessions.{aged_wire}
+use Rattle.link_laws.specs.entries.Entries.{aged_entries}
 use Rattle.link_laws.specs.entries.Entries.Entry.{Lost}
 use Rattle.link_laws.specs.messages.Links.Loss.{TooOld, TooMany}
-use Rattle.history.specs.Steps.{entries_for}
-use Rattle.link_wires.specs.declared.wire.Flying.{Flying}
-use Rattle.link_wires.specs.Notes.{side_of, AreNoted}
-use Rattle.link_wires.specs.Wires.{WireStandsFor, IsMade, kept_of}
 use Rattle.link_wires.proofs.Notes.{end_is, more_noted}
-use Rattle.link_laws.proofs.Cases.{by_list, by_test}
+use Rattle.link_laws.proofs.Cases.{by_list}
 
 map-append : (a b : List OnWire) → map kept_of (a ++ b) ≡ map kept_of a ++ map kept_of b
 map-append a b = grind (arith, common_steps)

@@ -1,24 +1,18 @@
 -- What a node decides may be done: a command finds room.
-use Rattle.std.proofs.Common.{Bool, List, [], arith, cond, false, map, refl, subst, sym, true, ℕ, ◌∷◌, ◌≡◌}
-use Rattle.std.specs.Prelude.{Option, Some, None, Result, Ok, Err}
-use Rattle.std.specs.List.{AllByRecursion}
+use Rattle.node_core.proofs.Words.{AllByRecursion, AreGranted, Asks, Bool, Command, Commits, Core, Deed, Drops, Ends, Err, GoesOn, Hears, Init, IsAnswered}
+use Rattle.node_core.proofs.Words.{IsGranted, IsOnTask, List, Message, None, Ok, Option, Orders, Releases, Result, SaysOk, Sends, SetsErrors, Some, Tells, Work}
+use Rattle.node_core.proofs.Words.{[], arith, body_in, cond, controller_deeds, done, false, has, has_link, has_turn, hosts_where, map, own_view, refl, subst}
+use Rattle.node_core.proofs.Words.{sym, true, view_of, ℕ, ◌∷◌, ◌≡◌}
 use Rattle.hcp_packet.specs.declared.MessageKind.{MessageKind}
 use Rattle.hcp_packet.specs.declared.MessageKind.TheVariants.{Command as IsCommand, Event as IsEvent, Response as IsResponse}
 use Rattle.hcp_packet.specs.declared.MessageFault.{MessageFault}
 use Rattle.hcp_packet.specs.MessageHeader.{header_of}
-use Rattle.node_core.proofs.Words.{AreGranted, Asks, Command, Commits, Drops, Ends, Hears, Init, IsAnswered, IsOnTask, Message, Orders, Releases, SaysOk, Sends}
-use Rattle.node_core.proofs.Words.{Core, SetsErrors, Tells, Work, controller_deeds, done, has, has_link, has_turn, own_view, view_of}
 use Rattle.gate_answers.specs.declared.response.Response.TheVariants as response
-use Rattle.gate_answers.specs.Answers.{body_in}
 use Rattle.gate_admin.specs.declared.view.LinkView.{LinkView}
 use Rattle.gate_admin.specs.declared.decision.Decision.{Decision}
 use Rattle.gate_admin.specs.declared.decision.Decision.TheVariants.{Answer, Commit, Ask}
-use Rattle.gate_admin.specs.View.{hosts_where}
 use Rattle.gate_admin.specs.Decide.{decided}
-use Rattle.node_machine.specs.Parts.{Deed}
-use Rattle.node_machine.specs.Parts.Deed.{GoesOn}
 use Rattle.node_machine.specs.Carrying.{finds_room}
-use Rattle.node_core.specs.Deeds.{IsGranted}
 use Rattle.node_machine.specs.Controller.{commit_deeds, decision_deeds, gate_deeds, served_at, relayed_to, unless_asking, kind_deeds, own_deeds, relay_deeds}
 use Rattle.node_machine.specs.Controller.{deeds_by_relay, own_gate, view_for, goes_through}
 

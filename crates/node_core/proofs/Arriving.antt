@@ -1,18 +1,13 @@
 -- What comes to an end of a node, and what is noted of it.
-use Rattle.std.proofs.Common.{◌≡◌, ◌≢◌, ℕ, ◌≤◌, Bool, true, false, List, [], ◌∷◌, ◌++◌, map, length, refl, sym, ap, ap₂, ◌∙◌, subst, arith}
-use Rattle.std.proofs.Common.{length-append, append-nil}
-use Rattle.std.specs.Prelude.{Option, Some, None, option_map, is_some, if◌then◌else◌, ◌==◌, IfSome}
-use Rattle.std.specs.List.{AllByRecursion, flat_map}
-use Rattle.std.specs.Option.{option_map_or}
-use Rattle.std.proofs.lemmas.Bool.{eqb-true}
-use Rattle.std.proofs.lemmas.List.Concat.{flat_map-cons}
-use Rattle.node_core.proofs.Words.{AreAllDifferent, AreNotes, AtEnd, Core, EndsStandFor, Entry, IsInStep, KeptEnds, LinkInput, LinkReport, Message, Node}
-use Rattle.node_core.proofs.Words.{PoolState, Port, Seat, SeatsStandFor, Work, after_input, all_come, got_at, has_come, input_at, kept_number, noting, port_at}
-use Rattle.node_core.proofs.Words.{report, report_told, told_at, unnumbered, whole_acked, with_port}
-use Rattle.link_laws.specs.machine.Machine.{LinkEnd as Machine, oldest, got_by}
+use Rattle.node_core.proofs.Words.{AllByRecursion, AreAllDifferent, AreNotes, AtEnd, Bool, Core, EndsStandFor, Entry, IfSome, IsInStep, KeptEnds, LinkInput}
+use Rattle.node_core.proofs.Words.{LinkReport, List, Machine, Message, Node, None, Option, PoolState, Port, Seat, SeatsStandFor, Some, Work, [], after_input}
+use Rattle.node_core.proofs.Words.{all_come, ap, append-nil, ap₂, arith, eqb-true, false, flat_map, flat_map-cons, got_at, has_come, if◌then◌else◌, input_at}
+use Rattle.node_core.proofs.Words.{is_outside, is_some, kept_number, length, length-append, map, noting, oldest, option_map, option_map_or, port_at, refl}
+use Rattle.node_core.proofs.Words.{report, report_told, subst, sym, told_at, true, unnumbered, whole_acked, with_port, ℕ, ◌++◌, ◌==◌, ◌∙◌, ◌∷◌, ◌≡◌, ◌≢◌, ◌≤◌}
+use Rattle.link_laws.specs.machine.Machine.{got_by}
 use Rattle.node_ends.specs.declared.seat.Waiting.{Waiting}
 use Rattle.node_ends.specs.Holding.{messages_waiting}
-use Rattle.node_ends.proofs.Apart.{is_outside, input_apart}
+use Rattle.node_ends.proofs.Apart.{input_apart}
 use Rattle.node_core.proofs.Notes.{comes_noted, no_notes}
 use Rattle.node_core.proofs.Sendables.{found_all}
 use Rattle.node_core.proofs.Elsewhere.{host_at, hosts_differ}

@@ -1,19 +1,10 @@
 -- What a host does by itself leaves it running.
-use Rattle.std.proofs.Common.{◌≡◌, ◌≢◌, ◌≤◌, ℕ, Bool, true, false, not, ◌&&◌, List, [], ◌∷◌, map, refl, sym, ap, ◌∙◌, subst, arith, append-nil}
-use Rattle.std.specs.Prelude.{Option, Some, None, IfSome, is_some, ◌==◌}
-use Rattle.node_core.proofs.Words.{BeginsStep, Core, EndsStandFor, Entry, HasStepped, Init, IsAsked, IsInStep, IsNodeInOrder, IsOnTask, IsUicc, IsUsable, Node}
-use Rattle.node_core.proofs.Words.{Orders, Port, Refused, RunsAs, Sends, Stored, Work, all_done, between, done, give_refusal, if_waiting, is_command_message}
-use Rattle.node_core.proofs.Words.{port_at, sending}
-use Rattle.node_machine.specs.Parts.{Deed}
-use Rattle.node_machine.specs.Parts.Deed.{GoesOn}
-use Rattle.node_machine.specs.world.World.{beginning}
-use Rattle.node_machine.specs.Orders.{IsOnOrder}
-use Rattle.node_ends.specs.Ends.{MayStartAt}
-use Rattle.node_ends.specs.declared.inputs.LinkInput.{LinkInput as ToEnd}
+use Rattle.node_core.proofs.Words.{BeginsStep, Bool, Core, Deed, EndsStandFor, Entry, GoesOn, HasStepped, IfSome, Init, IsAllSent, IsAsked, IsAskedOf, IsInStep}
+use Rattle.node_core.proofs.Words.{IsNodeInOrder, IsOnOrder, IsOnTask, IsUicc, IsUsable, List, MayComeAt, MayStartAt, Node, None, Option, Orders, Port, Refused}
+use Rattle.node_core.proofs.Words.{RunsAs, Sends, Some, Stored, ToEnd, Work, [], all_done, ap, append-nil, arith, beginning, between, done, false, give_refusal}
+use Rattle.node_core.proofs.Words.{if_waiting, is_command_message, is_some, map, not, port_at, refl, sending, subst, sym, true, ℕ, ◌&&◌, ◌==◌, ◌∙◌, ◌∷◌, ◌≡◌}
+use Rattle.node_core.proofs.Words.{◌≢◌, ◌≤◌}
 use Rattle.node_ends.specs.declared.inputs.LinkInput.TheVariants as asks
-use Rattle.node_ends.specs.Inputs.{MayComeAt}
-use Rattle.node_core.specs.Inputs.{IsAskedOf}
-use Rattle.node_core.specs.Running.{IsAllSent}
 use Rattle.node_core.proofs.Quiet.{done_quiet}
 use Rattle.node_core.proofs.Elsewhere.{same_links}
 use Rattle.node_core.proofs.EndKinds.{same_kinds}

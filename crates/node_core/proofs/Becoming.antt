@@ -1,17 +1,14 @@
 -- An end of a node that becomes active in a step doesn't wait behind it, so that it takes a reset.
-use Rattle.std.proofs.Common.{◌≡◌, ℕ, zero, suc, Bool, true, false, List, [], ◌∷◌, map, refl, sym, ap, ◌∙◌, subst, arith}
-use Rattle.std.specs.Prelude.{Option, Some, None, IfSome, option_map, ◌==◌}
-use Rattle.std.specs.List.{find, flat_map}
-use Rattle.node_core.proofs.Words.{ActEvent, AtEnd, BeginsStep, EndState, Entry, IsReached, LinkInput, Node, Port, Role, Work, act_answer, activated}
-use Rattle.node_core.proofs.Words.{after_input, all_come, goes_through_ends, got_at, has_come, have_turns, input_at, is_open, passes, port_at, report}
-use Rattle.node_core.proofs.Words.{reset_refusal, role_after, settles, steps, synced, unless_cut}
+use Rattle.node_core.proofs.Words.{ActEvent, AtEnd, BeginsStep, Bool, Deed, EndState, Entry, IfSome, IsReached, LinkInput, List, Machine, Node, None, Option}
+use Rattle.node_core.proofs.Words.{Port, Role, Some, Work, [], act_answer, activated, after_input, all_come, ap, arith, false, find, find-map, flat_map}
+use Rattle.node_core.proofs.Words.{goes_through_ends, got_at, has_come, have_turns, input_at, map, option_map, passes, port_at, refl, report, reset_refusal}
+use Rattle.node_core.proofs.Words.{sent_all, settles, steps, subst, suc, sym, synced, true, unless_cut, zero, ℕ, ◌==◌, ◌∙◌, ◌∷◌, ◌≡◌}
+use Rattle.link_laws.specs.machine.Machine.{is_open}
+use Rattle.link_laws.specs.machine.Machine.{role_after}
 use Rattle.shdlc_core.specs.declared.answers.LinkState.TheVariants.{Down}
 use Rattle.shdlc_core.specs.Machine.{after_frames}
 use Rattle.link_laws.proofs.sessions.Ties.{fetched-phase}
-use Rattle.link_laws.specs.machine.Machine.{LinkEnd as Machine, sent_all}
 use Rattle.link_laws.proofs.machine.Runs.{Sound, sound}
-use Rattle.node_deeds.proofs.Ports.{find-map}
-use Rattle.node_machine.specs.Parts.{Deed}
 use Rattle.node_core.proofs.Joining.{stays_cut, goes_on}
 use Rattle.node_core.proofs.Quiet.{LinkSeen, link_at}
 use Rattle.node_core.proofs.Elsewhere.{host_at, same_links, turns_links}

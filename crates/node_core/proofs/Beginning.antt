@@ -1,16 +1,9 @@
 -- A node that has booted runs.
-use Rattle.std.proofs.Common.{◌≡◌, ℕ, zero, suc, ◌+◌, ◌≤◌, List, [], ◌∷◌, map, length, refl, sym, ap, subst, arith}
-use Rattle.std.specs.Prelude.{None, IsTrue}
-use Rattle.std.specs.List.{AllByRecursion}
-use Rattle.link_laws.specs.messages.Links.{IsClf}
-use Rattle.node_core.proofs.Words.{AreAtMostDue, AreHeldWhileOneWaits, AreInTime, AreOfHosts, EndsStandFor, HasOwnLink, IsUsable, Node, Port, RunsAs, between}
-use Rattle.node_core.proofs.Words.{has, hosts_linked, init_running}
-use Rattle.swp_base.specs.declared.link_terms.Role.{Role as Named}
+use Rattle.node_core.proofs.Words.{AllByRecursion, AreAtMostDue, AreHeldWhileOneWaits, AreInTime, AreOfHosts, EndsStandFor, HasOwnLink, HaveOwnRoles, IsClf}
+use Rattle.node_core.proofs.Words.{IsTrue, IsUsable, List, Named, Node, None, Port, RunsAs, [], ap, arith, between, has, hosts_linked, hosts_where}
+use Rattle.node_core.proofs.Words.{init_running, length, map, new_port, refl, subst, suc, sym, zero, ℕ, ◌+◌, ◌∷◌, ◌≡◌, ◌≤◌}
 use Rattle.swp_base.specs.declared.link_terms.Role.TheVariants.{Clf, Uicc}
-use Rattle.node_ends.specs.Making.{new_port}
-use Rattle.gate_admin.specs.View.{hosts_where}
 use Rattle.node_core.specs.Booting.{role_at}
-use Rattle.node_core.specs.Turning.{HaveOwnRoles}
 use Rattle.node_core.specs.Running.{core_kept}
 use Rattle.node_core.proofs.Masks.{hosts_within, links_within}
 

@@ -1,9 +1,8 @@
 -- A step of a node that runs: what it may begin with, and that the node runs behind it.
-use Rattle.std.proofs.Common.{◌≡◌, ℕ, ◌≤◌, Bool, true, false, List, [], ◌∷◌, map, refl, sym, ap, ◌∙◌, subst, arith}
-use Rattle.std.specs.Prelude.{Option, None, ◌==◌}
-use Rattle.node_core.proofs.Words.{AreAtMostDue, AreHeldWhileOneWaits, AreInTime, AreYoung, BeginsStep, Brings, EndsStandFor, Entry, Foretells, HasStepped}
-use Rattle.node_core.proofs.Words.{IsInStep, IsNodeInOrder, IsUsable, Node, NodeInput, Port, Stored, WereMade, Work, between, plan_left, port_at, steps}
-use Rattle.node_ends.specs.Ends.{IsHeldWhileOneWaits, MayStartAt}
+use Rattle.node_core.proofs.Words.{AreAtMostDue, AreHeldWhileOneWaits, AreInTime, AreYoung, BeginsStep, Bool, Brings, EndsStandFor, Entry, Foretells}
+use Rattle.node_core.proofs.Words.{HasStepped, IsHeldWhileOneWaits, IsInStep, IsNodeInOrder, IsUsable, List, MayStartAt, Node, NodeInput, None, Option, Port}
+use Rattle.node_core.proofs.Words.{Stored, WereMade, Work, [], ap, arith, between, false, map, plan_left, port_at, refl, steps, subst, sym, true, ℕ, ◌==◌, ◌∙◌}
+use Rattle.node_core.proofs.Words.{◌∷◌, ◌≡◌, ◌≤◌}
 use Rattle.node_core.proofs.Elsewhere.{hosts_differ}
 use Rattle.node_core.proofs.Staying.{steps_fine}
 use Rattle.node_core.proofs.Lasting.{OfAll, Ready, Rests}

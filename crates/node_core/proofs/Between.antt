@@ -1,24 +1,24 @@
 -- A node between its steps: what is kept of its ends then, and that all its frames go out one by one.
-use Rattle.std.proofs.Common.{◌≡◌, ℕ, ◌+◌, ◌≤◌, Bool, true, false, not, List, [], ◌∷◌, ◌++◌, map, length, refl, sym, ap, ap₂, ◌∙◌, subst, arith, append-nil}
-use Rattle.std.specs.Prelude.{Option, Some, None, option_map, slice_get, ◌==◌, ◌&&◌, IsTrue}
-use Rattle.std.specs.List.{AllByRecursion}
 use Rattle.std.proofs.lemmas.List.{length-map}
-use Rattle.node_core.proofs.Words.{AreAllDifferent, AreAtMostDue, AreHeldWhileOneWaits, AreInTime, BeginsStep, Control, Core, EndsStandFor, Entry, HasNoneEnded}
-use Rattle.node_core.proofs.Words.{HasStepped, IsInStep, IsNodeInOrder, IsReached, IsUsable, KeptEnds, Node, PoolState, Port, RunsAs, Seat, SeatsStandFor}
-use Rattle.node_core.proofs.Words.{Stored, Work, at_place, between, changed_if, due_count, has_sent, port_at, with_port}
+use Rattle.node_core.proofs.Words.{AllByRecursion, AreAllDifferent, AreAtMostDue, AreHeldWhileOneWaits, AreInTime, BeginsStep, Bool, Core, CoreStandsFor}
+use Rattle.node_core.proofs.Words.{EndsStandFor, Entry, HasNoneEnded, HasStepped, IsAllSent, IsHeldWhileOneWaits, IsInStep, IsNodeInOrder, IsReached, IsTrue}
+use Rattle.node_core.proofs.Words.{IsUsable, KeptEnds, List, Machine, Node, None, Option, PoolState, Port, RunsAs, Seat, SeatsStandFor, Some, Stored, Work, []}
+use Rattle.node_core.proofs.Words.{ap, append-nil, ap₂, arith, at_place, between, changed_if, due_count, false, frame_fetched, has_sent, length, map}
+use Rattle.node_core.proofs.Words.{next_frame, not, one_more_error, option_map, port_at, refl, sent_all, slice_get, subst, sym, true, with_port, ℕ, ◌&&◌, ◌++◌}
+use Rattle.node_core.proofs.Words.{◌+◌, ◌==◌, ◌∙◌, ◌∷◌, ◌≡◌, ◌≤◌}
+use Rattle.swp_base.specs.declared.control_frames.Control.{Control}
 use Rattle.shdlc_core.specs.declared.answers.Due.{Due}
 use Rattle.shdlc_core.specs.Machine.{all_frames, fetched, fragment_due, Fragment}
-use Rattle.link_laws.specs.machine.Machine.{LinkEnd as Machine, ActDue, among, next_frame, frame_fetched, frames_out, sent_all, nearer}
+use Rattle.link_laws.specs.machine.Machine.{ActDue, among, frames_out, nearer}
 use Rattle.link_laws.specs.machine.AtRest.{end_rests}
 use Rattle.link_laws.specs.machine.Laws.{fetches, after_fetches, most_fetches}
 use Rattle.link_laws.proofs.machine.Reports.{fetched_all, left_all}
 use Rattle.link_laws.proofs.places.Joined.{idle_after, left}
 use Rattle.node_machine.specs.Node.{with_error}
-use Rattle.node_ends.specs.Ends.{SeatStandsFor, IsHeldWhileOneWaits, frame_at, are_at_rest}
+use Rattle.node_ends.specs.Ends.{SeatStandsFor, are_at_rest, frame_at}
 use Rattle.node_ends.specs.Desks.{age_at}
 use Rattle.node_ends.proofs.Sending.{sent_same}
-use Rattle.node_core.specs.Nodes.{CoreStandsFor}
-use Rattle.node_core.specs.Running.{IsAllSent, SendsOneByOne, one_more_error}
+use Rattle.node_core.specs.Running.{SendsOneByOne}
 use Rattle.node_core.proofs.Elsewhere.{host_at}
 use Rattle.node_core.proofs.EndKinds.{kind_at, port_kinds, sent_kind, kept_kinds}
 use Rattle.node_core.proofs.Ordering.{in_order_at}

@@ -1,19 +1,14 @@
 -- What begins a step of a node.
-use Rattle.std.proofs.Common.{◌≡◌, ℕ, ◌≤◌, true, List, [], ◌∷◌, map, refl, sym, ap, subst, arith}
-use Rattle.std.specs.Prelude.{Option, Some, option_map, IfSome, Result, Err, OnErr}
-use Rattle.std.specs.List.{flat_map}
-use Rattle.std.specs.Option.{option_map_or}
-use Rattle.node_core.proofs.Words.{AreAllDifferent, AreAtMostDue, AreFewDue, AreOfHosts, AtEnd, Core, HasNoneEnded, IsNodeInOrder, LinkInput, NodeInput, Plan}
-use Rattle.node_core.proofs.Words.{Port, ResetRefused, TimePasses, Work, all_come, between, input_of_end, port_at, reset_few_due, sync_kept, synced, times_out}
-use Rattle.node_core.proofs.Words.{told_at}
-use Rattle.node_ends.proofs.Apart.{is_outside}
+use Rattle.node_core.proofs.Words.{AreAllDifferent, AreAtMostDue, AreFewDue, AreOfHosts, At, AtEnd, Core, Err, HasNoneEnded, IfSome, IsNodeInOrder, LinkInput}
+use Rattle.node_core.proofs.Words.{List, MayComeAt, NodeInput, OnErr, Option, Plan, Port, ResetRefused, Result, Some, TimePasses, ToEnd, Work, [], all_come, ap}
+use Rattle.node_core.proofs.Words.{arith, between, flat_map, input_of_end, input_of_node, is_outside, map, option_map, option_map_or, port_at, refl, refusal_at}
+use Rattle.node_core.proofs.Words.{reset_few_due, subst, sym, sync_kept, synced, times_out, told_at, true, ℕ, ◌∷◌, ◌≡◌, ◌≤◌}
 use Rattle.node_ends.proofs.Dues.{lpdu_few, start_few, stop_few}
-use Rattle.node_ends.specs.declared.inputs.LinkInput.{LinkInput as ToEnd}
 use Rattle.node_ends.specs.declared.inputs.LinkInput.TheVariants.{Frame, Reset, Start, Stop}
 use Rattle.node_core.specs.declared.inputs.NodeInput.{NodeInput as ToNode}
-use Rattle.node_core.specs.declared.inputs.NodeInput.TheVariants.{At, Tick}
-use Rattle.node_ends.specs.Inputs.{frame_said, MayComeAt, refusal_at}
-use Rattle.node_core.specs.Inputs.{input_of_node, MayComeToNode, refusal_by, sync_by}
+use Rattle.node_core.specs.declared.inputs.NodeInput.TheVariants.{Tick}
+use Rattle.node_ends.specs.Inputs.{frame_said}
+use Rattle.node_core.specs.Inputs.{MayComeToNode, refusal_by, sync_by}
 use Rattle.node_core.proofs.Elsewhere.{host_at}
 use Rattle.node_core.proofs.Refusing.{refused_is, refused_stays, tick_synced, late_few}
 use Rattle.node_core.proofs.Resting.{MakesOneMore, MakeOneMore}

@@ -1,12 +1,7 @@
 -- What a node looks at as it decides.
-use Rattle.std.proofs.Common.{◌≡◌, ◌≢◌, ℕ, ◌≤◌, Bool, true, not, List, [], ◌∷◌, map, refl, sym, ap, ◌∙◌, arith}
-use Rattle.std.specs.Prelude.{Option, Some, None, option_map, slice_get, ◌==◌}
-use Rattle.std.specs.Option.{option_map_or}
-use Rattle.std.proofs.lemmas.Bool.{eq-eqb}
-use Rattle.node_core.proofs.Words.{AreOfHosts, Desk, Entry, HasOwnLink, IsInStep, IsNodeInOrder, Message, Node, Port, Work, got_at, handling, has_link}
-use Rattle.node_core.proofs.Words.{init_running, is_up, port_at}
-use Rattle.node_machine.specs.Parts.{Desk as DeskOf}
-use Rattle.node_deeds.specs.Shown.{desk_shown}
+use Rattle.node_core.proofs.Words.{AreOfHosts, Bool, Desk, DeskOf, Entry, HasOwnLink, IsInStep, IsNodeInOrder, List, Message, Node, None, Option, Port, Some}
+use Rattle.node_core.proofs.Words.{Work, [], ap, arith, desk_shown, eq-eqb, got_at, handling, has_link, init_running, is_up, map, not, option_map}
+use Rattle.node_core.proofs.Words.{option_map_or, port_at, refl, slice_get, sym, true, ℕ, ◌==◌, ◌∙◌, ◌∷◌, ◌≡◌, ◌≢◌, ◌≤◌}
 use Rattle.node_deeds.specs.Cores.{handled}
 use Rattle.node_deeds.specs.Hosts.{IsHostAt}
 

@@ -1,11 +1,9 @@
 -- Deeds that were decided may be done.
-use Rattle.std.proofs.Common.{◌≡◌, arith, ℕ, List, [], ◌∷◌}
-use Rattle.std.specs.Prelude.{None}
-use Rattle.node_core.proofs.Words.{AreDoableInTurn, AreGranted, Handling, IsDoableNow, IsSendable, Work, deed_shown, deeds_shown, done, goes_on_with}
+use Rattle.node_core.proofs.Words.{AreDecided, AreDoableInTurn, AreGranted, Handling, IsDoableNow, IsGranted, IsSendable, List, None, Work, [], arith}
+use Rattle.node_core.proofs.Words.{deed_shown, deeds_shown, done, goes_on_with, ℕ, ◌∷◌, ◌≡◌}
 use Rattle.node_deeds.specs.declared.deeds.Deed.{Deed}
 use Rattle.node_deeds.specs.declared.deeds.Deed.TheVariants as kept
-use Rattle.node_deeds.specs.Cores.{IsDoable as IsDecided, AreDoable as AreDecided}
-use Rattle.node_core.specs.Deeds.{IsGranted}
+use Rattle.node_deeds.specs.Cores.{IsDoable as IsDecided}
 
 -- an init that goes on runs still, and where none does only an answer is heard
 going : (a : Handling) (answered : ℕ) (w : Work) → IsGranted a.init (goes_on_with a.init answered) w → w.core.init ≡ a.init

@@ -1,21 +1,15 @@
 -- One deed, as it is done and as it is noted.
-use Rattle.std.proofs.Common.{◌≡◌, ◌≢◌, ℕ, Bool, true, false, not, List, [], ◌∷◌, ◌++◌, map, refl, sym, ap, ◌∙◌, subst, append_assoc, append-nil, arith}
-use Rattle.std.specs.Prelude.{Option, Some, None, is_none, is_ok, ◌==◌, ◌⊎◌, Result, Ok, Err}
+use Rattle.node_core.proofs.Words.{AreMade, Bool, Brings, Command, Core, CoreStandsFor, End, EndsStandFor, Entry, Err, Give, IsInStep, KeptEnds, List, Message}
+use Rattle.node_core.proofs.Words.{Node, None, Ok, Option, Port, Refused, Result, SendRefused, Some, State, Stored, WereMade, Work, Write, [], after_turn, ap}
+use Rattle.node_core.proofs.Words.{append-nil, append_assoc, arith, body_of, commit, commit_writes, end_of_node, false, give_refusal, given_at, has_room_for}
+use Rattle.node_core.proofs.Words.{is_none, is_ok, map, not, noted_of, noting, option_map_or, port_at, refl, subst, sym, takes_at, true, true≢false, turn_at}
+use Rattle.node_core.proofs.Words.{unnumbered, with_port, ℕ, ◌++◌, ◌==◌, ◌∙◌, ◌∷◌, ◌≡◌, ◌≢◌, ◌⊎◌}
 use Rattle.nv_journal.specs.declared.JournalFault.{JournalFault}
 use Rattle.nv_journal.specs.declared.JournalFault.TheVariants.{NvFault, GenerationsSpent}
-use Rattle.std.specs.Option.{option_map_or}
-use Rattle.std.proofs.lemmas.Bool.{true≢false}
-use Rattle.node_core.proofs.Words.{AreMade, Brings, Command, Core, End, EndsStandFor, Entry, Give, IsInStep, KeptEnds, Message, Node, Port, Refused, Stored}
-use Rattle.node_core.proofs.Words.{WereMade, Work, Write, after_turn, body_of, commit_writes, end_of_node, give_refusal, noted_of, noting, port_at, takes_at}
-use Rattle.node_core.proofs.Words.{turn_at, unnumbered, with_port}
 use Rattle.trace_model.specs.declared.entry.Entry.TheVariants as entry
-use Rattle.journal_laws.specs.declared.state.State.{State}
 use Rattle.hci_tables.specs.Tables.{apply}
 use Rattle.hci_store.specs.Committing.{record_fits, committed}
-use Rattle.node_machine.specs.Carrying.{commit, keeps, loses_power, has_room_for}
-use Rattle.link_end.specs.declared.report.SendRefused.{SendRefused}
-use Rattle.node_ends.specs.Ends.{given_at}
-use Rattle.node_core.specs.Nodes.{CoreStandsFor}
+use Rattle.node_machine.specs.Carrying.{keeps, loses_power}
 
 -- ## Entries
 

@@ -1,12 +1,9 @@
 -- What the turns of the messages at one end leave of the other ends.
-use Rattle.std.proofs.Common.{◌≡◌, ◌≢◌, ℕ, zero, suc, ◌≤◌, Bool, true, false, not, List, [], ◌∷◌, map, drop, length, refl, sym, ap, ap₂, ◌∙◌, subst, arith}
-use Rattle.std.specs.Prelude.{Option, Some, None, ◌==◌, option_map, slice_get, IfSome}
-use Rattle.std.specs.List.{AllByRecursion}
-use Rattle.std.specs.Option.{option_map_or}
-use Rattle.node_core.proofs.Words.{AreAllDifferent, AreFewDue, AreOfHosts, EndState, FewAreDue, Hold, LinkState, Message, PoolState, Port, Seat, SeatsStandFor}
-use Rattle.node_core.proofs.Words.{Work, after_turn, changed_if, deeds_of, handles, have_turns, held_at, holds_back, lack, lets_go, needs, port_at, with_port}
-use Rattle.shdlc_core.specs.Machine.{with_ready}
-use Rattle.node_machine.specs.Parts.{Deed as DeedOf}
+use Rattle.node_core.proofs.Words.{AllByRecursion, AreAllDifferent, AreFewDue, AreOfHosts, Bool, DeedOf, EndState, FewAreDue, Hold, IfSome, LinkState, List}
+use Rattle.node_core.proofs.Words.{Message, None, Option, PoolState, Port, Seat, SeatsStandFor, Some, Work, [], after_turn, ap, ap₂, arith, changed_if}
+use Rattle.node_core.proofs.Words.{deeds_of, drop, false, handles, have_turns, held_at, holds_back, lack, length, lets_go, map, needs, not, option_map}
+use Rattle.node_core.proofs.Words.{option_map_or, port_at, refl, slice_get, subst, suc, sym, true, with_port, with_ready, zero, ℕ, ◌==◌, ◌∙◌, ◌∷◌, ◌≡◌, ◌≢◌}
+use Rattle.node_core.proofs.Words.{◌≤◌}
 use Rattle.node_ends.specs.Ends.{HaveOwnHosts}
 use Rattle.node_ends.proofs.Changing.{host_is}
 use Rattle.node_core.proofs.Quiet.{Quiet, LinkSeen, quiet_at, link_at, handles_quiet, few_kept}

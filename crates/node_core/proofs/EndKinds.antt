@@ -1,15 +1,10 @@
 -- Whether an end is that of a CLF or of a UICC: nothing that comes to it, and nothing that its node does, changes that.
-use Rattle.std.proofs.Common.{◌≡◌, ℕ, Bool, true, List, [], ◌∷◌, map, refl, sym, ap, ap₂, ◌∙◌, arith}
-use Rattle.std.specs.Prelude.{Option, ◌==◌}
-use Rattle.std.specs.List.{AllByRecursion}
-use Rattle.swp_base.specs.declared.link_terms.Role.{Role as Named}
+use Rattle.node_core.proofs.Words.{AllByRecursion, Bool, EndState, HaveOwnRoles, IsClf, IsUicc, LinkInput, List, Machine, Named, Option, Port, Role, []}
+use Rattle.node_core.proofs.Words.{after_input, ap, ap₂, arith, between, changed_if, frame_fetched, has_come, has_sent, map, moved, refl, reset_late, sym, true}
+use Rattle.node_core.proofs.Words.{with_port, ℕ, ◌==◌, ◌∙◌, ◌∷◌, ◌≡◌}
 use Rattle.swp_base.specs.declared.link_terms.Role.TheVariants.{Bare as BareName, Clf as ClfName, Uicc as UiccName}
-use Rattle.node_core.proofs.Words.{EndState, IsUicc, LinkInput, Port, Role, after_input, between, changed_if, has_come, has_sent, put_down, reset_late}
-use Rattle.node_core.proofs.Words.{with_port}
-use Rattle.link_laws.specs.machine.Machine.{LinkEnd as Machine, moved, frame_fetched}
+use Rattle.link_laws.specs.machine.Machine.{put_down}
 use Rattle.link_laws.specs.machine.Machine.Role.{Bare, Clf, Uicc}
-use Rattle.link_laws.specs.messages.Links.{IsClf}
-use Rattle.node_core.specs.Turning.{HaveOwnRoles}
 use Rattle.node_core.proofs.Quiet.{LinkSeen, link_at}
 use Rattle.node_core.proofs.Elsewhere.{host_at}
 

@@ -1,8 +1,6 @@
 -- The faults of the memory of a node, one thing after another.
-use Rattle.std.proofs.Common.{◌≡◌, ℕ, ◌≤◌, Bool, true, sym, ◌∙◌, arith}
-use Rattle.std.proofs.lemmas.Bool.{true≢false}
+use Rattle.node_core.proofs.Words.{Bool, CountsFaults, Stored, arith, sym, true, true≢false, ℕ, ◌∙◌, ◌≡◌, ◌≤◌}
 use Rattle.swp_base.specs.Outside.{Rose}
-use Rattle.node_core.proofs.Words.{CountsFaults, Stored}
 use Rattle.node_core.specs.Running.{ran_so}
 use Rattle.node_core.specs.declared.running.Ran.{Ran}
 

@@ -1,7 +1,6 @@
 -- Creations are forgotten at all ends of a node, one after another.
-use Rattle.std.proofs.Common.{◌≡◌, ℕ, zero, suc, Bool, ◌&&◌, ◌||◌, List, [], ◌∷◌, refl, ap₂, ◌∙◌, arith}
-use Rattle.std.specs.Prelude.{◌==◌}
-use Rattle.node_core.proofs.Words.{Port, at_place, first_changed, forgets, is_over, is_over_at, next_changed}
+use Rattle.node_core.proofs.Words.{Bool, List, Port, [], ap₂, arith, at_place, first_changed, forgets, is_over, is_over_at, next_changed, refl, suc, zero, ℕ}
+use Rattle.node_core.proofs.Words.{◌&&◌, ◌==◌, ◌||◌, ◌∙◌, ◌∷◌, ◌≡◌}
 use Rattle.node_ends.proofs.Seated.{at_place_as}
 
 -- what of an end says that its session is over

@@ -1,15 +1,8 @@
 -- Blocks of askers whose creations are forgotten are free.
-use Rattle.std.proofs.Common.{◌≡◌, ℕ, zero, suc, ◌≤◌, Bool, true, false, List, [], ◌∷◌, ◌++◌, map, take, length, refl, sym, ap, ◌∙◌, arith, add-one}
-use Rattle.std.proofs.Common.{append_assoc, ◌+◌, append_assoc, append-nil}
-use Rattle.std.specs.Prelude.{Option, Some, slice_get, ◌⊎◌}
-use Rattle.std.specs.List.{flat_map, filter, filter_map}
-use Rattle.std.specs.Option.{option_map_or}
-use Rattle.std.proofs.lemmas.List.Concat.{flat_map-cons}
-use Rattle.std.proofs.lemmas.Grind.{flat_map-append}
-use Rattle.node_core.proofs.Words.{Creation, Entry, IsInStep, Node, Port, Releases, Response, Work, all_done, answers_owed, asked_at, done, forgotten, freed_at}
-use Rattle.node_core.proofs.Words.{is_over_at, owed_at, unless_cut}
-use Rattle.node_machine.specs.Parts.{Deed}
-use Rattle.node_machine.specs.Node.{owed}
+use Rattle.node_core.proofs.Words.{Bool, Creation, Deed, Entry, IsInStep, List, Node, Option, Port, Releases, Response, Some, Work, [], add-one, all_done}
+use Rattle.node_core.proofs.Words.{answers_owed, ap, append-nil, append_assoc, arith, asked_at, done, false, filter, filter_map, flat_map, flat_map-append}
+use Rattle.node_core.proofs.Words.{flat_map-cons, forgotten, freed_at, is_over_at, length, map, option_map_or, owed, owed_at, refl, slice_get, suc, sym, take}
+use Rattle.node_core.proofs.Words.{true, unless_cut, zero, ℕ, ◌++◌, ◌+◌, ◌∙◌, ◌∷◌, ◌≡◌, ◌≤◌, ◌⊎◌}
 use Rattle.node_core.specs.Owing.{has_ended_so}
 
 -- ## All ends

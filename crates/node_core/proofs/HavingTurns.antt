@@ -1,15 +1,11 @@
 -- A message that has its turn.
-use Rattle.std.proofs.Common.{◌≡◌, ◌≢◌, ℕ, Bool, true, false, List, [], ◌∷◌, map, refl, sym, ap, ◌∙◌, subst, arith}
-use Rattle.std.specs.Prelude.{Option, Some, None, option_map, ◌==◌}
-use Rattle.node_core.proofs.Words.{AreGranted, Brings, Core, FewAreDue, Foretells, Handling, Hold, Init, IsOnTask, IsSendable, Message, Plan, Port, Work}
-use Rattle.node_core.proofs.Words.{controller_deeds, deeds_of, deeds_shown, end_view, handles, has_turn, have_turns, held_at, holds_back, host_deeds, lack}
-use Rattle.node_core.proofs.Words.{lack_shown, lets_go, needs, own_view, port_at, turn_at, unless_cut, view_of}
-use Rattle.node_machine.specs.Parts.{Deed as DeedOf}
+use Rattle.node_core.proofs.Words.{AreDecided, AreGranted, Bool, Brings, Core, DeedOf, FewAreDue, Foretells, Handling, Hold, Init, IsDecided, IsOnTask}
+use Rattle.node_core.proofs.Words.{IsSendable, List, Message, None, Option, Plan, Port, Some, Work, [], ap, arith, controller_deeds, deeds_of, deeds_shown}
+use Rattle.node_core.proofs.Words.{end_view, false, handles, has_turn, have_turns, held_at, holds_back, host_deeds, lack, lack_shown, lets_go, map, needs}
+use Rattle.node_core.proofs.Words.{option_map, own_view, port_at, refl, subst, sym, true, turn_at, unless_cut, view_of, ℕ, ◌==◌, ◌∙◌, ◌∷◌, ◌≡◌, ◌≢◌}
 use Rattle.std.proofs.lemmas.Bool.{ne_eqb}
 use Rattle.node_deeds.specs.declared.deeds.Deed.{Deed}
 use Rattle.node_deeds.specs.declared.room.Shortfall.{Shortfall}
-use Rattle.node_deeds.specs.Cores.{AreDoable as AreDecided}
-use Rattle.node_core.specs.Turning.{IsDecided}
 use Rattle.node_core.proofs.Ordering.{node_allowed}
 use Rattle.node_core.proofs.Deciding.{all_doable}
 use Rattle.node_core.proofs.Quiet.{quiet_at, handles_quiet}

@@ -1,11 +1,7 @@
 -- A message that lacks room.
-use Rattle.std.proofs.Common.{◌≡◌, ℕ, Bool, true, false, List, [], ◌∷◌, refl, arith}
-use Rattle.std.specs.Prelude.{◌==◌}
-use Rattle.std.specs.Option.{option_map_or}
+use Rattle.node_core.proofs.Words.{Bool, DeskOf, FewAreDue, Hold, List, Port, Work, [], arith, end_of_node, false, holds_back, is_noted_held, noting}
+use Rattle.node_core.proofs.Words.{option_map_or, port_at, refl, true, turn_at, with_desk, with_port, ℕ, ◌==◌, ◌∷◌, ◌≡◌}
 use Rattle.trace_model.specs.declared.entry.Entry.TheVariants as entry
-use Rattle.node_core.proofs.Words.{FewAreDue, Hold, Port, Work, end_of_node, holds_back, noting, port_at, turn_at, with_desk, with_port}
-use Rattle.node_machine.specs.Parts.{Desk as DeskOf}
-use Rattle.node_core.specs.Handling.{is_noted_held}
 
 -- it is noted, and then the end is held
 pub held_so : (h : ℕ) (short : ℕ × ℕ) (w : Work) → turn_at h (Hold true) (is_noted_held h short w) ≡ holds_back h short w

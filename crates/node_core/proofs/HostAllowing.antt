@@ -1,16 +1,12 @@
 -- What a host decides may be done: a command finds room, also behind another one, since behind the last command of an init nothing else
 -- is kept.
-use Rattle.std.proofs.Common.{◌≡◌, ◌≢◌, ℕ, zero, suc, ◌+◌, Bool, true, false, cond, eqb, List, [], ◌∷◌, ◌++◌, map, refl, sym, ap, ◌∙◌, subst, add-one, arith}
-use Rattle.std.proofs.Common.{slice_get}
-use Rattle.std.specs.Prelude.{Option, Some, None}
+use Rattle.std.proofs.Common.{eqb}
+use Rattle.node_core.proofs.Words.{AreGranted, Bool, Commits, Core, Deed, Ends, Hears, Init, IsOnOrder, IsOnTask, List, Message, None, Option, Port, Some, Work}
+use Rattle.node_core.proofs.Words.{[], add-one, ap, arith, body_in, cond, done, end_of_node, end_view, false, has_turn, host_deeds, map, own_view, refl}
+use Rattle.node_core.proofs.Words.{slice_get, subst, suc, sym, true, zero, ℕ, ◌++◌, ◌+◌, ◌∙◌, ◌∷◌, ◌≡◌, ◌≢◌}
 use Rattle.trace_model.specs.declared.entry.Entry.TheVariants.{InitFailed}
-use Rattle.node_core.proofs.Words.{AreGranted, Commits, Core, Ends, Hears, Init, IsOnTask, Message, Port, Work, done, end_of_node, end_view, has_turn}
-use Rattle.node_core.proofs.Words.{host_deeds, own_view}
 use Rattle.gate_answers.specs.declared.response.Response.TheVariants as response
-use Rattle.gate_answers.specs.Answers.{body_in}
-use Rattle.node_machine.specs.Parts.{Deed}
 use Rattle.node_machine.specs.HostReplies.{orders_of, init_agreed, init_deeds, learned, ordered_deeds}
-use Rattle.node_machine.specs.Orders.{IsOnOrder}
 use Rattle.node_machine.proofs.Walks.{ordered_holds, learned_holds, host_holds}
 
 -- the last of a list is the one behind which there is none

@@ -1,14 +1,8 @@
 -- Where nothing is left to do at the ends of a node and no identifier came, its step is over.
-use Rattle.std.proofs.Common.{◌≡◌, ℕ, Bool, true, false, not, ◌&&◌, ◌||◌, List, [], ◌∷◌, map, refl, sym, ap, ap₂, ◌∙◌, arith}
-use Rattle.std.specs.Prelude.{Option, Some, None, IfSome, is_some}
-use Rattle.std.specs.List.{AllByRecursion, list_any}
-use Rattle.std.specs.Option.{option_map_or}
-use Rattle.std.proofs.lemmas.Bool.{true≢false}
-use Rattle.link_laws.specs.machine.Machine.{is_held}
-use Rattle.node_core.proofs.Words.{Message, Port, Work, all_done, goes_through_ends, have_turns, is_over, passes, port_at, unless_cut}
-use Rattle.node_machine.specs.Parts.{Deed}
-use Rattle.node_ends.specs.Ends.{rests, is_idle, are_idle}
-use Rattle.node_core.specs.Syncing.{finishes}
+use Rattle.node_core.proofs.Words.{AllByRecursion, Bool, Deed, IfSome, List, Message, None, Option, Port, Some, Work, [], all_done, ap, ap₂, arith, false}
+use Rattle.node_core.proofs.Words.{finishes, goes_through_ends, have_turns, is_held, is_over, is_some, list_any, map, not, option_map_or, passes, port_at, refl}
+use Rattle.node_core.proofs.Words.{rests, sym, true, true≢false, unless_cut, ℕ, ◌&&◌, ◌||◌, ◌∙◌, ◌∷◌, ◌≡◌}
+use Rattle.node_ends.specs.Ends.{are_idle, is_idle}
 use Rattle.node_core.proofs.Joining.{goes_on}
 use Rattle.node_core.proofs.HavingTurns.{stays}
 use Rattle.node_core.proofs.Passing.{none_waits, not_held}

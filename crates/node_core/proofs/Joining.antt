@@ -1,10 +1,8 @@
 -- What a node does one thing after another, as far as its memory goes along.
-use Rattle.std.proofs.Common.{◌≡◌, inl, inr, ℕ, suc, Bool, true, false, List, [], ◌∷◌, ◌++◌, length, refl, sym, ap, ◌∙◌, subst, arith, append_assoc, append-nil}
-use Rattle.std.specs.Prelude.{Option, ◌==◌, ◌&&◌, nat_le}
-use Rattle.std.proofs.lemmas.Bool.{true≢false, eqb-true}
 use Rattle.std.proofs.lemmas.Bool.Decides.{nat_tests}
-use Rattle.swp_base.specs.InMemory.{plan_after}
-use Rattle.node_core.proofs.Words.{AreMade, Brings, Foretells, Plan, WereMade, Work, Write, fails_within, plan_behind, plan_left, unless_cut}
+use Rattle.node_core.proofs.Words.{AreMade, Bool, Brings, Foretells, List, Option, Plan, WereMade, Work, Write, [], ap, append-nil, append_assoc, arith}
+use Rattle.node_core.proofs.Words.{eqb-true, fails_within, false, inl, inr, length, nat_le, plan_after, plan_behind, plan_left, refl, subst, suc, sym, true}
+use Rattle.node_core.proofs.Words.{true≢false, unless_cut, ℕ, ◌&&◌, ◌++◌, ◌==◌, ◌∙◌, ◌∷◌, ◌≡◌}
 
 -- ## Plans
 

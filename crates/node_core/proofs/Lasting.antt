@@ -1,19 +1,14 @@
 -- What lasts at the ends of a node while it carries out deeds and has its turns: how many control frames wait there, the age of the
 -- notice, and that an end is held while a message waits there.
-use Rattle.std.proofs.Common.{◌≡◌, ◌≢◌, ℕ, ◌+◌, ◌≤◌, Bool, true, false, not, List, []}
-use Rattle.std.proofs.Common.{◌∷◌, map, drop, length, refl, sym, ap, ◌∙◌, subst, arith, length-append}
-use Rattle.std.specs.Prelude.{Option, Some, None, ◌==◌, ◌||◌}
-use Rattle.std.specs.List.{AllByRecursion}
-use Rattle.std.specs.Option.{option_map_or}
-use Rattle.std.proofs.lemmas.Bool.{eqb-true, eq-eqb, true≢false}
+use Rattle.node_core.proofs.Words.{AllByRecursion, AreAllDifferent, Asks, Bool, Commits, Deed, DeskOf, Drops, EndState, Ends, FetchMessage, Give, GoesOn, Hears}
+use Rattle.node_core.proofs.Words.{Hold, IsAnswered, List, Machine, Message, None, Option, Orders, Port, Release, Releases, SaysOk, Sends, SetAside, SetsErrors}
+use Rattle.node_core.proofs.Words.{Some, Tells, Turn, Work, [], after_turn, all_done, ap, arith, changed_if, deeds_of, done, drop, eq-eqb, eqb-true, false}
+use Rattle.node_core.proofs.Words.{goes_through_ends, got_at, handles, have_turns, held_at, holds_back, lack, length, length-append, lets_go, map, needs, not}
+use Rattle.node_core.proofs.Words.{option_map_or, passes, port_at, refl, subst, sym, true, true≢false, with_port, with_ready, ℕ, ◌+◌, ◌==◌, ◌||◌, ◌∙◌, ◌∷◌, ◌≡◌}
+use Rattle.node_core.proofs.Words.{◌≢◌, ◌≤◌}
 use Rattle.shdlc_core.specs.declared.answers.Due.TheVariants.{Rr as Rr_due}
-use Rattle.shdlc_core.specs.Machine.{with_ready}
-use Rattle.node_core.proofs.Words.{AreAllDifferent, Asks, Commits, Drops, EndState, Ends, FetchMessage, Give, Hears, Hold, IsAnswered, Message, Notice, Orders}
-use Rattle.node_core.proofs.Words.{Port, Release, Releases, SaysOk, Sends, SetAside, SetsErrors, Tells, Turn, Work, after_turn, all_done, changed_if, deeds_of}
-use Rattle.node_core.proofs.Words.{done, goes_through_ends, got_at, handles, have_turns, held_at, holds_back, lack, lets_go, needs, passes, port_at, with_port}
-use Rattle.link_laws.specs.machine.Machine.{LinkEnd as Machine, turn}
-use Rattle.node_machine.specs.Parts.{Desk as DeskOf, Deed}
-use Rattle.node_machine.specs.Parts.Deed.{GoesOn}
+use Rattle.node_machine.specs.Parts.{Notice}
+use Rattle.link_laws.specs.machine.Machine.{turn}
 use Rattle.node_core.proofs.Quiet.{commit_ports}
 use Rattle.node_core.proofs.Joining.{stays_cut, goes_on}
 use Rattle.node_core.proofs.Elsewhere.{host_at, turns_hosts}

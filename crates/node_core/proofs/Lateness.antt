@@ -1,21 +1,16 @@
 -- Notices grow older at all ends of a node, and links of late ones are reset.
-use Rattle.std.proofs.Common.{◌≡◌, ℕ, zero, suc, ◌≤◌, Bool, true, false, List, [], ◌∷◌, ◌++◌, map, take, length, refl, sym, ap, ap₂, ◌∙◌, subst, arith}
-use Rattle.std.proofs.Common.{append_assoc, append-nil}
-use Rattle.std.specs.Prelude.{Option, Some, None, slice_get, Err, is_some, option_map, ◌||◌}
-use Rattle.std.specs.List.{AllByRecursion, flat_map}
-use Rattle.std.proofs.lemmas.List.Concat.{flat_map-cons}
-use Rattle.node_core.proofs.Words.{AreFewDue, AreYoung, Asked, Core, EndsStandFor, Entry, IsInStep, IsReached, KeptEnds, LinkReport, Node, PoolState, Port}
-use Rattle.node_core.proofs.Words.{Refused, ResetRefused, Seat, SeatsStandFor, TimePasses, Work, after_input, all_changed, at_place, entries_for, first_changed}
-use Rattle.node_core.proofs.Words.{if_up, is_late, kept_number, next_changed, none_changed, noting, own_side, port_at, report, report_told, reset_late}
-use Rattle.node_core.proofs.Words.{reset_refusal, times_out, told, told_at, whole_acked, with_older}
-use Rattle.link_end.specs.Reports.{reset_told, nothing_told}
-use Rattle.std.specs.Option.{option_map_or}
-use Rattle.link_laws.specs.machine.Machine.LinkInput.{Reset}
-use Rattle.node_machine.specs.Node.{told_late}
+use Rattle.node_core.proofs.Words.{AllByRecursion, AreFewDue, AreYoung, Bool, Core, EndsStandFor, Entry, Err, IsInStep, IsReached, KeptEnds, LinkReport, List}
+use Rattle.node_core.proofs.Words.{Node, None, Option, PoolState, Port, Refused, Reset, ResetRefused, Seat, SeatsStandFor, Some, TimePasses, Work, []}
+use Rattle.node_core.proofs.Words.{after_input, all_changed, ap, append-nil, append_assoc, ap₂, arith, at_place, entries_for, false, first_changed, flat_map}
+use Rattle.node_core.proofs.Words.{flat_map-cons, is_late, is_some, kept_number, late_told, length, map, next_changed, next_there, none_changed, noting}
+use Rattle.node_core.proofs.Words.{option_map, option_map_or, own_side, port_at, refl, report, report_told, reset_late, reset_refusal, reset_told, slice_get}
+use Rattle.node_core.proofs.Words.{subst, suc, sym, take, times_out, told, told_at, told_late, true, whole_acked, with_older, zero, ℕ, ◌++◌, ◌||◌, ◌∙◌, ◌∷◌}
+use Rattle.node_core.proofs.Words.{◌≡◌, ◌≤◌}
+use Rattle.swp_base.specs.declared.link_terms.Cause.TheVariants.{Asked}
+use Rattle.link_laws.specs.machine.Machine.{if_up}
+use Rattle.link_end.specs.Reports.{nothing_told}
 use Rattle.node_ends.specs.Desks.{IsYoung, have_notices}
-use Rattle.node_ends.specs.Ends.{late_told}
 use Rattle.node_ends.proofs.Counting.{is_sound, reset_report}
-use Rattle.node_ends.proofs.Seated.{next_there}
 use Rattle.node_core.proofs.Elsewhere.{hosts_differ}
 use Rattle.node_core.proofs.Ticking.{next_told, all_told, found_there}
 

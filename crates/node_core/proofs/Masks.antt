@@ -1,11 +1,8 @@
 -- The hosts to which a node has links are from 01 to 07, each once.
-use Rattle.std.proofs.Common.{◌≡◌, ◌≢◌, ℕ, zero, suc, ◌+◌, ◌≤◌, ◌<◌, Bool, true, false, List, [], ◌∷◌, map, refl, arith}
-use Rattle.std.specs.Prelude.{◌==◌, if◌then◌else◌}
-use Rattle.std.specs.List.{AllByRecursion, filter, range_with_len}
-use Rattle.swp_base.specs.declared.link_terms.Role.{Role as Named}
+use Rattle.std.specs.List.{range_with_len}
+use Rattle.node_core.proofs.Words.{AllByRecursion, AreAllDifferent, AreOfHosts, Bool, List, Named, [], arith, false, filter, has, hosts_linked, if◌then◌else◌}
+use Rattle.node_core.proofs.Words.{map, new_port, refl, suc, true, zero, ℕ, ◌+◌, ◌<◌, ◌==◌, ◌∷◌, ◌≡◌, ◌≢◌, ◌≤◌}
 use Rattle.gate_admin.specs.View.{hosts_where}
-use Rattle.node_core.proofs.Words.{AreAllDifferent, AreOfHosts, has, hosts_linked}
-use Rattle.node_ends.specs.Making.{new_port}
 
 kept_all : (P : ℕ → Type 0) (test : ℕ → Bool) (xs : List ℕ) → AllByRecursion P xs → AllByRecursion P (filter test xs)
 kept_all P test [] all = tt

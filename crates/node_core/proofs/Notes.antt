@@ -1,17 +1,13 @@
 -- Entries that are noted one after another.
-use Rattle.std.proofs.Common.{◌≡◌, ℕ, Bool, true, false, not, List, [], ◌∷◌, ◌++◌, map, refl, sym, ap, ◌∙◌, subst, append_assoc, append-nil, arith}
-use Rattle.std.specs.Prelude.{Option, Some, None, is_none, is_some, ◌==◌, ◌&&◌, option_to_list, nat_lt}
-use Rattle.std.proofs.lemmas.Grind.{flat_map-append}
-use Rattle.std.proofs.lemmas.List.{map-append}
-use Rattle.node_core.proofs.Words.{AreNotes, EndsStandFor, Entry, IsInStep, KeptEnds, Message, Node, Port, Work, end_of, entries_for, kept_number}
-use Rattle.node_core.proofs.Words.{noting, report_told, told, unnumbered}
-use Rattle.link_laws.specs.entries.Entries.{Entry as Noted, End as Side, if_so}
+use Rattle.node_core.proofs.Words.{Acked, Active, AreNotes, Bool, Cause, Down, EndsStandFor, Entry, GaveUp, Got, IsInStep, KeptEnds, List, Message, Node, None}
+use Rattle.node_core.proofs.Words.{Option, Port, Some, Up, Work, [], ap, append-nil, append_assoc, arith, end_of, entries_for, false, flat_map-append, if_so}
+use Rattle.node_core.proofs.Words.{is_none, is_some, kept_number, map, map-append, nat_lt, not, noting, oldest, option_to_list, refl, report_told, subst, sym}
+use Rattle.node_core.proofs.Words.{told, true, unnumbered, without_message, ℕ, ◌&&◌, ◌++◌, ◌==◌, ◌∙◌, ◌∷◌, ◌≡◌}
+use Rattle.link_laws.specs.entries.Entries.{End as Side, Entry as Noted}
 use Rattle.history.specs.Steps.{entry_of}
-use Rattle.swp_base.specs.declared.link_terms.Cause.{Cause}
 use Rattle.trace_model.specs.declared.entry.Entry.TheVariants as entry
-use Rattle.link_laws.specs.machine.Machine.{Report, oldest}
-use Rattle.link_laws.specs.entries.Entries.Entry.{Up, Down, Active, GaveUp, Acked, Got}
-use Rattle.node_core.specs.Noting.{tells_nothing, without_message}
+use Rattle.link_laws.specs.machine.Machine.{Report}
+use Rattle.node_core.specs.Noting.{tells_nothing}
 
 -- nothing is noted
 pub no_notes : (short : Bool) (before : List Entry) → AreNotes short short before before []

@@ -1,11 +1,9 @@
 -- A node stays in order: its turns leave its links and their hosts, and an init that runs waits for the answer to its command.
-use Rattle.std.proofs.Common.{◌≡◌, ◌≢◌, ℕ, Bool, true, false, List, [], ◌∷◌, map, refl, sym, ap, ◌∙◌, subst, arith}
-use Rattle.std.specs.Prelude.{Option, Some, None, ◌==◌}
-use Rattle.std.specs.Option.{option_map, option_map_or}
-use Rattle.node_core.proofs.Words.{AreGranted, Brings, Core, Foretells, Init, IsNodeInOrder, IsOnTask, Message, Plan, Port, Work, Write, all_done}
-use Rattle.node_core.proofs.Words.{controller_deeds, deeds_of, done, end_view, goes_through_ends, got_at, handles, has_turn, have_turns, held_at, holds_back}
-use Rattle.node_core.proofs.Words.{host_deeds, lack, lets_go, needs, own_view, passes, plan_behind, plan_left, port_at, unless_cut, view_of}
-use Rattle.node_machine.specs.Parts.{Deed}
+use Rattle.std.specs.Option.{option_map}
+use Rattle.node_core.proofs.Words.{AreGranted, Bool, Brings, Core, Deed, Foretells, Init, IsNodeInOrder, IsOnTask, List, Message, None, Option, Plan, Port}
+use Rattle.node_core.proofs.Words.{Some, Work, Write, [], all_done, ap, arith, controller_deeds, deeds_of, done, end_view, false, goes_through_ends, got_at}
+use Rattle.node_core.proofs.Words.{handles, has_turn, have_turns, held_at, holds_back, host_deeds, lack, lets_go, map, needs, option_map_or, own_view, passes}
+use Rattle.node_core.proofs.Words.{plan_behind, plan_left, port_at, refl, subst, sym, true, unless_cut, view_of, ℕ, ◌==◌, ◌∙◌, ◌∷◌, ◌≡◌, ◌≢◌}
 use Rattle.node_core.proofs.Joining.{goes_on}
 use Rattle.node_core.proofs.Allowing.{controller_allowed}
 use Rattle.node_core.proofs.HostAllowing.{host_allowed}

@@ -1,14 +1,8 @@
 -- A node goes through its ends, one after another.
-use Rattle.std.proofs.Common.{◌≡◌, ◌≢◌, ℕ, suc, ◌≤◌, Bool, true, false, not, List, [], ◌∷◌, map, drop, length, refl, sym, ap, ◌∙◌, subst, arith}
-use Rattle.std.specs.Prelude.{Option, Some, None, option_map, slice_get, ◌==◌, ◌&&◌}
-use Rattle.std.specs.Option.{option_map_or}
-use Rattle.std.proofs.lemmas.Bool.{true≢false}
-use Rattle.std.specs.List.{AllByRecursion}
-use Rattle.std.proofs.lemmas.List.{drop_all}
-use Rattle.node_core.proofs.Words.{AreAllDifferent, AreFewDue, Brings, Entry, FewAreDue, IsInStep, IsNodeInOrder, Message, Node, Port, Work, goes_through_ends}
-use Rattle.node_core.proofs.Words.{got_at, have_turns, held_at, lets_go, passes, plan_left, port_at}
-use Rattle.link_laws.specs.machine.Machine.{is_held}
-use Rattle.node_ends.specs.Ends.{rests}
+use Rattle.node_core.proofs.Words.{AllByRecursion, AreAllDifferent, AreFewDue, Bool, Brings, Entry, FewAreDue, IsInStep, IsNodeInOrder, List, Message, Node}
+use Rattle.node_core.proofs.Words.{None, Option, Port, Some, Work, [], ap, arith, drop, drop_all, false, goes_through_ends, got_at, have_turns, held_at}
+use Rattle.node_core.proofs.Words.{is_held, length, lets_go, map, not, option_map, option_map_or, passes, plan_left, port_at, refl, rests, slice_get, subst}
+use Rattle.node_core.proofs.Words.{suc, sym, true, true≢false, ℕ, ◌&&◌, ◌==◌, ◌∙◌, ◌∷◌, ◌≡◌, ◌≢◌, ◌≤◌}
 use Rattle.node_core.proofs.Joining.{brings_plain, brings_then, brings_cut}
 use Rattle.node_core.proofs.HavingTurns.{brings_same, stays, let_cut, let_writes, let_anyway}
 use Rattle.node_core.proofs.Steps.{plainly}

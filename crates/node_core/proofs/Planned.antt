@@ -1,9 +1,8 @@
 -- Over a memory whose failing write is planned, what a node did is what the machine does under that plan.
-use Rattle.std.proofs.Common.{◌≡◌, inl, inr, Bool, true, false, not, List, [], ◌∷◌, ◌++◌, length, sym, ap, ◌∙◌, subst, append-nil, arith}
-use Rattle.std.specs.Prelude.{None}
-use Rattle.std.proofs.lemmas.Bool.{true≢false, not-false, not-true}
-use Rattle.swp_base.specs.InMemory.{Memory, is_next, WritesAsPlanned}
-use Rattle.node_core.proofs.Words.{AreMade, Brings, Foretells, WereMade, Work, Write, fails_within, plan_behind, plan_left}
+use Rattle.std.proofs.lemmas.Bool.{not-false, not-true}
+use Rattle.node_core.proofs.Words.{AreMade, Bool, Brings, Foretells, List, Memory, None, WereMade, Work, Write, [], ap, append-nil, arith, fails_within, false}
+use Rattle.node_core.proofs.Words.{inl, inr, length, not, plan_behind, plan_left, subst, sym, true, true≢false, ◌++◌, ◌∙◌, ◌∷◌, ◌≡◌}
+use Rattle.swp_base.specs.InMemory.{WritesAsPlanned, is_next}
 use Rattle.journal_laws.specs.Planned.{after_planned}
 use Rattle.journal_laws.proofs.Planned.{plan_of_memory_after, planned_answer, planned_memory}
 use Rattle.node_core.proofs.Joining.{made_append}

@@ -1,16 +1,9 @@
 -- What deeds leave at the ends of a node as it was: how many control frames wait there to be sent, whether they are held, what goes before
 -- their links, and the states of these.
-use Rattle.std.proofs.Common.{◌≡◌, ℕ, ◌+◌, ◌≤◌, Bool, true, false, not, List, [], ◌∷◌, map, length, refl, sym, ap, ap₂, ◌∙◌, subst, arith}
-use Rattle.std.specs.Prelude.{Option, Some, None, ◌==◌, option_map}
-use Rattle.std.specs.List.{find}
-use Rattle.std.specs.Option.{option_map_or}
-use Rattle.node_core.proofs.Words.{Asks, Command, Commits, Drops, Ends, FetchMessage, FewAreDue, Give, Hears, IsAnswered, LinkState, Message, Orders, Port}
-use Rattle.node_core.proofs.Words.{Release, Releases, Role, SaysOk, Sends, SetAside, SetsErrors, Tells, Work, after_turn, all_done, changed_if, done, handles}
-use Rattle.node_core.proofs.Words.{held_at, port_at, with_port}
-use Rattle.node_machine.specs.Parts.{Deed, Desk as DeskOf}
-use Rattle.node_machine.specs.Parts.Deed.{GoesOn}
-use Rattle.node_machine.specs.Carrying.{commit}
-use Rattle.node_deeds.proofs.Ports.{find-map}
+use Rattle.node_core.proofs.Words.{Asks, Bool, Command, Commits, Deed, DeskOf, Drops, Ends, FetchMessage, FewAreDue, Give, GoesOn, Hears, IsAnswered, LinkState}
+use Rattle.node_core.proofs.Words.{List, Message, None, Option, Orders, Port, Release, Releases, Role, SaysOk, Sends, SetAside, SetsErrors, Some, Tells, Work}
+use Rattle.node_core.proofs.Words.{[], after_turn, all_done, ap, ap₂, arith, changed_if, commit, done, false, find, find-map, handles, held_at, length, map}
+use Rattle.node_core.proofs.Words.{not, option_map, option_map_or, port_at, refl, subst, sym, true, with_port, ℕ, ◌+◌, ◌==◌, ◌∙◌, ◌∷◌, ◌≡◌, ◌≤◌}
 
 -- the host of an end, how many control frames wait there, whether it takes fragments, what goes before its link, and the state of that
 abbrev pub Quiet : Type 0

@@ -1,15 +1,9 @@
 -- A reset that is refused changes nothing, and a tick brings no identifier.
-use Rattle.std.proofs.Common.{◌≡◌, ◌≢◌, ℕ, ◌≤◌, Bool, true, false, List, [], ◌∷◌, ◌++◌, map, refl, sym, ap, ap₂, ◌∙◌, subst, arith, append-nil}
-use Rattle.std.specs.Prelude.{Option, Some, None, Err, option_map, ◌==◌}
-use Rattle.std.specs.List.{AllByRecursion, flat_map}
-use Rattle.std.proofs.lemmas.Bool.{eqb-true}
-use Rattle.node_core.proofs.Words.{AreAllDifferent, AreAtMostDue, AreFewDue, AreYoung, AtEnd, Core, Entry, HasNoneEnded, Port, ResetRefused, TimePasses, Work}
-use Rattle.node_core.proofs.Words.{after_input, all_come, due_count, has_come, input_at, is_late, port_at, report, reset_few_due, reset_late, reset_refusal_at}
-use Rattle.node_core.proofs.Words.{synced, with_older, with_port}
-use Rattle.link_laws.specs.machine.Machine.{LinkEnd as Machine}
-use Rattle.link_laws.specs.machine.Machine.LinkInput.{Reset, Tick}
-use Rattle.link_end.specs.Reports.{reset_told}
-use Rattle.node_ends.proofs.Dues.{tick_few}
+use Rattle.node_core.proofs.Words.{AllByRecursion, AreAllDifferent, AreAtMostDue, AreFewDue, AreYoung, AtEnd, Bool, Core, Entry, Err, HasNoneEnded, List}
+use Rattle.node_core.proofs.Words.{Machine, None, Option, Port, Reset, ResetRefused, Some, Tick, TimePasses, Work, [], after_input, all_come, ap, append-nil}
+use Rattle.node_core.proofs.Words.{ap₂, arith, due_count, eqb-true, false, flat_map, has_come, input_at, is_late, map, option_map, port_at, refl, report}
+use Rattle.node_core.proofs.Words.{reset_few_due, reset_late, reset_refusal_at, reset_told, subst, sym, synced, tick_few, true, with_older, with_port, ℕ, ◌++◌}
+use Rattle.node_core.proofs.Words.{◌==◌, ◌∙◌, ◌∷◌, ◌≡◌, ◌≢◌, ◌≤◌}
 use Rattle.node_core.proofs.Elsewhere.{host_at}
 use Rattle.node_core.proofs.Arriving.{come_is}
 use Rattle.node_core.proofs.Ticking.{none_with}

@@ -1,12 +1,9 @@
 -- A message that is relayed: it has its turn and is sent in one.
-use Rattle.std.proofs.Common.{◌≡◌, ℕ, Bool, true, false, List, [], ◌∷◌, ◌++◌, map, refl, sym, ap, ◌∙◌, subst, append-nil, arith}
-use Rattle.std.specs.Prelude.{◌==◌}
-use Rattle.std.specs.Option.{option_map_or}
-use Rattle.node_core.proofs.Words.{Brings, End, EndsStandFor, Entry, FetchMessage, Give, IsInStep, KeptEnds, Message, Node, Port, Sends, Work, after_turn}
-use Rattle.node_core.proofs.Words.{all_done, done, end_of_node, got_at, handles, has_turn, noted_of, port_at, takes_at, turn_at, unnumbered, with_desk}
-use Rattle.node_core.proofs.Words.{with_port}
+use Rattle.node_core.proofs.Words.{Bool, Brings, DeedOf, End, EndsStandFor, Entry, FetchMessage, Give, IsInStep, KeptEnds, List, Message, Node, Port, Sends}
+use Rattle.node_core.proofs.Words.{Work, [], after_turn, all_done, ap, append-nil, arith, done, end_of_node, false, got_at, handles, has_turn, map, noted_of}
+use Rattle.node_core.proofs.Words.{option_map_or, port_at, refl, subst, sym, takes_at, true, turn_at, unnumbered, with_desk, with_port, ℕ, ◌++◌, ◌==◌, ◌∙◌, ◌∷◌}
+use Rattle.node_core.proofs.Words.{◌≡◌}
 use Rattle.trace_model.specs.declared.entry.Entry.TheVariants as entry
-use Rattle.node_machine.specs.Parts.{Deed as DeedOf}
 use Rattle.node_core.proofs.Doing.{more_noted, sent_noted, none_noted}
 use Rattle.node_core.proofs.Steps.{silent_notes, plainly}
 

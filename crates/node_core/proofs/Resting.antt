@@ -1,15 +1,9 @@
 -- What a step of a node leaves at its ends for the next one, where no write fails.
-use Rattle.std.proofs.Common.{◌≡◌, ℕ, ◌+◌, ◌≤◌, Bool, true, false, List, [], ◌∷◌, map, refl, sym, ap, ap₂, ◌∙◌, subst, arith}
-use Rattle.std.specs.Prelude.{Option, Some, None, ◌||◌}
-use Rattle.std.specs.List.{AllByRecursion, flat_map}
-use Rattle.std.proofs.lemmas.Bool.{true≢false}
-use Rattle.link_laws.specs.machine.Machine.{LinkEnd as Machine}
-use Rattle.node_core.proofs.Words.{AreAllDifferent, AtEnd, LinkInput, NodeInput, Port, TimePasses, Work, after_input, all_come, all_done, all_owed, due_count}
-use Rattle.node_core.proofs.Words.{forgets, forgotten, has_come, input_at, is_late, is_over, left_over, passes, reset_few_due, reset_late, settles, steps}
-use Rattle.node_core.proofs.Words.{synced, times_out, unless_cut, with_older, without_notice}
-use Rattle.link_laws.specs.machine.Machine.LinkInput.{Tick}
-use Rattle.node_machine.specs.Parts.{Deed}
-use Rattle.node_ends.proofs.Dues.{tick_few}
+use Rattle.node_core.proofs.Words.{AllByRecursion, AreAllDifferent, AtEnd, Bool, Deed, LinkInput, List, Machine, NodeInput, None, Option, Port, Some, Tick}
+use Rattle.node_core.proofs.Words.{TimePasses, Work, [], after_input, all_come, all_done, all_owed, ap, ap₂, arith, due_count, false, flat_map, forgets}
+use Rattle.node_core.proofs.Words.{forgotten, has_come, input_at, is_late, is_over, left_over, map, passes, refl, reset_few_due, reset_late, settles, steps}
+use Rattle.node_core.proofs.Words.{subst, sym, synced, tick_few, times_out, true, true≢false, unless_cut, with_older, without_notice, ℕ, ◌+◌, ◌||◌, ◌∙◌, ◌∷◌}
+use Rattle.node_core.proofs.Words.{◌≡◌, ◌≤◌}
 use Rattle.node_core.proofs.Joining.{stays_cut, goes_on}
 use Rattle.node_core.proofs.Elsewhere.{host_at, same_hosts}
 use Rattle.node_core.proofs.Settling.{settled_quiet}

@@ -1,7 +1,7 @@
 -- A controller is seen as its node: what its node's calls ensure.
-use Rattle.std.proofs.Common.{◌≡◌, ℕ, Bool, true, List, map, sym, ap, ◌∙◌, subst, arith}
-use Rattle.node_core.proofs.Words.{Core, Entry, IsInStep, Node, Port, ResetRefused, RunsAs, between, port_at, reset_refusal_at}
-use Rattle.std.specs.Prelude.{Option, Some, None, option_map, Result, is_ok, MatchResult}
+use Rattle.node_core.proofs.Words.{Bool, Core, Entry, IsInStep, List, Node, None, Option, Port, ResetRefused, Result, RunsAs, Some, ap, arith, between, is_ok}
+use Rattle.node_core.proofs.Words.{map, option_map, port_at, reset_refusal_at, subst, sym, true, ℕ, ◌∙◌, ◌≡◌}
+use Rattle.std.specs.Prelude.{MatchResult}
 use Rattle.node_core.specs.Running.{MayStep}
 use Rattle.node_core.proofs.Between.{at_rest, kept_at}
 

@@ -1,9 +1,6 @@
 -- A message that waits at an end of a node may be sent.
-use Rattle.std.proofs.Common.{◌≡◌, ℕ, ◌≤◌, Bool, cond, List, [], ◌∷◌, refl, arith}
-use Rattle.std.specs.Prelude.{Option, Some, ◌==◌, IfSome}
-use Rattle.std.specs.List.{AllByRecursion}
-use Rattle.hcp_packet.specs.Packets.{AreSendable}
-use Rattle.node_core.proofs.Words.{AreOfHosts, PoolState, Port, Seat, SeatsStandFor, got_at, port_at}
+use Rattle.node_core.proofs.Words.{AllByRecursion, AreOfHosts, AreSendable, Bool, IfSome, List, Option, PoolState, Port, Seat, SeatsStandFor, Some, [], arith}
+use Rattle.node_core.proofs.Words.{cond, got_at, port_at, refl, ℕ, ◌==◌, ◌∷◌, ◌≡◌, ◌≤◌}
 use Rattle.node_ends.proofs.Sendable.{got_sendable}
 
 -- the end of the link with a host is one of them

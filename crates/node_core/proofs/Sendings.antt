@@ -1,17 +1,14 @@
 -- A host that sends a message by itself, and why it doesn't.
-use Rattle.std.proofs.Common.{◌≡◌, ℕ, Bool, true, false, cond, ◌&&◌, List, [], ◌∷◌, length, refl, ap, ◌∙◌, subst, arith}
-use Rattle.std.specs.Prelude.{Option, Some, None, Result, Ok, Err, OnOk, OnErr, IfErr, nat_lt, is_some, ◌==◌}
-use Rattle.node_core.proofs.Words.{Entry, Give, HostRefused, Init, IsInStep, Message, Node, Orders, Port, Refused, Sends, TellsLengthOf, Work, all_done, done}
-use Rattle.node_core.proofs.Words.{give_refusal, has_link, if_waiting, is_command_message, is_up, port_at, refused_as, sending, turn_at}
+use Rattle.std.specs.Prelude.{IfErr, OnOk}
+use Rattle.node_core.proofs.Words.{Bool, Deed, Entry, Err, Give, GoesOn, HostRefused, Init, IsInStep, List, Machine, Message, Node, None, Ok, OnErr, Option}
+use Rattle.node_core.proofs.Words.{Orders, Port, Refused, Result, SendRefused, Sends, Some, TellsLength, TellsLengthOf, Work, [], all_done, ap, arith, cond}
+use Rattle.node_core.proofs.Words.{done, false, give_refusal, given_at, has_link, if_waiting, is_command_message, is_some, is_up, length, nat_lt, ordered_if}
+use Rattle.node_core.proofs.Words.{port_at, refl, refused_as, sending, subst, true, turn_at, ℕ, ◌&&◌, ◌==◌, ◌∙◌, ◌∷◌, ◌≡◌}
 use Rattle.trace_model.specs.declared.entry.NoCause.TheVariants as no
-use Rattle.link_laws.specs.machine.Machine.{LinkEnd as Machine, need, spare}
+use Rattle.link_laws.specs.machine.Machine.{need, spare}
 use Rattle.link_laws.specs.machine.Machine.Refused.{TooLong, Full}
-use Rattle.link_end.specs.declared.report.SendRefused.{SendRefused}
 use Rattle.link_end.specs.declared.report.SendRefused.TheVariants as at_end
-use Rattle.node_machine.specs.Parts.{Deed}
-use Rattle.node_machine.specs.Parts.Deed.{GoesOn}
-use Rattle.node_ends.specs.Ends.{given_at}
-use Rattle.node_core.specs.Giving.{host_refused, ordered_if, TellsLength}
+use Rattle.node_core.specs.Giving.{host_refused}
 
 -- ## Refusals
 

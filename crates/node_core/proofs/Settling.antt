@@ -1,11 +1,8 @@
 -- What is settled behind what came in a step, and what that leaves at the ends.
-use Rattle.std.proofs.Common.{◌≡◌, ℕ, Bool, true, false, not, ◌≤◌, List, [], ◌∷◌, ◌++◌, map, refl, sym, ap, ap₂, ◌∙◌, subst, append_assoc, append-nil, arith}
-use Rattle.std.specs.Prelude.{Option, None}
-use Rattle.std.specs.List.{flat_map}
-use Rattle.std.proofs.lemmas.List.Concat.{flat_map-cons}
-use Rattle.node_core.proofs.Words.{AreFewDue, Brings, Entry, Foretells, IsInStep, Node, Plan, Port, Releases, Response, Sends, Work, after_sessions, all_done}
-use Rattle.node_core.proofs.Words.{all_owed, answer_of, answers_owed, done, forgets, forgotten, left_over, plan_left, settles, unless_cut, without_notice}
-use Rattle.node_machine.specs.Parts.{Deed}
+use Rattle.node_core.proofs.Words.{AreFewDue, Bool, Brings, Deed, Entry, Foretells, IsInStep, List, Node, None, Option, Plan, Port, Releases, Response, Sends}
+use Rattle.node_core.proofs.Words.{Work, [], after_sessions, all_done, all_owed, answer_of, answers_owed, ap, append-nil, append_assoc, ap₂, arith, done, false}
+use Rattle.node_core.proofs.Words.{flat_map, flat_map-cons, forgets, forgotten, left_over, map, not, plan_left, refl, settles, subst, sym, true, unless_cut}
+use Rattle.node_core.proofs.Words.{without_notice, ℕ, ◌++◌, ◌∙◌, ◌∷◌, ◌≡◌, ◌≤◌}
 use Rattle.node_core.proofs.Joining.{brings_plain, brings_cut, brings_then, stays_cut, goes_on}
 use Rattle.node_core.proofs.Steps.{brings_after}
 use Rattle.node_core.proofs.HavingTurns.{brings_same}

@@ -1,13 +1,8 @@
 -- A step leaves a node in order.
-use Rattle.std.proofs.Common.{◌≡◌, ℕ, List, [], ◌∷◌, map, refl, sym, ◌∙◌, subst, arith}
-use Rattle.std.specs.Prelude.{Option}
-use Rattle.std.specs.List.{AllByRecursion, flat_map}
-use Rattle.journal_laws.specs.declared.state.State.{State}
-use Rattle.hci_tables.specs.Tables.{HciTables}
-use Rattle.node_machine.specs.Parts.{Deed}
-use Rattle.node_core.proofs.Words.{AtEnd, Commits, Core, IsNodeInOrder, IsOnTask, NodeInput, Port, Releases, Sends, TimePasses, Work, after_sessions, all_come}
-use Rattle.node_core.proofs.Words.{all_done, all_owed, done, forgets, forgotten, has_come, input_at, left_over, passes, reset_late, settles, steps, sync_kept}
-use Rattle.node_core.proofs.Words.{synced, times_out, unless_cut, with_older}
+use Rattle.node_core.proofs.Words.{AllByRecursion, AtEnd, Commits, Core, Deed, HciTables, IsNodeInOrder, IsOnTask, List, NodeInput, Option, Port, Releases}
+use Rattle.node_core.proofs.Words.{Sends, State, TimePasses, Work, [], after_sessions, all_come, all_done, all_owed, arith, done, flat_map, forgets, forgotten}
+use Rattle.node_core.proofs.Words.{has_come, input_at, left_over, map, passes, refl, reset_late, settles, steps, subst, sym, sync_kept, synced, times_out}
+use Rattle.node_core.proofs.Words.{unless_cut, with_older, ℕ, ◌∙◌, ◌∷◌, ◌≡◌}
 use Rattle.node_machine.proofs.Walks.{forgotten_hold, all_owed_hold, all_synced_hold}
 use Rattle.node_core.proofs.Joining.{goes_on}
 use Rattle.node_core.proofs.Quiet.{done_quiet}

@@ -1,17 +1,9 @@
 -- A whole step of a controller.
-use Rattle.std.proofs.Common.{◌≡◌, ◌≢◌, ℕ, ◌+◌, ◌≤◌, Bool, true, false, List, [], ◌∷◌, ◌++◌, map, refl, sym, ap, ◌∙◌, subst, arith, append-nil}
-use Rattle.std.specs.Prelude.{Option, Some, None, ◌==◌, option_map, IfSome}
-use Rattle.std.specs.List.{AllByRecursion, flat_map}
-use Rattle.std.proofs.lemmas.Bool.{eqb-true}
-use Rattle.std.proofs.lemmas.List.Concat.{flat_map-cons}
-use Rattle.node_core.proofs.Words.{AreAllDifferent, AreAtMostDue, AreFewDue, AreOfHosts, AtEnd, Brings, Core, Entry, IsInStep, LinkInput, LinkReport, Node}
-use Rattle.node_core.proofs.Words.{NodeInput, Plan, Port, Role, Stored, Work, act_answer, after_input, all_come, due_count, has_come, input_at, port_at, report}
-use Rattle.node_core.proofs.Words.{report_told, steps, sync_kept, synced, times_out}
-use Rattle.link_laws.specs.machine.Machine.{LinkEnd as Machine}
-use Rattle.link_laws.specs.machine.Machine.LinkInput.{Reset, Start, Stop}
-use Rattle.swp_act.specs.declared.ActEvent.TheVariants.{Start as ActStart, Stop as ActStop}
-use Rattle.node_machine.specs.Parts.{Deed}
-use Rattle.node_core.specs.Syncing.{sync_told, finishes}
+use Rattle.node_core.proofs.Words.{ActStart, ActStop, AllByRecursion, AreAllDifferent, AreAtMostDue, AreFewDue, AreOfHosts, AtEnd, Bool, Brings, Core, Deed}
+use Rattle.node_core.proofs.Words.{Entry, IfSome, IsInStep, LinkInput, LinkReport, List, Machine, Node, NodeInput, None, Option, Plan, Port, Reset, Role, Some}
+use Rattle.node_core.proofs.Words.{Start, Stop, Stored, Work, [], act_answer, after_input, all_come, ap, append-nil, arith, due_count, eqb-true, false}
+use Rattle.node_core.proofs.Words.{finishes, flat_map, flat_map-cons, has_come, input_at, map, option_map, port_at, refl, report, report_told, steps, subst}
+use Rattle.node_core.proofs.Words.{sym, sync_kept, sync_told, synced, times_out, true, ℕ, ◌++◌, ◌+◌, ◌==◌, ◌∙◌, ◌∷◌, ◌≡◌, ◌≢◌, ◌≤◌}
 use Rattle.node_core.proofs.Elsewhere.{host_at}
 use Rattle.node_core.proofs.Sendables.{found_all}
 use Rattle.node_core.proofs.Doing as doing

@@ -1,14 +1,11 @@
 -- The parts of deeds: what is noted, what is done to an end, and what is kept of it.
-use Rattle.std.proofs.Common.{◌≡◌, ℕ, Bool, true, false, not, List, [], ◌∷◌, ◌++◌, map, refl, sym, ap, ◌∙◌, subst, append-nil, ◌+◌, ◌<◌, ◌≤◌, length, arith}
-use Rattle.std.proofs.Common.{drop, add-one, drop-cons}
-use Rattle.std.specs.Prelude.{slice_index_or, Option, None}
-use Rattle.std.proofs.lemmas.List.{drop_all}
-use Rattle.std.specs.Option.{option_map_or}
-use Rattle.node_core.proofs.Words.{AreDoableInTurn, Brings, Core, End, EndsStandFor, Entry, FetchMessage, Foretells, Handling, IsDoableNow, IsInStep, KeptEnds}
-use Rattle.node_core.proofs.Words.{Node, Plan, Port, Stored, Turn, Work, after_turn, all_done, deed_shown, done, noted_of, noting, plan_left, port_at, turn_at}
-use Rattle.node_core.proofs.Words.{end_of_node, has_turn, unnumbered, with_desk, with_port}
+use Rattle.std.specs.Prelude.{slice_index_or}
+use Rattle.node_core.proofs.Words.{AreDoableInTurn, Bool, Brings, Core, DeedOf, DeskOf, End, EndsStandFor, Entry, FetchMessage, Foretells, Handling}
+use Rattle.node_core.proofs.Words.{IsDoableNow, IsInStep, KeptEnds, List, Node, None, Option, Plan, Port, Stored, Turn, Work, [], add-one, after_turn, all_done}
+use Rattle.node_core.proofs.Words.{ap, append-nil, arith, deed_shown, done, drop, drop-cons, drop_all, end_of_node, false, has_turn, length, map, not, noted_of}
+use Rattle.node_core.proofs.Words.{noting, option_map_or, plan_left, port_at, refl, subst, sym, true, turn_at, unnumbered, with_desk, with_port, ℕ, ◌++◌, ◌+◌}
+use Rattle.node_core.proofs.Words.{◌<◌, ◌∙◌, ◌∷◌, ◌≡◌, ◌≤◌}
 use Rattle.trace_model.specs.declared.entry.Entry.TheVariants as entry
-use Rattle.node_machine.specs.Parts.{Desk as DeskOf, Deed as DeedOf}
 use Rattle.node_deeds.specs.declared.deeds.Deed.{Deed}
 use Rattle.node_deeds.specs.declared.deeds.Deed.TheVariants as kept
 use Rattle.node_core.proofs.Joining.{brings_plain, brings_then}

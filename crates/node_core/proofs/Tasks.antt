@@ -1,9 +1,7 @@
 -- What a host has under way, as its deeds change it.
-use Rattle.std.proofs.Common.{◌≡◌, ℕ, Bool, true, false, not, List, refl, ap, ◌∙◌, arith}
-use Rattle.std.specs.Prelude.{Option, None, option_map}
-use Rattle.node_core.proofs.Words.{Core, Entry, Handling, Init, IsDoableNow, IsInStep, Message, Node, Plan, Port, Tasks, Work, after_sessions, deed_of}
-use Rattle.node_core.proofs.Words.{deed_shown, done, goes_on_with, handling, init_running, is_over}
-use Rattle.std.specs.List.{list_any}
+use Rattle.node_core.proofs.Words.{Bool, Core, Entry, Handling, Init, IsDoableNow, IsInStep, List, Message, Node, None, Option, Plan, Port, Tasks, Work}
+use Rattle.node_core.proofs.Words.{after_sessions, ap, arith, deed_of, deed_shown, done, false, goes_on_with, handling, init_running, is_over, list_any, not}
+use Rattle.node_core.proofs.Words.{option_map, refl, true, ℕ, ◌∙◌, ◌≡◌}
 use Rattle.node_deeds.specs.declared.deeds.Deed.{Deed}
 use Rattle.node_deeds.specs.declared.deeds.Deed.TheVariants as kept
 use Rattle.node_deeds.specs.Shown.{ordered_by}

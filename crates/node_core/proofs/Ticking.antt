@@ -1,14 +1,9 @@
 -- Something comes to all ends of a node, one after another.
-use Rattle.std.proofs.Common.{◌≡◌, ◌≢◌, ℕ, zero, suc, ◌≤◌, true, false, List, [], ◌∷◌, ◌++◌, map, take, length, refl, sym, ap, ap₂, ◌∙◌, subst, arith}
-use Rattle.std.proofs.Common.{append_assoc, append-nil}
-use Rattle.std.specs.Prelude.{Option, Some, None, option_map, ◌==◌, slice_get}
-use Rattle.std.specs.List.{AllByRecursion, flat_map}
-use Rattle.std.proofs.lemmas.Bool.{eq-eqb}
-use Rattle.std.proofs.lemmas.List.Concat.{flat_map-cons}
-use Rattle.node_core.proofs.Words.{AreAllDifferent, AreFewDue, AtEnd, EndsStandFor, Entry, FewAreDue, KeptEnds, Port, TimePasses, Work, all_changed, all_come}
-use Rattle.node_core.proofs.Words.{at_place, first_changed, has_come, next_changed, none_changed, noting, port_at, told_at, with_port}
-use Rattle.link_laws.specs.machine.Machine.LinkInput.{Tick}
-use Rattle.node_ends.proofs.Seated.{next_there, as_many}
+use Rattle.node_core.proofs.Words.{AllByRecursion, AreAllDifferent, AreFewDue, AtEnd, EndsStandFor, Entry, FewAreDue, KeptEnds, List, None, Option, Port, Some}
+use Rattle.node_core.proofs.Words.{Tick, TimePasses, Work, [], all_changed, all_come, ap, append-nil, append_assoc, ap₂, arith, at_place, eq-eqb, false}
+use Rattle.node_core.proofs.Words.{first_changed, flat_map, flat_map-cons, has_come, length, map, next_changed, next_there, none_changed, noting, option_map}
+use Rattle.node_core.proofs.Words.{port_at, refl, slice_get, subst, suc, sym, take, told_at, true, with_port, zero, ℕ, ◌++◌, ◌==◌, ◌∙◌, ◌∷◌, ◌≡◌, ◌≢◌, ◌≤◌}
+use Rattle.node_ends.proofs.Seated.{as_many}
 use Rattle.node_core.proofs.Elsewhere.{host_at}
 use Rattle.node_core.proofs.Arriving.{come_is}
 

@@ -1,12 +1,9 @@
 -- Where no session of an end has ended in a step, nothing is left to settle but the identifier that came.
-use Rattle.std.proofs.Common.{◌≡◌, ℕ, Bool, false, ◌==◌, ◌&&◌, ◌||◌, List, [], ◌∷◌, ◌++◌, map, refl, ap, ap₂, ◌∙◌, arith}
-use Rattle.std.specs.Prelude.{Option, None, Some}
-use Rattle.std.specs.List.{AllByRecursion, list_any, filter, filter_map, flat_map}
+use Rattle.node_core.proofs.Words.{AllByRecursion, Bool, Creation, Deed, List, None, Option, Port, Releases, Some, Work, [], all_done, all_owed, ap, ap₂, arith}
+use Rattle.node_core.proofs.Words.{asked_at, false, filter, filter_map, flat_map, forgets, forgotten, is_over, is_over_at, left_over, list_any, map, owed, refl}
+use Rattle.node_core.proofs.Words.{settles, unless_cut, without_notice, ℕ, ◌&&◌, ◌++◌, ◌==◌, ◌||◌, ◌∙◌, ◌∷◌, ◌≡◌}
 use Rattle.gate_answers.specs.declared.response.Response.TheVariants as response
-use Rattle.node_machine.specs.Parts.{Deed}
-use Rattle.node_core.proofs.Words.{Creation, Port, Releases, Work, all_done, all_owed, asked_at, forgets, forgotten, is_forgotten, is_over, is_over_at}
-use Rattle.node_core.proofs.Words.{left_over, settles, unless_cut, without_notice}
-use Rattle.node_machine.specs.Node.{owed}
+use Rattle.node_machine.specs.Node.{is_forgotten}
 use Rattle.node_core.proofs.Tasks.{not_over}
 
 -- ## Ends whose sessions go on

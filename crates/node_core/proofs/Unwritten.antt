@@ -1,26 +1,17 @@
 -- A step behind which the link of a host isn't up commits nothing: all that waits there is dropped.
-use Rattle.std.proofs.Common.{◌≡◌, ◌≢◌, ◌⊎◌, ℕ, suc, ◌+◌, Bool, true, false, List, [], ◌∷◌, ◌++◌, map, length, refl, sym, ap, ap₂, ◌∙◌, subst, inl, inr, arith}
-use Rattle.std.specs.Prelude.{Option, Some, None, ◌==◌, IfSome, IsTrue, nat_le}
-use Rattle.std.specs.List.{AllByRecursion, flat_map}
-use Rattle.std.proofs.lemmas.Bool.{true≢false, not-false, le-leb, lt-leb, and_right, cond_both}
-use Rattle.swp_base.specs.InMemory.{plan_after}
-use Rattle.node_core.proofs.Words.{ActEvent, AreMade, AtEnd, BeginsStep, Brings, Core, Drops, Entry, FetchMessage, Foretells, Give, HasOwnLink, HasStepped}
-use Rattle.node_core.proofs.Words.{LinkInput, Message, Node, Plan, Port, Release, Releases, Sends, WereMade, Work, Write, activated, after_input, after_turn}
-use Rattle.node_core.proofs.Words.{all_come, all_done, all_owed, changed_if, deeds_of, done, end_view, fails_within, forgets, forgotten, got_at, handles}
-use Rattle.node_core.proofs.Words.{has_come, has_turn, have_turns, host_deeds, input_at, input_of_end, is_over, is_up, lack, left_over, needs, own_view, passes}
-use Rattle.node_core.proofs.Words.{plan_behind, plan_left, port_at, reset_refusal, reset_refusal_at, settles, steps, synced, unless_cut, with_port}
-use Rattle.node_core.proofs.Words.{without_notice}
-use Rattle.swp_act.specs.declared.ActEvent.TheVariants.{Start as ActStart, Stop as ActStop}
+use Rattle.std.proofs.lemmas.Bool.{and_right, cond_both, lt-leb, not-false}
+use Rattle.node_core.proofs.Words.{ActEvent, ActStart, ActStop, AllByRecursion, AreMade, AtEnd, BeginsStep, Bool, Brings, Core, Deed, Drops, Entry}
+use Rattle.node_core.proofs.Words.{FetchMessage, Foretells, Give, HasOwnLink, HasStepped, IfSome, IsAskedOf, IsTrue, LinkInput, List, Machine, Message, Node}
+use Rattle.node_core.proofs.Words.{None, Option, Plan, Port, Release, Releases, Reset, Sends, Some, Start, Stop, ToEnd, WereMade, Work, Write, [], activated}
+use Rattle.node_core.proofs.Words.{after_input, after_turn, all_come, all_done, all_owed, ap, ap₂, arith, changed_if, deeds_of, done, end_view, fails_within}
+use Rattle.node_core.proofs.Words.{false, flat_map, forgets, forgotten, got_at, handles, has_come, has_turn, have_turns, host_deeds, inl, input_at}
+use Rattle.node_core.proofs.Words.{input_of_end, inr, is_over, is_up, lack, le-leb, left_over, length, map, moved, nat_le, needs, own_view, passes, plan_after}
+use Rattle.node_core.proofs.Words.{plan_behind, plan_left, port_at, refl, refusal_at, reset_refusal, reset_refusal_at, settles, steps, subst, suc, sym, synced}
+use Rattle.node_core.proofs.Words.{true, true≢false, unless_cut, with_port, without_notice, ℕ, ◌++◌, ◌+◌, ◌==◌, ◌∙◌, ◌∷◌, ◌≡◌, ◌≢◌, ◌⊎◌}
 use Rattle.shdlc_core.specs.Machine.{stopped}
 use Rattle.shdlc_core.specs.declared.answers.LinkState.TheVariants.{Down}
-use Rattle.link_laws.specs.machine.Machine.{LinkEnd as Machine, moved}
-use Rattle.link_laws.specs.machine.Machine.LinkInput.{Reset, Start, Stop}
-use Rattle.node_machine.specs.Parts.{Deed}
 use Rattle.node_machine.proofs.Walks.{forgotten_hold, all_owed_hold}
-use Rattle.node_ends.specs.declared.inputs.LinkInput.{LinkInput as ToEnd}
 use Rattle.node_ends.specs.declared.inputs.LinkInput.TheVariants as asks
-use Rattle.node_ends.specs.Inputs.{refusal_at}
-use Rattle.node_core.specs.Inputs.{IsAskedOf}
 use Rattle.node_core.proofs.Stepping.{reset_synced, start_synced, stop_synced}
 use Rattle.node_core.proofs.Joining.{goes_on, fewer_fail}
 use Rattle.node_core.proofs.Elsewhere.{host_at, same_hosts}

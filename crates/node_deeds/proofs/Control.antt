@@ -1,34 +1,18 @@
 -- What a controller does, case by case, over what its code keeps.
-use Rattle.std.proofs.Common.{◌≡◌, ℕ, Bool, true, false, cond, eqb, eq-eqb, ◌&&◌, List, [], ◌∷◌, refl, sym, subst, ap, ap₂, ◌∙◌}
-use Rattle.std.specs.Prelude.{Option, Some, None, Ok, map, option_map}
-use Rattle.std.specs.Option.{option_map_or}
-use Rattle.std.proofs.lemmas.Bool.{cond_both}
-use Rattle.hcp_packet.specs.declared.MessageKind.TheVariants.{Command as IsCommand, Event as IsEvent, Response as IsResponse}
-use Rattle.hcp_packet.specs.MessageHeader.{header_of}
-use Rattle.pipe_table.specs.declared.row.PipeRow.{PipeRow}
-use Rattle.hci_tables.specs.declared.command.Command.{Command}
-use Rattle.hci_tables.specs.declared.command.Command.TheVariants.{Create}
-use Rattle.hci_tables.specs.Tables.{HciTables}
-use Rattle.hci_store.specs.Stored.{Stored}
-use Rattle.gate_answers.specs.Answers.{instruction_in, body_in}
-use Rattle.gate_admin.specs.declared.view.LinkView.{LinkView}
+use Rattle.node_deeds.proofs.Words.{Bool, Command, Commits, Core, Create, Deed, Drops, HciTables, IsCommand, IsEvent, IsResponse, KeptDesk, LinkView, List}
+use Rattle.node_deeds.proofs.Words.{Message, None, Ok, Option, PipeRow, Port, SaysOk, Sends, Some, Stored, Tells, Unanswered, [], about_at, about_of}
+use Rattle.node_deeds.proofs.Words.{about_shown, ap, ap₂, asks_for, body_in, cond, cond_both, controller_core, controller_deeds, decided, decision_deeds}
+use Rattle.node_deeds.proofs.Words.{deeds_by_relay, desk_of, eq-eqb, eqb, event_deeds, false, gate_deeds, goes_through, has, has_link, has_room_for, header_of}
+use Rattle.node_deeds.proofs.Words.{hosts_where, if_notice, instruction_in, kind_deeds, map, notice_deeds, notice_shown, option_map, option_map_or, own_deeds}
+use Rattle.node_deeds.proofs.Words.{own_gate, own_view, port_at, ports_shown, refl, relayed_to, served_at, subst, sym, true, unless_asking, view_for, view_of}
+use Rattle.node_deeds.proofs.Words.{ℕ, ◌&&◌, ◌∙◌, ◌∷◌, ◌≡◌}
 use Rattle.gate_admin.specs.declared.decision.Decision.{Decision}
 use Rattle.gate_admin.specs.declared.decision.Decision.TheVariants.{Commit}
-use Rattle.gate_admin.specs.View.{has, hosts_where}
-use Rattle.gate_admin.specs.Decide.{decided}
-use Rattle.link_laws.specs.machine.Machine.{Message}
-use Rattle.node_machine.specs.Parts.{About, Core, Port, Deed}
-use Rattle.node_machine.specs.Parts.Deed.{Commits, Sends, SaysOk, Tells, Drops}
-use Rattle.node_machine.specs.Carrying.{port_at, has_room_for, own_view}
-use Rattle.node_machine.specs.Controller.{asks_for, view_for, commit_deeds, decision_deeds, gate_deeds, own_gate, goes_through, served_at, command_deeds}
-use Rattle.node_machine.specs.Controller.{agreed, view_of, about_at, about_of, notice_deeds, has_link}
-use Rattle.node_machine.specs.Controller.{unless_asking, if_notice, event_deeds, kind_deeds, relayed_to, own_deeds, deeds_by_relay, controller_deeds}
+use Rattle.node_machine.specs.Parts.{About}
+use Rattle.node_machine.specs.Controller.{agreed, command_deeds, commit_deeds}
 use Rattle.node_deeds.specs.declared.desks.About.TheVariants as about
-use Rattle.node_deeds.specs.declared.desks.Unanswered.{Unanswered}
-use Rattle.node_deeds.specs.declared.desks.Desk.{Desk as KeptDesk}
-use Rattle.node_deeds.specs.Shown.{creation_of_row, about_shown, notice_shown, ports_shown, AreSeen}
-use Rattle.node_deeds.specs.Desks.{desk_of}
-use Rattle.node_deeds.specs.Cores.{controller_core, IsCoreOf, IsSoundDesk, AreSoundDesks}
+use Rattle.node_deeds.specs.Shown.{AreSeen, creation_of_row}
+use Rattle.node_deeds.specs.Cores.{AreSoundDesks, IsCoreOf, IsSoundDesk}
 use Rattle.node_deeds.proofs.Headers.{command_instruction}
 use Rattle.node_deeds.proofs.Ports.{deeds_alike}
 use Rattle.node_deeds.proofs.Views.{link_found}

@@ -1,19 +1,15 @@
 -- What is decided tells at most six hosts, and asks for pipes of the asker alone.
-use Rattle.std.proofs.Common.{◌≡◌, ℕ, zero, suc, ◌+◌, ◌*◌, ◌/◌, ◌%◌, ◌^◌, ◌≤◌, ◌<◌, Bool, true, false, cond, not, eqb, ◌&&◌, List, [], ◌∷◌, length}
-use Rattle.std.proofs.Common.{refl, ap, ◌∙◌, inl, inr, arith, leb, eq-eqb}
-use Rattle.std.specs.Prelude.{◌⊎◌, Option, Some, None}
-use Rattle.std.specs.List.{filter, range_with_len}
-use Rattle.std.specs.Option.{option_map_or, option_and_then}
-use Rattle.std.proofs.lemmas.Bool.{cond_both, and_parts, leb-true}
+use Rattle.std.proofs.Common.{leb, not, ◌*◌}
+use Rattle.std.specs.Prelude.{◌⊎◌}
+use Rattle.std.proofs.lemmas.Bool.{and_parts, leb-true}
 use Rattle.std.proofs.lemmas.List.Sums.{sum_by-cons}
-use Rattle.pipe_table.specs.PipeRows.{pipe_at}
-use Rattle.hci_tables.specs.Tables.{HciTables}
+use Rattle.node_deeds.proofs.Words.{Bool, HciTables, IsSoundDecision, LinkView, List, None, Option, Some, TellsFew, [], ap, arith, cond, cond_both, decided}
+use Rattle.node_deeds.proofs.Words.{eq-eqb, eqb, false, filter, has, inl, inr, length, mask_of, option_and_then, option_map_or, pipe_at, range_with_len, refl}
+use Rattle.node_deeds.proofs.Words.{suc, true, zero, ℕ, ◌%◌, ◌&&◌, ◌+◌, ◌/◌, ◌<◌, ◌^◌, ◌∙◌, ◌∷◌, ◌≡◌, ◌≤◌}
 use Rattle.gate_answers.specs.Answers.{param_in}
-use Rattle.gate_admin.specs.declared.view.LinkView.{LinkView}
-use Rattle.gate_admin.specs.View.{has, is_connected, hosts_where, mask_of}
-use Rattle.gate_admin.specs.Decide.{decided, far_end_of, if_told, shares, told_of_deletion, told_of_clearing}
+use Rattle.gate_admin.specs.View.{hosts_where, is_connected}
+use Rattle.gate_admin.specs.Decide.{far_end_of, if_told, shares, told_of_clearing, told_of_deletion}
 use Rattle.tables_laws.proofs.gate.Decisions.{decided_holds, new_row}
-use Rattle.node_deeds.specs.Cores.{TellsFew, IsSoundDecision}
 
 -- ## Masks
 

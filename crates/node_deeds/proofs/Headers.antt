@@ -1,13 +1,10 @@
 -- What the header of a message says.
-use Rattle.std.proofs.Common.{◌≡◌, ℕ, ◌/◌, ◌%◌, Bool, true, false, eqb, List, [], ◌∷◌, sym, ap, ◌∙◌}
-use Rattle.std.specs.Prelude.{Result, Ok, Err}
-use Rattle.std.proofs.lemmas.Bool.{cond_both, false≢true}
-use Rattle.hcp_packet.specs.declared.MessageKind.{MessageKind}
+use Rattle.std.proofs.lemmas.Bool.{false≢true}
+use Rattle.node_deeds.proofs.Words.{Bool, Err, List, MessageFault, MessageKind, Ok, Result, [], ap, cond_both, eqb, false, header_of, instruction_in, sym, true}
+use Rattle.node_deeds.proofs.Words.{ℕ, ◌%◌, ◌/◌, ◌∙◌, ◌∷◌, ◌≡◌}
 use Rattle.hcp_packet.specs.declared.MessageKind.TheVariants.{Command, Event, Response}
-use Rattle.hcp_packet.specs.declared.MessageFault.{MessageFault}
 use Rattle.hcp_packet.specs.declared.MessageFault.TheVariants.{ReservedType}
-use Rattle.hcp_packet.specs.MessageHeader.{header_of}
-use Rattle.gate_answers.specs.Answers.{IsCommandMessage, instruction_in}
+use Rattle.gate_answers.specs.Answers.{IsCommandMessage}
 
 -- the instruction that a header says
 said : Result (MessageKind × ℕ) MessageFault → ℕ

@@ -1,45 +1,29 @@
 -- What a host does, case by case, over what its code keeps.
-use Rattle.std.proofs.Common.{◌≡◌, ℕ, ◌+◌, ◌≤◌, Bool, true, false, cond, eqb, ◌&&◌, List, [], ◌∷◌, ◌++◌, length, slice_get, get_or, refl, sym}
-use Rattle.std.proofs.Common.{ap, ap₂, ◌∙◌, arith, append_assoc}
-use Rattle.std.specs.Prelude.{Option, Some, None, Result, Ok, Err, is_some, option_map}
-use Rattle.std.specs.Option.{option_map_or}
-use Rattle.std.proofs.lemmas.Bool.{le-leb, ne_eqb}
-use Rattle.std.proofs.lemmas.List.{map-append}
-use Rattle.link_laws.specs.sessions.Sessions.{is_up}
-use Rattle.hcp_packet.specs.declared.MessageKind.{MessageKind}
-use Rattle.hcp_packet.specs.declared.MessageKind.TheVariants.{Command as IsCommand, Event as IsEvent, Response as IsResponse}
-use Rattle.hcp_packet.specs.declared.MessageFault.{MessageFault}
-use Rattle.hcp_packet.specs.MessageHeader.{header_of}
+use Rattle.std.proofs.lemmas.Bool.{le-leb}
+use Rattle.node_deeds.proofs.Words.{Bool, Command, Core, Create, Deed, Ends, Err, Handling, HciTables, Hears, IsCommand, IsEvent, IsHostAt, IsResponse}
+use Rattle.node_deeds.proofs.Words.{KeptDeed, KeptDesk, KeptInit, List, Message, MessageFault, MessageKind, None, Ok, Option, PipeRow, Port, Result, Sends}
+use Rattle.node_deeds.proofs.Words.{Some, Stored, [], ap, append_assoc, ap₂, arith, body_in, cond, deed_shown, deeds_shown, eqb, false, gate_in, get_or}
+use Rattle.node_deeds.proofs.Words.{handled_by, header_of, heard_deeds, host_core, host_kind_deeds, init_deeds, init_running, init_shown, instruction_in}
+use Rattle.node_deeds.proofs.Words.{is_gate, is_same, is_some, is_up, learned_of, length, map-append, ne_eqb, option_map, option_map_or, orders_of, own_view}
+use Rattle.node_deeds.proofs.Words.{pipe_at, pipe_created, pipe_deleted, pipes_cleared, refl, slice_get, sym, true, ℕ, ◌&&◌, ◌++◌, ◌+◌, ◌∙◌, ◌∷◌, ◌≡◌, ◌≤◌}
 use Rattle.journal_laws.specs.declared.state.State.{State}
 use Rattle.history.specs.Steps.{end_of}
 use Rattle.link_laws.specs.entries.Entries.End.{Controller, Host}
 use Rattle.trace_model.specs.declared.entry.Entry.TheVariants.{InitSame, InitMade}
-use Rattle.pipe_table.specs.declared.row.PipeRow.{PipeRow}
-use Rattle.pipe_table.specs.PipeRows.{pipe_at}
-use Rattle.hci_tables.specs.declared.command.Command.{Command}
-use Rattle.hci_tables.specs.declared.command.Command.TheVariants.{Create, Delete, Clear, Set}
-use Rattle.hci_tables.specs.Tables.{HciTables}
-use Rattle.hci_store.specs.Stored.{Stored}
+use Rattle.hci_tables.specs.declared.command.Command.TheVariants.{Clear, Delete, Set}
 use Rattle.gate_answers.specs.declared.response.Response.TheVariants as response
-use Rattle.gate_answers.specs.Answers.{instruction_in, body_in}
 use Rattle.gate_loopback.specs.Loopback.{is_post_data}
-use Rattle.link_laws.specs.machine.Machine.{Message}
-use Rattle.node_machine.specs.Parts.{Init, Core, Port, Deed}
-use Rattle.node_machine.specs.Parts.Deed.{Sends, Hears, Ends}
-use Rattle.node_machine.specs.Carrying.{end_of_node, own_view, end_view}
-use Rattle.node_machine.specs.HostReplies.{replies, accepts, is_welcome, pipe_named_in, pipe_created, pipe_deleted, pipes_cleared, orders_of, is_same, learns}
-use Rattle.node_machine.specs.HostReplies.{init_agreed, init_deeds, deleted_by, created_by, learned, response_deeds, is_gate, gate_of_pipe, host_deeds}
-use Rattle.node_deeds.specs.declared.desks.Desk.{Desk as KeptDesk}
+use Rattle.node_machine.specs.Parts.{Init}
+use Rattle.node_machine.specs.Carrying.{end_of_node, end_view}
+use Rattle.node_machine.specs.HostReplies.{accepts, created_by, deleted_by, gate_of_pipe, host_deeds, init_agreed, is_welcome, learned, learns, pipe_named_in}
+use Rattle.node_machine.specs.HostReplies.{replies, response_deeds}
 use Rattle.node_deeds.specs.declared.inits.Ordered.{Ordered}
 use Rattle.node_deeds.specs.declared.inits.Ordered.TheVariants.{Creation as ToCreate, Clearing, Other}
 use Rattle.node_deeds.specs.declared.host.Tasks.{Tasks}
-use Rattle.node_deeds.specs.declared.inits.Init.{Init as KeptInit}
 use Rattle.node_deeds.specs.declared.deeds.InitEnd.TheVariants.{Made}
-use Rattle.node_deeds.specs.declared.deeds.Deed.{Deed as KeptDeed}
 use Rattle.node_deeds.specs.declared.deeds.Deed.TheVariants as kept
-use Rattle.node_deeds.specs.Pipes.{gate_in}
-use Rattle.node_deeds.specs.Shown.{Handling, ordered_by, deletion_in, init_shown, deed_shown, deeds_shown}
-use Rattle.node_deeds.specs.Hosts.{init_running, handled_by, host_core, IsHostAt, learned_of, heard_deeds, next_deeds, host_kind_deeds}
+use Rattle.node_deeds.specs.Shown.{deletion_in, ordered_by}
+use Rattle.node_deeds.specs.Hosts.{next_deeds}
 
 -- ## Notices
 

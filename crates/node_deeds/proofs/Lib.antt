@@ -1,3 +1,4 @@
+mod Words
 pub mod Ports
 pub mod Decisions
 pub mod Headers

@@ -1,23 +1,14 @@
 -- What a controller does depends on its ends by their desks and by which links are up.
-use Rattle.std.proofs.Common.{◌≡◌, ℕ, Bool, true, false, cond, eqb, ◌&&◌, ◌||◌, List, [], ◌∷◌, refl, sym, ap, ap₂, ◌∙◌}
-use Rattle.std.specs.Prelude.{Option, Some, None, Result, Ok, Err, map, is_some, option_map}
-use Rattle.std.specs.List.{find, filter, filter_map, list_any, range_with_len, cons_option}
-use Rattle.std.specs.Option.{option_map_or, option_and_then}
-use Rattle.hcp_packet.specs.declared.MessageKind.{MessageKind}
-use Rattle.hcp_packet.specs.declared.MessageKind.TheVariants.{Command as IsCommand, Event as IsEvent, Response as IsResponse}
-use Rattle.hcp_packet.specs.declared.MessageFault.{MessageFault}
-use Rattle.hcp_packet.specs.MessageHeader.{header_of}
-use Rattle.hci_tables.specs.Tables.{HciTables, is_opened}
-use Rattle.gate_answers.specs.Answers.{body_in}
-use Rattle.gate_admin.specs.declared.view.LinkView.{LinkView}
-use Rattle.gate_admin.specs.View.{hosts_where, mask_of}
-use Rattle.link_laws.specs.machine.Machine.{Message}
-use Rattle.node_machine.specs.Parts.{Creation, Desk, Core, Port, Deed}
-use Rattle.node_machine.specs.Carrying.{port_at, own_view}
-use Rattle.node_machine.specs.Controller.{has_link, creation_in, is_asked_at, asks_for, pipe_of, waiting_pipes, mask_where, view_for}
-use Rattle.node_machine.specs.Controller.{own_gate, goes_through, served_at, notice_deeds, relayed_to, unrelayed, unless_asking, view_of, about_at, about_of}
-use Rattle.node_machine.specs.Controller.{if_notice, kind_deeds, own_deeds, relay_deeds, deeds_by_relay, controller_deeds}
-use Rattle.node_machine.specs.Parts.Deed.{Drops}
+use Rattle.std.specs.List.{find}
+use Rattle.node_deeds.proofs.Words.{Bool, Core, Creation, Deed, Drops, Err, HciTables, IsCommand, IsEvent, IsResponse, LinkView, List, Message, MessageFault}
+use Rattle.node_deeds.proofs.Words.{MessageKind, None, Ok, Option, Port, Result, Some, [], about_at, about_of, ap, ap₂, asks_for, body_in, cond, cons_option}
+use Rattle.node_deeds.proofs.Words.{controller_deeds, creation_in, deeds_by_relay, eqb, false, filter, filter_map, goes_through, has_link, header_of, if_notice}
+use Rattle.node_deeds.proofs.Words.{is_asked_at, is_opened, is_some, kind_deeds, list_any, map, mask_of, notice_deeds, option_and_then, option_map}
+use Rattle.node_deeds.proofs.Words.{option_map_or, own_deeds, own_gate, own_view, pipe_of, port_at, range_with_len, refl, relayed_to, served_at, sym, true}
+use Rattle.node_deeds.proofs.Words.{unless_asking, view_for, view_of, waiting_pipes, ℕ, ◌&&◌, ◌||◌, ◌∙◌, ◌∷◌, ◌≡◌}
+use Rattle.gate_admin.specs.View.{hosts_where}
+use Rattle.node_machine.specs.Parts.{Desk}
+use Rattle.node_machine.specs.Controller.{mask_where, relay_deeds, unrelayed}
 use Rattle.node_deeds.specs.Shown.{seen_at, port_with}
 
 -- ## Lists

@@ -1,12 +1,11 @@
 -- What deeds lack, one after another.
-use Rattle.std.proofs.Common.{◌≡◌, ℕ, Bool, true, false, cond, ltb, List, [], ◌∷◌, ◌++◌, refl, sym, ap, ap₂, ◌∙◌}
-use Rattle.std.specs.Prelude.{Option, Some, None, slice_index}
-use Rattle.std.specs.Option.{option_map_or}
+use Rattle.std.proofs.Common.{ltb}
+use Rattle.node_deeds.proofs.Words.{Bool, Commits, Deed, Drops, Ends, Hears, List, None, Option, Port, SaysOk, Sends, Some, Tells, [], ap, ap₂, cond, false}
+use Rattle.node_deeds.proofs.Words.{lack_by, needs, option_map_or, port_at, refl, slice_index, sym, true, ℕ, ◌++◌, ◌∙◌, ◌∷◌, ◌≡◌}
 use Rattle.link_laws.specs.machine.Machine.{spare}
-use Rattle.node_machine.specs.Parts.{Deed, Port}
-use Rattle.node_machine.specs.Parts.Deed.{Commits, Sends, SaysOk, Asks, Releases, Tells, IsAnswered, Drops, SetsErrors, Orders, Hears, GoesOn, Ends}
-use Rattle.node_machine.specs.Carrying.{port_at, needs, lack}
-use Rattle.node_deeds.specs.Room.{AreSpares, short_of, or_else, lack_by}
+use Rattle.node_machine.specs.Parts.Deed.{Asks, GoesOn, IsAnswered, Orders, Releases, SetsErrors}
+use Rattle.node_machine.specs.Carrying.{lack}
+use Rattle.node_deeds.specs.Room.{AreSpares, or_else, short_of}
 
 -- what is lacked by what is spare at the ends
 pub lack_there : (spares : List ℕ) (ports : List Port) → AreSpares spares ports → (ns : List (ℕ × ℕ))

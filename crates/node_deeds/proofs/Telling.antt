@@ -1,17 +1,13 @@
 -- The hosts of a mask, one after another.
-use Rattle.std.proofs.Common.{◌≡◌, ℕ, zero, suc, ◌+◌, ◌-◌, ◌<◌, ◌≤◌, Bool, true, false, List, [], ◌∷◌, ◌++◌, length, refl, sym, subst}
-use Rattle.std.proofs.Common.{ap, ap₂, ◌∙◌, inl, inr, arith, append_assoc, length-append}
-use Rattle.std.specs.Prelude.{map}
-use Rattle.std.proofs.lemmas.List.{map-append}
+use Rattle.std.proofs.Common.{length-append, ◌-◌}
+use Rattle.node_deeds.proofs.Words.{AreDoable, Bool, Deed, Handling, KeptDeed, List, Tells, TellsFew, [], ap, append_assoc, ap₂, arith, deed_shown, deeds_shown}
+use Rattle.node_deeds.proofs.Words.{false, has, hosts_below, hosts_below-left, inl, inr, length, map, map-append, refl, subst, suc, sym, true, zero, ℕ, ◌++◌}
+use Rattle.node_deeds.proofs.Words.{◌+◌, ◌<◌, ◌∙◌, ◌∷◌, ◌≡◌, ◌≤◌}
 use Rattle.registry.proofs.ValueLemmas.{AllByRecursion-append}
-use Rattle.gate_admin.specs.View.{has, hosts_where}
-use Rattle.gate_admin.proofs.ViewLemmas.{hosts_below, hosts_below-taken, hosts_below-left}
-use Rattle.node_machine.specs.Parts.{Deed}
-use Rattle.node_machine.specs.Parts.Deed.{Tells}
-use Rattle.node_deeds.specs.declared.deeds.Deed.{Deed as KeptDeed}
+use Rattle.gate_admin.specs.View.{hosts_where}
+use Rattle.gate_admin.proofs.ViewLemmas.{hosts_below-taken}
 use Rattle.node_deeds.specs.declared.deeds.Deed.TheVariants as kept
-use Rattle.node_deeds.specs.Shown.{Handling, deed_shown, deeds_shown}
-use Rattle.node_deeds.specs.Cores.{TellsFew, IsDoable, AreDoable}
+use Rattle.node_deeds.specs.Cores.{IsDoable}
 
 one_more : (xs : List ℕ) (x : ℕ) → length (xs ++ x ∷ []) ≡ length xs + 1
 one_more [] x = refl

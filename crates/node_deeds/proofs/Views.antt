@@ -1,24 +1,17 @@
 -- What code reads at the desks that it keeps is what the definition reads at the ends.
-use Rattle.std.proofs.Common.{◌≡◌, ℕ, suc, zero, ◌+◌, ◌^◌, ◌<◌, ◌≤◌, Bool, true, false, cond, eqb, ◌&&◌, ◌||◌, List, [], ◌∷◌, refl, sym, ap, ap₂, ◌∙◌, arith}
-use Rattle.std.specs.Prelude.{Option, Some, None, is_some, option_map}
-use Rattle.std.specs.List.{filter_map, list_any, cons_option}
-use Rattle.std.specs.Option.{option_map_or, option_and_then}
-use Rattle.link_laws.specs.sessions.Sessions.{is_up}
+use Rattle.node_deeds.proofs.Words.{Bool, Creation, HciTables, KeptDesk, List, None, Option, PipeRow, Port, Some, Unanswered, [], about_at, about_of}
+use Rattle.node_deeds.proofs.Words.{about_shown, ap, ap₂, arith, asked_by, asks_for, awaited_pipe, cond, configured_by, connected_by, cons_option, creation_in}
+use Rattle.node_deeds.proofs.Words.{desk_of, eqb, false, filter_map, has, has_link, hosts_below, hosts_below-left, is_asked_at, is_opened, is_some, is_up}
+use Rattle.node_deeds.proofs.Words.{list_any, mask_of, notice_shown, noticed_by, option_and_then, option_map, option_map_or, pipe_of, port_at, ports_shown}
+use Rattle.node_deeds.proofs.Words.{refl, row_waits_for, suc, sym, true, view_for, waiting_pipes, zero, ℕ, ◌&&◌, ◌+◌, ◌<◌, ◌^◌, ◌||◌, ◌∙◌, ◌∷◌, ◌≡◌, ◌≤◌}
 use Rattle.shdlc_core.specs.declared.answers.LinkState.TheVariants.{Down, Up}
-use Rattle.pipe_table.specs.declared.row.PipeRow.{PipeRow}
-use Rattle.hci_tables.specs.Tables.{HciTables, is_opened}
-use Rattle.gate_admin.specs.View.{has, mask_of, hosts_where}
-use Rattle.gate_admin.proofs.ViewLemmas.{hosts_below, hosts_below-left, mask_of-taken, double}
-use Rattle.node_machine.specs.Parts.{Creation, Port}
-use Rattle.node_machine.specs.Carrying.{port_at}
-use Rattle.node_machine.specs.Controller.{has_link, asks_for, asked_at, is_asked_at, creation_in, pipe_of, waiting_pipes, is_connected_at, view_for}
-use Rattle.node_machine.specs.Controller.{about_at, about_of}
+use Rattle.gate_admin.specs.View.{hosts_where}
+use Rattle.gate_admin.proofs.ViewLemmas.{double, mask_of-taken}
+use Rattle.node_machine.specs.Controller.{asked_at, is_connected_at}
 use Rattle.node_deeds.specs.declared.desks.About.{About as KeptAbout}
 use Rattle.node_deeds.specs.declared.desks.About.TheVariants as about
-use Rattle.node_deeds.specs.declared.desks.Unanswered.{Unanswered}
-use Rattle.node_deeds.specs.declared.desks.Desk.{Desk as KeptDesk}
-use Rattle.node_deeds.specs.Shown.{about_shown, notice_shown, port_shown, ports_shown, row_about, row_noticed, row_waits_for, awaited_pipe}
-use Rattle.node_deeds.specs.Desks.{desk_of, configured_by, connected_by, noticed_by, asked_in, asked_by, errors_by}
+use Rattle.node_deeds.specs.Shown.{port_shown, row_about, row_noticed}
+use Rattle.node_deeds.specs.Desks.{asked_in, errors_by}
 use Rattle.node_deeds.proofs.Ports.{find-map, hosts_same, view_with, view_made}
 
 -- ## One end

@@ -1,15 +1,9 @@
 -- What comes to an end has nothing to do with the messages that came there before and wait.
-use Rattle.std.proofs.Common.{◌≡◌, ℕ, Bool, true, false, List, [], ◌++◌, refl, sym, ap, ◌∙◌, append-nil, arith}
-use Rattle.std.specs.Prelude.{Option, is_some, ◌+◌, if◌then◌else◌}
-use Rattle.std.proofs.lemmas.Bool.{true≢false}
-use Rattle.swp_base.specs.declared.control_frames.Control.{Control}
-use Rattle.swp_base.specs.declared.control_frames.Control.TheVariants.{I, S, Rset, Ua, Act as ActFrame, Clt}
-use Rattle.swp_act.specs.declared.ActEvent.{ActEvent}
-use Rattle.swp_act.specs.declared.ActEvent.TheVariants.{Start as ActStart, Take as ActTake, Stop as ActStop}
-use Rattle.shdlc_core.specs.Machine.{taken, take_answer, stopped}
-use Rattle.link_laws.specs.machine.Machine.{LinkEnd as Machine, Message, LinkInput, after_input, got_by, took, brought, heard, news, moved, put_down, activated}
-use Rattle.link_laws.specs.machine.Machine.{is_open, is_faulty, started, deactivated, had_tick}
-use Rattle.link_laws.specs.machine.Machine.LinkInput.{Take, TakeUnknown, TakeBroken, Tick, Reset, Start, Stop, FromNode, Fetch}
+use Rattle.node_ends.proofs.Words.{ActEvent, ActFrame, ActStart, ActStop, ActTake, Bool, Clt, Control, Fetch, FromNode, I, LinkInput, List, Machine, Message}
+use Rattle.node_ends.proofs.Words.{Option, Reset, Rset, S, Start, Stop, Take, TakeBroken, TakeUnknown, Tick, Ua, [], activated, after_input, ap, append-nil}
+use Rattle.node_ends.proofs.Words.{arith, brought, false, got_by, heard, if◌then◌else◌, is_faulty, is_open, is_some, moved, news, put_down, refl, stopped, sym}
+use Rattle.node_ends.proofs.Words.{take_answer, taken, took, true, true≢false, ℕ, ◌++◌, ◌+◌, ◌∙◌, ◌≡◌}
+use Rattle.link_laws.specs.machine.Machine.{deactivated, had_tick, started}
 
 -- an end where these messages wait
 abbrev pub with_got : List Message → Machine → Machine

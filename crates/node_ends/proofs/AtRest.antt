@@ -1,9 +1,7 @@
 -- Whether all ends of a node pass a test, one after another.
-use Rattle.std.proofs.Common.{◌≡◌, ℕ, zero, suc, ◌+◌, ◌≤◌, Bool, true, false, List, [], ◌∷◌, length, drop, sym, ap, ◌∙◌, arith}
-use Rattle.std.proofs.lemmas.List.{drop_all}
-use Rattle.std.specs.Prelude.{◌&&◌, Some, slice_get}
 use Rattle.std.specs.List.{list_all}
-use Rattle.node_machine.specs.Parts.{Port}
+use Rattle.node_ends.proofs.Words.{Bool, List, Port, Some, [], ap, arith, drop, drop_all, false, length, slice_get, suc, sym, true, zero, ℕ, ◌&&◌, ◌+◌, ◌∙◌}
+use Rattle.node_ends.proofs.Words.{◌∷◌, ◌≡◌, ◌≤◌}
 
 module _ (test : Port → Bool) where
   -- those from a place on do where the one there and those behind it do

@@ -1,20 +1,9 @@
 -- What is kept of an end beside it is changed: it stands for the changed port, and the ends beside it stay.
-use Rattle.std.proofs.Common.{◌≡◌, ℕ, ◌+◌, Bool, false, [], refl, sym, ap, ◌∙◌, subst, arith}
-use Rattle.std.specs.Prelude.{Option, option_map, min, ◌||◌}
-use Rattle.block_pool.specs.Pool.{PoolState}
-use Rattle.link_laws.specs.machine.Machine.{LinkEnd as Machine, whole_acked}
-use Rattle.link_end.specs.declared.«end».End.{End}
-use Rattle.node_machine.specs.Parts.{Port, Desk as DeskOf}
-use Rattle.node_machine.specs.Node.{with_older, without_notice}
-use Rattle.node_deeds.specs.declared.desks.Unanswered.{Unanswered}
-use Rattle.node_deeds.specs.declared.desks.Desk.{Desk}
-use Rattle.node_deeds.specs.Cores.{IsSoundDesk, IsSoundRow}
-use Rattle.node_deeds.specs.Shown.{desk_shown, notice_shown, row_noticed}
-use Rattle.node_ends.specs.declared.seat.Seat.{Seat}
-use Rattle.node_ends.specs.declared.seat.Waiting.{Waiting}
-use Rattle.node_ends.specs.Desks.{grown_older, kept_notice, as_forgotten, forgotten_at}
-use Rattle.node_ends.specs.Holding.{HoldsEnd, IsReached, kept_number}
-use Rattle.node_ends.specs.Ends.{SeatStandsFor, SeatBecomes}
+use Rattle.node_ends.proofs.Words.{Bool, Desk, DeskOf, End, HoldsEnd, IsReached, IsSoundDesk, Machine, Option, PoolState, Port, Seat, SeatBecomes}
+use Rattle.node_ends.proofs.Words.{SeatStandsFor, Unanswered, Waiting, [], ap, arith, desk_shown, false, forgotten_at, kept_number, min, notice_shown}
+use Rattle.node_ends.proofs.Words.{option_map, refl, row_noticed, subst, sym, whole_acked, with_older, without_notice, ℕ, ◌+◌, ◌||◌, ◌∙◌, ◌≡◌}
+use Rattle.node_deeds.specs.Cores.{IsSoundRow}
+use Rattle.node_ends.specs.Desks.{as_forgotten, grown_older, kept_notice}
 use Rattle.node_ends.proofs.Moving.{stays_beside}
 
 pub record Sets (pool : PoolState) (s t : Seat) (f : Port → Port) : Type 0 where

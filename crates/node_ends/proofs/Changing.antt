@@ -1,25 +1,12 @@
 -- One of the ends of a node is changed: the ports that they stand for change as the definition says.
-use Rattle.std.proofs.Common.{◌≡◌, ◌≢◌, ℕ, zero, suc, ◌+◌, ◌*◌, ◌<◌, Bool, true, false, List, [], ◌∷◌, length, refl, sym, ap, ◌∙◌, subst, arith, length-set}
-use Rattle.std.specs.Prelude.{◌==◌, Option, Some, None, option_map, slice_get, slice_set, slice_index_or}
-use Rattle.std.specs.List.{AllByRecursion}
-use Rattle.std.proofs.lemmas.Option.{slice_get_within, get_or_from_slice_get}
-use Rattle.std.proofs.lemmas.Bool.{eq-eqb}
-use Rattle.block_pool.specs.Pool.{PoolState}
-use Rattle.link_end.specs.declared.«end».End.{End}
-use Rattle.link_end.specs.Ends.{HaveOwners}
-use Rattle.node_machine.specs.Parts.{Port, Desk as DeskOf}
-use Rattle.node_machine.specs.Carrying.{port_at, changed_if, with_port, after_turn}
-use Rattle.link_laws.specs.machine.Machine.{LinkEnd as Machine, Turn, turn}
-use Rattle.node_ends.specs.declared.seat.Seat.{Seat}
-use Rattle.node_deeds.specs.declared.desks.Desk.{Desk}
-use Rattle.node_deeds.specs.Cores.{IsSoundDesk}
-use Rattle.node_deeds.specs.Shown.{desk_shown}
-use Rattle.link_laws.specs.machine.Machine.LinkInput.{FromNode}
-use Rattle.link_laws.specs.machine.Laws.{AreSendableInputs}
-use Rattle.node_ends.specs.Holding.{HoldsSeat, Moves, kept_number}
+use Rattle.std.proofs.lemmas.Option.{get_or_from_slice_get}
+use Rattle.node_ends.proofs.Words.{AllByRecursion, AreEnds, AreSendableInputs, Bool, Desk, DeskOf, End, EndsStandFor, FromNode, HaveOwnHosts, HaveOwners}
+use Rattle.node_ends.proofs.Words.{HaveOwnersFrom, HoldsSeat, IsSoundDesk, KeptEnds, List, Machine, Moves, None, Option, PoolState, Port, Seat, SeatBecomes}
+use Rattle.node_ends.proofs.Words.{SeatStandsFor, SeatsStandFor, Some, Turn, [], after_turn, ap, arith, changed_if, desk_shown, eq-eqb, false, kept_number}
+use Rattle.node_ends.proofs.Words.{length, length-set, option_map, place_in, port_at, refl, slice_get, slice_get_within, slice_index_or, slice_set, subst, suc}
+use Rattle.node_ends.proofs.Words.{sym, true, turn, with_port, zero, ℕ, ◌*◌, ◌+◌, ◌<◌, ◌==◌, ◌∙◌, ◌∷◌, ◌≡◌, ◌≢◌}
 use Rattle.node_ends.proofs.Counting.{reached_on, turn_acked}
 use Rattle.node_ends.proofs.Opening.{kept_so}
-use Rattle.node_ends.specs.Ends.{SeatStandsFor, SeatBecomes, SeatsStandFor, HaveOwnersFrom, HaveOwnHosts, AreEnds, KeptEnds, EndsStandFor, place_in}
 
 -- ## Hosts
 

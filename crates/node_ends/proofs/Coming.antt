@@ -1,16 +1,7 @@
 -- What comes to an end and brings no message leaves the one that waits there.
-use Rattle.std.proofs.Common.{◌≡◌, ℕ, true, refl, [], ◌++◌, ap, ◌∙◌, subst, append-nil, arith}
-use Rattle.std.specs.Prelude.{Option, ◌-◌, is_some, Result}
-use Rattle.block_pool.specs.Pool.{PoolState}
-use Rattle.link_laws.specs.machine.Machine.{LinkEnd as Machine, LinkInput, after_input, got_by, report, whole_acked, ended_by}
-use Rattle.link_laws.specs.machine.Machine.LinkInput.{Tick, Reset, Start, Stop}
-use Rattle.link_end.specs.Reports.{report_told, reset_told}
-use Rattle.link_end.specs.declared.«end».End.{End}
-use Rattle.link_end.specs.declared.report.LinkReport.{LinkReport}
-use Rattle.link_end.specs.declared.report.ResetRefused.{ResetRefused}
-use Rattle.link_end.specs.Ends.{EndStandsFor, EndLeavesOthers}
-use Rattle.node_ends.specs.declared.seat.Waiting.{Waiting}
-use Rattle.node_ends.specs.Holding.{HoldsEnd, without_got, ends_by}
+use Rattle.node_ends.proofs.Words.{End, EndLeavesOthers, EndStandsFor, HoldsEnd, LinkInput, LinkReport, Machine, Option, PoolState, Reset, ResetRefused, Result}
+use Rattle.node_ends.proofs.Words.{Start, Stop, Tick, Waiting, [], after_input, ap, append-nil, arith, ended_by, ends_by, got_by, is_some, refl, report}
+use Rattle.node_ends.proofs.Words.{report_told, reset_told, subst, true, whole_acked, without_got, ℕ, ◌++◌, ◌-◌, ◌∙◌, ◌≡◌}
 use Rattle.node_ends.proofs.Apart.{with_got, is_outside, input_apart}
 use Rattle.node_ends.proofs.Moving.{call_holds}
 

@@ -1,21 +1,16 @@
 -- How many messages of the session of an end are acknowledged, as it is kept, from input to input.
-use Rattle.std.proofs.Common.{◌≡◌, ℕ, ◌+◌, ◌-◌, ◌<◌, ◌≤◌, Bool, true, false, cond, List, [], ◌∷◌, ◌++◌, length, refl, ap, sym, subst, ◌∙◌, arith}
-use Rattle.std.proofs.lemmas.Bool.{true≢false}
-use Rattle.std.specs.Prelude.{Option, Some, None, Ok, Err, is_some, min}
-use Rattle.hcp_packet.specs.Packets.{IsSendable, packet_count}
-use Rattle.link_laws.specs.machine.Machine.{LinkEnd as Machine, LinkInput, Turn, Message, Refused, Report, report, after_input, after_inputs, ended_by}
-use Rattle.link_laws.specs.machine.Machine.{began_by, whole_among, whole_acked, turn, give_refusal, new_link_end, reset_refusal, if_up}
-use Rattle.link_laws.specs.machine.Machine.LinkInput.{Take, TakeUnknown, TakeBroken, Tick, Reset, Start, Stop, FromNode, Fetch}
-use Rattle.link_laws.specs.machine.Machine.Turn.{Give, Hold, FetchMessage, SetAside, Release}
-use Rattle.link_laws.specs.machine.Laws.{AreSendableInputs}
+use Rattle.node_ends.proofs.Words.{AreSendableInputs, Asked, Bool, Err, Fetch, FetchMessage, FromNode, Give, Hold, IsReached, IsSendable, LinkInput, LinkReport}
+use Rattle.node_ends.proofs.Words.{List, Machine, Message, None, Ok, Option, Refused, Release, Reset, SetAside, Some, Start, Stop, Take, TakeBroken}
+use Rattle.node_ends.proofs.Words.{TakeUnknown, Tick, Turn, [], acked_by_reset, acked_since, after_input, after_inputs, ap, arith, cond, ended_by, false}
+use Rattle.node_ends.proofs.Words.{give_refusal, if_up, is_some, kept_number, length, min, new_link_end, refl, report, report_told, reset_refusal}
+use Rattle.node_ends.proofs.Words.{reset_refused, reset_told, subst, sym, true, true≢false, turn, whole_acked, ℕ, ◌++◌, ◌+◌, ◌-◌, ◌<◌, ◌∙◌, ◌∷◌, ◌≡◌, ◌≤◌}
+use Rattle.hcp_packet.specs.Packets.{packet_count}
+use Rattle.link_laws.specs.machine.Machine.{Report, began_by, whole_among}
 use Rattle.link_laws.proofs.machine.Runs.{Sound, sound, parted}
 use Rattle.link_laws.proofs.machine.Sound.{SentAfter, Shift, whole_given, whole_more}
 use Rattle.link_laws.proofs.machine.Sound.Shift.{Begins, Ends, Renews, Rests, Stays}
 use Rattle.link_laws.proofs.machine.Reports.{Reports, take_so, tick_so, reset_so, start_so, stop_so}
-use Rattle.link_end.specs.declared.report.LinkReport.{LinkReport}
-use Rattle.link_end.specs.Reports.{report_told, nothing_told, reset_told, reset_refused}
-use Rattle.swp_base.specs.declared.link_terms.Cause.TheVariants.{Asked}
-use Rattle.node_ends.specs.Holding.{IsReached, kept_number, acked_since, acked_by_reset}
+use Rattle.link_end.specs.Reports.{nothing_told}
 use Rattle.node_ends.proofs.Apart.{is_outside}
 
 pub is_sound : (m : Machine) → IsReached m → Sound m

@@ -1,25 +1,18 @@
 -- How many control frames wait to be sent at an end: an input makes at most one more.
-use Rattle.std.proofs.Common.{◌≡◌, ℕ, ◌+◌, ◌≤◌, Bool, true, false, cond, List, [], ◌∷◌, ◌++◌, length, refl, ap, arith, length-append}
-use Rattle.std.specs.Prelude.{Option, Some, None, Result, Ok, Err, map, is_some, ◌==◌, nat_lt}
-use Rattle.std.proofs.lemmas.List.{length-map}
+use Rattle.node_ends.proofs.Words.{ActEvent, ActFrame, ActStart, ActStop, ActTake, Asked, Bool, Clt, Control, Down, EndState, Err, Fragment, I, LinkState, List}
+use Rattle.node_ends.proofs.Words.{LpduFault, Machine, None, Ok, Option, Refused, Reset, Result, Rset, S, Some, Start, Stop, Tick, Ua, Up, [], activated}
+use Rattle.node_ends.proofs.Words.{after_input, ap, arith, cond, control_of, false, heard, if_up, is_faulty, is_open, is_some, length, length-append}
+use Rattle.node_ends.proofs.Words.{length-map, lpdu_input, map, moved, nat_lt, put_down, refl, reset_refusal, stopped, take_answer, taken, took, true, ℕ, ◌++◌}
+use Rattle.node_ends.proofs.Words.{◌+◌, ◌==◌, ◌∷◌, ◌≡◌, ◌≤◌}
 use Rattle.shdlc_core.specs.declared.answers.Due.{Due}
 use Rattle.shdlc_core.specs.declared.answers.Due.TheVariants.{Rr as Rr_due, Rej as Rej_due, Rnr as Rnr_due, Rset as Rset_due, Ua as Ua_due}
-use Rattle.shdlc_core.specs.declared.answers.LinkState.{LinkState}
-use Rattle.shdlc_core.specs.declared.answers.LinkState.TheVariants.{Down, Waiting, Up}
-use Rattle.shdlc_core.specs.Machine.{EndState, Fragment, taken, take_answer, ticked, tick_answer, stopped, reset_with, received, ahead, acknowledged, place_of}
+use Rattle.shdlc_core.specs.declared.answers.LinkState.TheVariants.{Waiting}
+use Rattle.shdlc_core.specs.Machine.{acknowledged, ahead, place_of, received, reset_with, tick_answer, ticked}
 use Rattle.shdlc_core.specs.Machine.{runs_timer}
 use Rattle.swp_base.specs.declared.control_frames.Kind.{Kind}
-use Rattle.swp_base.specs.declared.control_frames.Control.{Control}
-use Rattle.swp_base.specs.declared.control_frames.Control.TheVariants.{I, S, Rset, Ua, Act as ActFrame, Clt}
 use Rattle.swp_base.specs.declared.control_frames.Act.{Act}
-use Rattle.swp_base.specs.declared.link_terms.Cause.TheVariants.{Asked}
-use Rattle.swp_lpdu.specs.Controls.{control_of}
-use Rattle.swp_lpdu.specs.declared.LpduFault.{LpduFault}
-use Rattle.swp_act.specs.declared.ActEvent.{ActEvent}
-use Rattle.swp_act.specs.declared.ActEvent.TheVariants.{Start as ActStart, Take as ActTake, Tick as ActTick, Stop as ActStop}
-use Rattle.link_laws.specs.machine.Machine.{LinkEnd as Machine, ActDue, Refused, is_open, is_faulty, moved, put_down, with_act, activated, act_answer, in_front}
-use Rattle.link_laws.specs.machine.Machine.{role_after, heard, took, after_input, lpdu_input, reset_refusal, window_of, if_up}
-use Rattle.link_laws.specs.machine.Machine.LinkInput.{Tick, Reset, Start, Stop}
+use Rattle.swp_act.specs.declared.ActEvent.TheVariants.{Tick as ActTick}
+use Rattle.link_laws.specs.machine.Machine.{ActDue, act_answer, in_front, role_after, window_of, with_act}
 
 -- the control frames that wait to be sent
 abbrev pub due_count : Machine → ℕ

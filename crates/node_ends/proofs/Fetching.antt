@@ -1,28 +1,16 @@
 -- A frame comes to an end, and the message that it brings is fetched.
-use Rattle.std.proofs.Common.{◌≡◌, ℕ, ◌≤◌, true, false, List, [], ◌++◌, length, drop, refl, sym, ap, ◌∙◌, subst, arith}
-use Rattle.std.specs.Prelude.{Option, Some, None, option_map, option_to_list, Result, Ok, Err, is_some}
-use Rattle.std.specs.List.{AllByRecursion}
-use Rattle.block_pool.specs.declared.chain.Chain.{Chain}
-use Rattle.block_pool.specs.Pool.{PoolState, chain_bytes}
-use Rattle.hcp_chain.specs.declared.joiner.Open.{Open}
+use Rattle.std.specs.Prelude.{option_to_list}
+use Rattle.node_ends.proofs.Words.{Accounts, AllByRecursion, Chain, Control, End, EndStandsFor, Err, FetchMessage, HoldsEnd, List, LpduFault, Machine, Message}
+use Rattle.node_ends.proofs.Words.{Moves, None, Ok, Open, Option, PoolState, Result, S, Some, Take, Waiting, [], ap, arith, chain_bytes, chain_of, control_of}
+use Rattle.node_ends.proofs.Words.{drop, false, got_by, is_some, length, lpdu_input, messages_waiting, oldest, option_map, refl, report, report_told, subst}
+use Rattle.node_ends.proofs.Words.{sym, true, true≢false, turn, without_got, ℕ, ◌++◌, ◌∙◌, ◌≡◌, ◌≤◌}
 use Rattle.hcp_chain.specs.Holding.{IsOwnOpen, messages_in as messages_of}
 use Rattle.hcp_chain.proofs.HoldingLemmas.{all_front}
-use Rattle.link_laws.specs.machine.Machine.{LinkEnd as Machine, Message, oldest, got_by, turn, lpdu_input, report}
-use Rattle.link_laws.specs.machine.Machine.Turn.{FetchMessage}
-use Rattle.link_laws.specs.machine.Machine.LinkInput.{Take}
-use Rattle.link_end.specs.Reports.{report_told}
-use Rattle.swp_base.specs.declared.control_frames.Control.{Control}
-use Rattle.swp_base.specs.declared.control_frames.Control.TheVariants.{S}
-use Rattle.swp_lpdu.specs.Controls.{control_of}
-use Rattle.swp_lpdu.specs.declared.LpduFault.{LpduFault}
-use Rattle.std.proofs.lemmas.Bool.{true≢false}
 use Rattle.link_messages.specs.declared.inbox.Got.{Got}
 use Rattle.link_messages.specs.Incoming.{got_chains}
-use Rattle.link_end.specs.declared.«end».End.{End}
-use Rattle.link_end.specs.Ends.{EndStandsFor, Accounts, MayTake}
+use Rattle.link_end.specs.Ends.{MayTake}
 use Rattle.link_end.proofs.AccountLemmas.{rests, rests_may_take, may_take_held}
-use Rattle.node_ends.specs.declared.seat.Waiting.{Waiting}
-use Rattle.node_ends.specs.Holding.{messages_waiting, chain_of, without_got, as_waiting, HoldsEnd, Moves, WaitsHeld}
+use Rattle.node_ends.specs.Holding.{WaitsHeld, as_waiting}
 use Rattle.node_ends.proofs.Apart.{is_outside}
 use Rattle.node_ends.proofs.Quiet.{held_gets_none}
 

@@ -1,23 +1,11 @@
 -- What a node looks at of its ends before it decides is what is kept of them.
-use Rattle.std.proofs.Common.{◌≡◌, ◌≢◌, ℕ, zero, suc, ◌+◌, ◌*◌, ◌/◌, ◌%◌, ◌≤◌}
-use Rattle.std.proofs.Common.{Bool, true, cond, eqb, List, [], ◌∷◌, ◌++◌, ◌<◌, map, length, take, get_or, refl, sym, ap, ap₂, ◌∙◌, arith}
-use Rattle.std.specs.Prelude.{Some, ◌==◌}
-use Rattle.std.specs.List.{AllByRecursion}
-use Rattle.std.proofs.lemmas.Bool.{eq-eqb}
-use Rattle.std.proofs.lemmas.Grind.{common_steps}
-use Rattle.std.proofs.lemmas.List.{take_all}
-use Rattle.shdlc_core.specs.declared.answers.LinkState.TheVariants.{Down, Up}
-use Rattle.link_laws.specs.sessions.Sessions.{is_up}
+use Rattle.std.proofs.Common.{◌/◌}
+use Rattle.node_ends.proofs.Words.{AllByRecursion, AreEnds, AreSoundDesks, Bool, Desk, DeskOf, Down, HaveOwnHosts, List, PoolState, Port, Seat, SeatsStandFor}
+use Rattle.node_ends.proofs.Words.{Some, Up, [], ap, ap₂, arith, common_steps, cond, desk_shown, eq-eqb, eqb, get_or, has_link, is_up, length, map, port_at}
+use Rattle.node_ends.proofs.Words.{refl, suc, sym, take, take_all, true, zero, ℕ, ◌%◌, ◌*◌, ◌++◌, ◌+◌, ◌<◌, ◌==◌, ◌∙◌, ◌∷◌, ◌≡◌, ◌≢◌, ◌≤◌}
 use Rattle.gate_admin.specs.View.{has}
-use Rattle.block_pool.specs.Pool.{PoolState}
-use Rattle.node_machine.specs.Parts.{Port, Desk as DeskOf}
-use Rattle.node_machine.specs.Carrying.{port_at}
-use Rattle.node_machine.specs.Controller.{has_link}
-use Rattle.node_deeds.specs.declared.desks.Desk.{Desk}
-use Rattle.node_deeds.specs.Shown.{desk_shown, seen_at, ports_shown, AreSeen}
-use Rattle.node_deeds.specs.Cores.{AreSoundDesks}
-use Rattle.node_ends.specs.declared.seat.Seat.{Seat}
-use Rattle.node_ends.specs.Ends.{SeatsStandFor, HaveOwnHosts, AreEnds, AreOfHosts}
+use Rattle.node_deeds.specs.Shown.{AreSeen, ports_shown, seen_at}
+use Rattle.node_ends.specs.Ends.{AreOfHosts}
 use Rattle.node_ends.proofs.Changing.{host_is}
 
 -- ## Masks

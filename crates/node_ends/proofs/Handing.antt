@@ -1,20 +1,10 @@
 -- The chain of a message that waits at one end is given to an end.
-use Rattle.std.proofs.Common.{◌≡◌, false, List, [], drop, length, ◌≤◌, sym, ap, ◌∙◌, subst, arith}
-use Rattle.std.specs.Prelude.{Option, Some, None, is_none}
-use Rattle.std.specs.List.{AllByRecursion}
-use Rattle.block_pool.specs.declared.chain.Chain.{Chain}
-use Rattle.block_pool.specs.Pool.{PoolState, IsLive, chain_bytes, Gives, KeepsOthers}
-use Rattle.block_pool.proofs.HoldingLemmas.{apart_by_owner, lies_apart_by_owner}
-use Rattle.link_laws.specs.machine.Machine.{LinkEnd as Machine, Message, turn, give_refusal}
-use Rattle.link_laws.specs.machine.Machine.Turn.{Give, FetchMessage}
-use Rattle.link_messages.specs.declared.outbox.Queued.{Queued}
+use Rattle.node_ends.proofs.Words.{Accounts, AllByRecursion, Chain, End, EndStandsFor, FetchMessage, Give, Gives, HaveOwners, HoldsEnd, IsLive, KeepsOthers}
+use Rattle.node_ends.proofs.Words.{List, Machine, Message, Moves, None, Option, PoolState, Queued, Some, Waiting, [], ap, apart_by_owner, arith, chain_bytes}
+use Rattle.node_ends.proofs.Words.{chain_in, drop, false, give_refusal, is_none, length, lies_apart_by_owner, subst, sym, turn, without_got, ◌∙◌, ◌≡◌, ◌≤◌}
 use Rattle.link_messages.specs.declared.inbox.Inbox.{Inbox}
-use Rattle.link_messages.specs.Outgoing.{chain_in, LeavesOthersBut}
-use Rattle.link_end.specs.declared.«end».End.{End}
-use Rattle.link_end.specs.Ends.{EndStandsFor, HaveOwners, Accounts}
+use Rattle.link_messages.specs.Outgoing.{LeavesOthersBut}
 use Rattle.link_end.proofs.AccountLemmas.{adopted, passed_giver, passed_taker, passed_beside, sent_back_own}
-use Rattle.node_ends.specs.declared.seat.Waiting.{Waiting}
-use Rattle.node_ends.specs.Holding.{without_got, HoldsEnd, Moves}
 use Rattle.node_ends.proofs.Turning.{give_without, give_got}
 use Rattle.node_ends.proofs.Moving.{waits_on, short_on, given_holds, given_moves}
 

@@ -1,26 +1,10 @@
 -- What comes to an end from outside: what is kept of the end stands for its state behind that.
-use Rattle.std.proofs.Common.{◌≡◌, ℕ, true, List, [], refl, sym, ap, ◌∙◌, subst, arith}
-use Rattle.std.specs.Prelude.{Some, None, Option, option_map, is_some, Result, Ok, Err, OnOk}
-use Rattle.swp_base.specs.declared.control_frames.Control.{Control}
-use Rattle.swp_lpdu.specs.declared.LpduFault.{LpduFault}
-use Rattle.swp_lpdu.specs.Controls.{control_of}
-use Rattle.block_pool.specs.Pool.{PoolState}
-use Rattle.link_laws.specs.machine.Machine.{LinkEnd as Machine, LinkInput, after_input, got_by, lpdu_input, report, reset_refusal}
-use Rattle.link_laws.specs.machine.Machine.LinkInput.{Reset}
-use Rattle.link_end.specs.declared.«end».End.{End}
-use Rattle.link_end.specs.Ends.{EndLeavesOthers, EndStandsFor}
-use Rattle.link_end.specs.declared.report.LinkReport.{LinkReport}
-use Rattle.link_end.specs.declared.report.ResetRefused.{ResetRefused}
-use Rattle.link_end.specs.Reports.{report_told, reset_told, reset_refused}
-use Rattle.node_machine.specs.Parts.{Port}
-use Rattle.node_machine.specs.Node.{has_come}
-use Rattle.node_deeds.specs.Cores.{IsSoundDesk}
-use Rattle.node_deeds.specs.Shown.{desk_shown}
+use Rattle.node_ends.proofs.Words.{Control, End, EndLeavesOthers, EndStandsFor, Err, HoldsSeat, IsSoundDesk, LinkInput, LinkReport, List, LpduFault, Machine}
+use Rattle.node_ends.proofs.Words.{Moves, None, Ok, OnOk, Option, PoolState, Port, Reset, ResetRefused, Result, Seat, SeatBecomes, SeatStandsFor, Some, []}
+use Rattle.node_ends.proofs.Words.{acked_since, after_input, ap, arith, control_of, desk_shown, ends_by, got_by, has_come, is_some, lpdu_input, option_map}
+use Rattle.node_ends.proofs.Words.{refl, report, report_told, reset_refusal, reset_refused, reset_told, subst, sym, true, without_got, ℕ, ◌∙◌, ◌≡◌}
 use Rattle.node_ends.specs.declared.inputs.LinkInput.{LinkInput as ToEnd}
 use Rattle.node_ends.specs.declared.inputs.LinkInput.TheVariants as comes
-use Rattle.node_ends.specs.declared.seat.Seat.{Seat}
-use Rattle.node_ends.specs.Holding.{HoldsSeat, Moves, acked_since, ends_by, without_got}
-use Rattle.node_ends.specs.Ends.{SeatStandsFor, SeatBecomes}
 use Rattle.node_ends.specs.Inputs.{frame_said, refusal_at}
 use Rattle.node_ends.proofs.Apart.{is_outside}
 use Rattle.node_ends.proofs.Blocks.{outside_aside}

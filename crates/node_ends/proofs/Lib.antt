@@ -1,3 +1,4 @@
+mod Words
 pub mod Turning
 pub mod Moving
 pub mod Changing

@@ -1,23 +1,16 @@
 -- New ends of a node stand for new ports.
-use Rattle.std.proofs.Common.{◌≡◌, ◌≢◌, ℕ, zero, suc, ◌+◌, ◌*◌, ◌<◌, ◌≤◌, List, [], ◌∷◌, ◌++◌, length, map, take, refl, sym, ap, ◌∙◌, subst, arith}
-use Rattle.std.proofs.Common.{append_assoc, length-append}
-use Rattle.std.specs.Prelude.{Option, Some, slice_get, Result, OnOk}
+use Rattle.std.proofs.Common.{append_assoc}
+use Rattle.node_ends.proofs.Words.{AddsNew, AllByRecursion, AreEnds, Desk, HaveOwnHosts, HaveOwnersFrom, HoldsEnd, IsNewSeat, IsReached, IsSoundDesk, List}
+use Rattle.node_ends.proofs.Words.{OnOk, Option, PoolState, Result, Seat, SeatStandsFor, SeatsStandFor, Some, Waiting, [], ap, arith, desk_shown, length}
+use Rattle.node_ends.proofs.Words.{length-append, map, new_link_end, refl, slice_get, subst, suc, sym, take, used_of, zero, ℕ, ◌*◌, ◌++◌, ◌+◌, ◌<◌, ◌∙◌, ◌∷◌}
+use Rattle.node_ends.proofs.Words.{◌≡◌, ◌≢◌, ◌≤◌}
 use Rattle.swp_base.specs.declared.outside.NoMemory.{NoMemory}
-use Rattle.std.specs.List.{AllByRecursion}
 use Rattle.swp_base.specs.declared.link_terms.Role.{Role as Named}
-use Rattle.block_pool.specs.Pool.{PoolState, IsNew, used_of}
-use Rattle.link_laws.specs.machine.Machine.{new_link_end}
+use Rattle.block_pool.specs.Pool.{IsNew}
 use Rattle.link_end.specs.Roles.{new_role}
 use Rattle.link_end.specs.Ends.{IsFree}
 use Rattle.link_end.proofs.AccountLemmas.{new_free, new_unused}
-use Rattle.node_deeds.specs.declared.desks.Desk.{Desk}
-use Rattle.node_ends.specs.declared.seat.Seat.{Seat}
-use Rattle.node_ends.specs.declared.seat.Waiting.{Waiting}
-use Rattle.node_deeds.specs.Cores.{IsSoundDesk}
-use Rattle.node_deeds.specs.Shown.{desk_shown}
-use Rattle.node_ends.specs.Holding.{HoldsEnd, IsReached}
-use Rattle.node_ends.specs.Ends.{SeatStandsFor, SeatsStandFor, HaveOwnersFrom, HaveOwnHosts, AreEnds}
-use Rattle.node_ends.specs.Making.{new_port, IsNewSeat, AreNewFrom, AddsNew, AreAllDifferent}
+use Rattle.node_ends.specs.Making.{AreAllDifferent, AreNewFrom, new_port}
 
 -- ## Quotas
 

@@ -1,25 +1,15 @@
 -- What calls on one end leave of the ends beside it in the pool.
-use Rattle.std.proofs.Common.{◌≡◌, ◌≢◌, ℕ, List, [], ◌∷◌, refl, sym, ap, ◌∙◌, subst, ◌+◌, arith}
-use Rattle.std.specs.Prelude.{Option, Some, None, length, ◌≤◌, drop}
-use Rattle.std.specs.List.{AllByRecursion}
-use Rattle.block_pool.specs.declared.chain.Chain.{Chain}
-use Rattle.block_pool.specs.Pool.{PoolState, IsLive, chain_bytes, IsApart, Gives, KeepsOthers}
+use Rattle.node_ends.proofs.Words.{Accounts, AllByRecursion, Chain, End, EndLeavesOthers, EndStandsFor, FetchMessage, Gives, HoldsEnd, IsLive, KeepsOthers}
+use Rattle.node_ends.proofs.Words.{List, Machine, Message, Moves, None, Open, Option, PoolState, Queued, Some, Waiting, [], account_kept, all_mapped, ap}
+use Rattle.node_ends.proofs.Words.{apart_by_owner, arith, chain_bytes, chain_in, chain_of, chains_in, drop, length, length-map, lies_apart_by_owner}
+use Rattle.node_ends.proofs.Words.{messages_waiting, refl, subst, sym, turn, without_got, ℕ, ◌+◌, ◌∙◌, ◌∷◌, ◌≡◌, ◌≢◌, ◌≤◌}
+use Rattle.block_pool.specs.Pool.{IsApart}
 use Rattle.block_pool.specs.Holdings.{LiesApart}
-use Rattle.block_pool.proofs.HoldingLemmas.{apart_by_owner, all_mapped, lies_apart_by_owner}
-use Rattle.hcp_chain.specs.declared.joiner.Open.{Open}
 use Rattle.hcp_chain.specs.Holding.{IsOwnOpen, IsApartFrom}
-use Rattle.link_laws.specs.machine.Machine.{LinkEnd as Machine, Message, ActDue as Due, turn}
-use Rattle.link_laws.specs.machine.Machine.Turn.{FetchMessage}
+use Rattle.link_laws.specs.machine.Machine.{ActDue as Due}
 use Rattle.shdlc_core.specs.declared.answers.Due.{Due as ShdlcDue}
-use Rattle.std.proofs.lemmas.List.{length-map}
-use Rattle.link_messages.specs.declared.outbox.Queued.{Queued}
-use Rattle.link_messages.specs.Outgoing.{chain_in}
-use Rattle.link_messages.specs.Incoming.{chains_in}
-use Rattle.link_end.specs.declared.«end».End.{End}
-use Rattle.link_end.specs.Ends.{EndStandsFor, EndLeavesOthers, Accounts, controls_in, due_of}
-use Rattle.link_end.proofs.AccountLemmas.{kept_beside_call, account_kept, given_beside, given_own}
-use Rattle.node_ends.specs.declared.seat.Waiting.{Waiting}
-use Rattle.node_ends.specs.Holding.{messages_waiting, chain_of, without_got, HoldsEnd, Moves}
+use Rattle.link_end.specs.Ends.{controls_in, due_of}
+use Rattle.link_end.proofs.AccountLemmas.{given_beside, given_own, kept_beside_call}
 
 -- a message that waits has its bytes still
 pub waits_on : (old new : PoolState) (k : End) (waiting : Option Waiting) → Accounts k old (chain_of waiting)

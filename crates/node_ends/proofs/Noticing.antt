@@ -1,16 +1,12 @@
 -- What is kept of an end beside it, as a step changes it.
-use Rattle.std.proofs.Common.{◌≡◌, ℕ, ◌<◌, ◌||◌, Bool, true, false, refl, ap, ◌∙◌, arith}
-use Rattle.std.specs.Prelude.{Option, Some, None, option_map, List, IfSome, ◌&&◌, not, nat_le, if◌then◌else◌}
-use Rattle.link_laws.specs.machine.Machine.{after_input}
-use Rattle.link_laws.specs.machine.Machine.LinkInput.{Reset}
-use Rattle.std.specs.Option.{option_map_or}
+use Rattle.std.specs.Prelude.{nat_le}
+use Rattle.node_ends.proofs.Words.{Bool, Desk, DeskOf, IfSome, IsYoung, List, None, Option, Port, Reset, Some, Unanswered, after_input, ap, arith, asker_at}
+use Rattle.node_ends.proofs.Words.{creation_of_row, desk_shown, false, forgets, forgotten_at, if◌then◌else◌, is_late, is_over_at, not, notice_shown, option_map}
+use Rattle.node_ends.proofs.Words.{option_map_or, refl, reset_late, row_noticed, true, without_notice, ℕ, ◌&&◌, ◌<◌, ◌||◌, ◌∙◌, ◌≡◌}
 use Rattle.node_machine.specs.Controller.{creation_in}
-use Rattle.node_machine.specs.Parts.{Creation, Port, Notice, Desk as DeskOf}
-use Rattle.node_machine.specs.Node.{without_notice, is_late, reset_late, is_over_at, forgets}
-use Rattle.node_deeds.specs.declared.desks.Desk.{Desk}
-use Rattle.node_deeds.specs.declared.desks.Unanswered.{Unanswered}
-use Rattle.node_deeds.specs.Shown.{awaited_row, creation_of_row, desk_shown, notice_shown, row_noticed}
-use Rattle.node_ends.specs.Desks.{asker_at, forgotten_at, IsYoung, has_hundred_ticks}
+use Rattle.node_machine.specs.Parts.{Creation, Notice}
+use Rattle.node_deeds.specs.Shown.{awaited_row}
+use Rattle.node_ends.specs.Desks.{has_hundred_ticks}
 
 young : (o : Option Unanswered) → option_map_or (λ (n : Notice). n.age) (option_map notice_shown o) 0 < 255 → IfSome o (λ (n : Unanswered). n.age < 255)
 young o low = grind arith

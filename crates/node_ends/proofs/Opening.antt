@@ -1,10 +1,6 @@
 -- What the ends of a node show is what is kept of them.
-use Rattle.std.proofs.Common.{◌≡◌, ◌++◌, ℕ, List, length, take, drop, sym, ap, ◌∙◌, subst}
-use Rattle.std.proofs.Math.Seq.{take-append_seam}
-use Rattle.block_pool.specs.Pool.{PoolState}
-use Rattle.node_machine.specs.Parts.{Port}
-use Rattle.node_ends.specs.declared.seat.Seat.{Seat}
-use Rattle.node_ends.specs.Ends.{KeptEnds, AreEnds, EndsStandFor}
+use Rattle.node_ends.proofs.Words.{AreEnds, EndsStandFor, KeptEnds, List, PoolState, Port, Seat, ap, drop, length, subst, sym, take, take-append_seam, ℕ, ◌++◌}
+use Rattle.node_ends.proofs.Words.{◌∙◌, ◌≡◌}
 
 pub opened : {kept shown : KeptEnds} {ports : List Port} → kept ≡ shown → EndsStandFor shown ports → EndsStandFor kept ports
 opened {ports = ports} is e = let P : KeptEnds → Type 0 = λ k. EndsStandFor k ports in subst P (sym is) e

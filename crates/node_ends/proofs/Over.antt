@@ -1,15 +1,6 @@
 -- Whether the session of the end with a host has ended in a step.
-use Rattle.std.proofs.Common.{◌≡◌, ◌≢◌, ℕ, Bool, true, false, List, [], ◌∷◌, refl, ap, ◌∙◌, subst, arith}
-use Rattle.std.specs.Prelude.{◌==◌, ◌||◌}
-use Rattle.std.specs.List.{AllByRecursion}
-use Rattle.std.specs.Option.{option_map_or}
-use Rattle.std.proofs.lemmas.Bool.{eqb-true}
-use Rattle.block_pool.specs.Pool.{PoolState}
-use Rattle.node_machine.specs.Parts.{Port}
-use Rattle.node_machine.specs.Carrying.{port_at}
-use Rattle.node_machine.specs.Node.{is_over, is_over_at}
-use Rattle.node_ends.specs.declared.seat.Seat.{Seat}
-use Rattle.node_ends.specs.Ends.{SeatsStandFor, HaveOwnHosts, AreEnds}
+use Rattle.node_ends.proofs.Words.{AllByRecursion, AreEnds, Bool, HaveOwnHosts, List, PoolState, Port, Seat, SeatsStandFor, [], ap, arith, eqb-true, false}
+use Rattle.node_ends.proofs.Words.{is_over, is_over_at, option_map_or, port_at, refl, subst, true, ℕ, ◌==◌, ◌||◌, ◌∙◌, ◌∷◌, ◌≡◌, ◌≢◌}
 use Rattle.node_ends.proofs.Changing.{host_is}
 
 none_over : (pool : PoolState) (h : ℕ) (seats : List Seat) (ports : List Port) → AllByRecursion (λ (t : Seat). t.desk.host ≢ h) seats

@@ -1,19 +1,8 @@
 -- Two ends of a node are changed by one call, or one end by two things that happen to it.
-use Rattle.std.proofs.Common.{◌≡◌, ◌≢◌, ℕ, zero, suc, ◌+◌, ◌*◌, ◌==◌, Bool, true, false, List, [], ◌∷◌, length, map, refl, sym, ap, ◌∙◌, subst, arith}
-use Rattle.std.proofs.Common.{length-set}
-use Rattle.std.specs.Prelude.{Option, Some, None, slice_get, slice_set}
-use Rattle.std.specs.List.{AllByRecursion}
-use Rattle.std.proofs.lemmas.Bool.{eqb-true, eq-eqb, true≢false}
-use Rattle.block_pool.specs.Pool.{PoolState}
-use Rattle.link_end.specs.declared.«end».End.{End}
-use Rattle.link_end.specs.Ends.{HaveOwners}
-use Rattle.link_laws.specs.machine.Machine.{LinkEnd as Machine}
-use Rattle.node_machine.specs.Parts.{Port}
-use Rattle.node_machine.specs.Carrying.{port_at, changed_if, with_port}
-use Rattle.node_ends.specs.declared.seat.Seat.{Seat}
-use Rattle.node_ends.specs.declared.seat.Waiting.{Waiting}
-use Rattle.node_ends.specs.Holding.{HoldsEnd}
-use Rattle.node_ends.specs.Ends.{SeatStandsFor, SeatsStandFor, HaveOwnersFrom, HaveOwnHosts, AreEnds}
+use Rattle.node_ends.proofs.Words.{AllByRecursion, AreEnds, Bool, End, HaveOwnHosts, HaveOwners, HaveOwnersFrom, HoldsEnd, List, Machine, None, Option}
+use Rattle.node_ends.proofs.Words.{PoolState, Port, Seat, SeatStandsFor, SeatsStandFor, Some, Waiting, [], ap, arith, changed_if, eq-eqb, eqb-true, false}
+use Rattle.node_ends.proofs.Words.{length, length-set, map, port_at, refl, slice_get, slice_set, subst, suc, sym, true, true≢false, with_port, zero, ℕ, ◌*◌}
+use Rattle.node_ends.proofs.Words.{◌+◌, ◌==◌, ◌∙◌, ◌∷◌, ◌≡◌, ◌≢◌}
 use Rattle.node_ends.proofs.Changing.{host_is, apart_places, owners_at, all_at, differs}
 
 -- ## Places

@@ -1,8 +1,6 @@
 -- The place of the end of the link with a host is the first one whose host it is.
-use Rattle.std.proofs.Common.{◌≡◌, ℕ, suc, ◌+◌, ◌==◌, Bool, cond, List, [], ◌∷◌, refl, arith}
-use Rattle.std.specs.Prelude.{Some, None, option_map, nat_lt, position}
-use Rattle.node_ends.specs.declared.seat.Seat.{Seat}
-use Rattle.node_ends.specs.Ends.{place_in}
+use Rattle.std.specs.Prelude.{position}
+use Rattle.node_ends.proofs.Words.{Bool, List, None, Seat, Some, [], arith, cond, nat_lt, option_map, place_in, refl, suc, ℕ, ◌+◌, ◌==◌, ◌∷◌, ◌≡◌}
 use Prim.Native.Nat.compare
 
 one_more : (n : ℕ) → suc n ≡ 1 + n

@@ -1,14 +1,8 @@
 -- An end that isn't ready accepts nothing, so that no message comes to it.
-use Rattle.std.proofs.Common.{◌≡◌, ◌⊎◌, inl, inr, ℕ, Bool, true, false, List, [], length, drop, refl, ap, ◌∙◌, arith}
-use Rattle.std.proofs.lemmas.List.{drop_all}
-use Rattle.std.specs.Prelude.{if◌then◌else◌, Result, Ok, Err}
-use Rattle.swp_base.specs.declared.control_frames.Control.{Control}
-use Rattle.swp_base.specs.declared.control_frames.Control.TheVariants.{I, S, Rset, Ua, Act as ActFrame, Clt}
-use Rattle.swp_lpdu.specs.Controls.{control_of}
-use Rattle.swp_lpdu.specs.declared.LpduFault.{LpduFault}
-use Rattle.shdlc_core.specs.declared.answers.LinkState.{LinkState}
-use Rattle.shdlc_core.specs.Machine.{EndState, Fragment, taken}
-use Rattle.link_laws.specs.machine.Machine.{LinkEnd as Machine, Message, brought, news, messages_got, is_open, is_faulty, got_by, lpdu_input}
+use Rattle.node_ends.proofs.Words.{ActFrame, Bool, Clt, Control, EndState, Err, Fragment, I, LinkState, List, LpduFault, Machine, Message, Ok, Result, Rset, S}
+use Rattle.node_ends.proofs.Words.{Ua, [], ap, arith, brought, control_of, drop, drop_all, false, got_by, if◌then◌else◌, inl, inr, is_faulty, is_open, length}
+use Rattle.node_ends.proofs.Words.{lpdu_input, news, refl, taken, true, ℕ, ◌∙◌, ◌≡◌, ◌⊎◌}
+use Rattle.link_laws.specs.machine.Machine.{messages_got}
 
 -- what an end has accepted after a frame: the same, or nothing, in a new session
 abbrev AcceptsNone : EndState → EndState → Type 0

@@ -1,21 +1,9 @@
 -- A message that is read.
-use Rattle.std.proofs.Common.{◌≡◌, ◌==◌, ◌||◌, ◌&&◌, not, ◌∙◌, ℕ, ◌-◌, min, List, [], ◌∷◌, ◌++◌, take, drop, zero, suc, length, ◌<◌, ◌≤◌, refl, ap, ap₂, arith}
-use Rattle.std.proofs.lemmas.Grind.{common_steps}
-use Rattle.std.specs.List.{list_any}
-use Rattle.std.specs.Option.{option_map_or}
-use Rattle.std.specs.Prelude.{Bool, false, Option, Some, None, is_some, option_map, slice_get, slice_index_or}
-use Rattle.link_laws.specs.machine.Machine.{LinkEnd as Machine, is_held}
-use Rattle.link_end.specs.declared.«end».End.{End}
-use Rattle.block_pool.specs.Pool.{PoolState, chain_bytes}
-use Rattle.node_machine.specs.Parts.{Port, Desk as DeskOf}
-use Rattle.node_machine.specs.Node.{is_over}
-use Rattle.node_ends.specs.declared.seat.Seat.{Seat}
-use Rattle.node_deeds.specs.declared.desks.Unanswered.{Unanswered}
-use Rattle.node_deeds.specs.Shown.{desk_shown, notice_shown}
+use Rattle.node_ends.proofs.Words.{Bool, DeskOf, End, HoldsEnd, HoldsSeat, List, Machine, None, Option, PoolState, Port, Seat, SeatStandsFor, SeatsStandFor}
+use Rattle.node_ends.proofs.Words.{Some, Unanswered, Waiting, [], ap, ap₂, arith, chain_bytes, common_steps, desk_shown, drop, false, is_held, is_idle, is_over}
+use Rattle.node_ends.proofs.Words.{is_some, length, list_any, min, not, notice_shown, option_map, option_map_or, refl, rests, slice_get, slice_index_or, suc}
+use Rattle.node_ends.proofs.Words.{take, zero, ℕ, ◌&&◌, ◌++◌, ◌-◌, ◌<◌, ◌==◌, ◌||◌, ◌∙◌, ◌∷◌, ◌≡◌, ◌≤◌}
 use Rattle.node_ends.specs.Desks.{have_notices}
-use Rattle.node_ends.specs.declared.seat.Waiting.{Waiting}
-use Rattle.node_ends.specs.Holding.{HoldsEnd, HoldsSeat}
-use Rattle.node_ends.specs.Ends.{SeatStandsFor, SeatsStandFor, rests, is_idle}
 
 -- the one that waits, whose bytes were copied into a buffer
 pub waits_read : {pool : PoolState} {k : End} {o : Option Waiting} {m : Machine} (w : Waiting) (len : ℕ) (old new : List ℕ) → o ≡ Some w

@@ -1,26 +1,13 @@
 -- The message that waits at one place is passed on to the end at another one, or at the same.
-use Rattle.std.proofs.Common.{◌≡◌, ◌≢◌, ℕ, ◌==◌, Bool, true, false, List, [], ◌∷◌, ◌⊎◌, inl, inr, refl, sym, ap, ◌∙◌, subst, arith}
-use Rattle.std.specs.Prelude.{Option, Some, None, is_none, Result, Ok, Err, slice_get, slice_set, slice_index_or}
-use Rattle.std.proofs.lemmas.Bool.{eqb-true}
-use Rattle.std.proofs.lemmas.List.{get_or-set_same, get_or-set_other, set-set}
-use Rattle.std.proofs.lemmas.Option.{slice_get_within}
-use Rattle.block_pool.specs.declared.chain.Chain.{Chain}
-use Rattle.block_pool.specs.Pool.{PoolState, chain_bytes}
-use Rattle.hcp_packet.specs.Packets.{IsSendable, AreSendable}
-use Rattle.link_laws.specs.machine.Machine.{LinkEnd as Machine, Message, Refused, turn, give_refusal}
-use Rattle.link_laws.specs.machine.Machine.Turn.{Give, FetchMessage}
-use Rattle.link_laws.specs.machine.Machine.LinkInput.{FromNode}
-use Rattle.link_end.specs.declared.«end».End.{End}
-use Rattle.link_end.specs.declared.report.SendRefused.{SendRefused}
+use Rattle.std.proofs.lemmas.List.{set-set}
+use Rattle.node_ends.proofs.Words.{AreEnds, AreSendable, Bool, Chain, End, Err, FetchMessage, FromNode, Give, HaveOwners, HoldsEnd, IsSendable, List, Machine}
+use Rattle.node_ends.proofs.Words.{MayPass, Message, None, Ok, Option, PoolState, Port, Refused, Result, Seat, SendRefused, Some, Waiting, [], after_turn, ap}
+use Rattle.node_ends.proofs.Words.{arith, chain_bytes, eqb-true, false, get_or-set_other, get_or-set_same, give_refusal, inl, inr, is_none, kept_number}
+use Rattle.node_ends.proofs.Words.{messages_waiting, place_in, port_at, refl, slice_get, slice_get_within, slice_index_or, slice_set, subst, sym, takes_at}
+use Rattle.node_ends.proofs.Words.{true, turn, with_port, ℕ, ◌==◌, ◌∙◌, ◌∷◌, ◌≡◌, ◌≢◌, ◌⊎◌}
 use Rattle.link_end.specs.Reports.{pass_by, pass_told}
-use Rattle.link_end.specs.Ends.{HaveOwners, MayPass}
 use Rattle.link_end.proofs.AccountLemmas.{may_pass_on, may_send_back}
-use Rattle.node_machine.specs.Parts.{Port}
-use Rattle.node_machine.specs.Carrying.{port_at, with_port, after_turn}
-use Rattle.node_ends.specs.declared.seat.Waiting.{Waiting}
-use Rattle.node_ends.specs.declared.seat.Seat.{Seat}
-use Rattle.node_ends.specs.Holding.{HoldsEnd, messages_waiting, kept_number}
-use Rattle.node_ends.specs.Ends.{AreEnds, got_at, takes_at, place_in}
+use Rattle.node_ends.specs.Ends.{got_at}
 use Rattle.node_ends.proofs.Changing.{IsPlaced, placed_in, read_at, apart_places, OneChanges, one_changes}
 use Rattle.node_ends.proofs.Counting.{reached_on, turn_acked}
 use Rattle.node_ends.proofs.Blocks.{give_aside}

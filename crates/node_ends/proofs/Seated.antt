@@ -1,11 +1,8 @@
 -- The end at a place is changed, or those at all places, one after another.
-use Rattle.std.proofs.Common.{◌≡◌, ◌≢◌, ℕ, zero, suc, ◌+◌, ◌*◌, ◌<◌, ◌≤◌, List, [], ◌∷◌, ◌++◌, length, map, take, drop, refl, sym, ap, ◌∙◌, subst}
-use Rattle.std.proofs.Common.{arith, length-set}
-use Rattle.std.specs.Prelude.{Some, None, slice_get, slice_set, slice_index_or}
-use Rattle.block_pool.specs.Pool.{PoolState}
-use Rattle.node_machine.specs.Parts.{Port}
-use Rattle.node_ends.specs.declared.seat.Seat.{Seat}
-use Rattle.node_ends.specs.Ends.{SeatStandsFor, SeatBecomes, SeatsStandFor, HaveOwnersFrom, AreEnds, KeptEnds, EndsStandFor, at_place}
+use Rattle.node_ends.proofs.Words.{AreEnds, EndsStandFor, HaveOwnersFrom, KeptEnds, List, None, PoolState, Port, Seat, SeatBecomes, SeatStandsFor}
+use Rattle.node_ends.proofs.Words.{SeatsStandFor, Some, [], ap, arith, drop, length, length-set, map, refl, slice_get, slice_index_or, slice_set, subst, suc}
+use Rattle.node_ends.proofs.Words.{sym, take, zero, ℕ, ◌*◌, ◌++◌, ◌+◌, ◌<◌, ◌∙◌, ◌∷◌, ◌≡◌, ◌≢◌, ◌≤◌}
+use Rattle.node_ends.specs.Ends.{at_place}
 use Rattle.node_ends.proofs.Opening.{opened, kept_so}
 use Rattle.node_ends.proofs.Changing.{OneChanges, apart_places, owners_at, owners_stay, hosts_stay, read_at}
 

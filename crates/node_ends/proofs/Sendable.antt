@@ -1,19 +1,13 @@
 -- The messages that came to an end may be sent: they aren't empty, and they came on pipes that aren't reserved.
-use Rattle.std.proofs.Common.{◌≡◌, ℕ, suc, zero, ◌<◌, Bool, true, cond, List, [], ◌∷◌, ◌++◌, drop, refl, sym, subst, arith}
-use Rattle.std.specs.Prelude.{Option, nat_lt, ◌%◌}
-use Rattle.std.specs.List.{AllByRecursion}
+use Rattle.node_ends.proofs.Words.{ActEvent, ActFrame, ActStart, ActStop, ActTake, AllByRecursion, AreSendable, Bool, Clt, Control, EndState, Fetch, FromNode}
+use Rattle.node_ends.proofs.Words.{I, IsReached, IsSendable, LinkInput, List, Machine, Message, Option, Reset, Role, Rset, S, Start, Stop, Take, TakeBroken}
+use Rattle.node_ends.proofs.Words.{TakeUnknown, Tick, Turn, Ua, [], activated, after_input, after_inputs, arith, cond, drop, frame_fetched, heard, is_faulty}
+use Rattle.node_ends.proofs.Words.{is_open, moved, nat_lt, new_link_end, news, put_down, refl, stopped, subst, suc, sym, taken, took, true, turn, zero, ℕ, ◌%◌}
+use Rattle.node_ends.proofs.Words.{◌++◌, ◌<◌, ◌∷◌, ◌≡◌}
 use Rattle.hcp_packet.specs.declared.Packet.{Packet}
-use Rattle.hcp_packet.specs.Packets.{IsSendable, AreSendable, packets_in, is_good, good_of}
+use Rattle.hcp_packet.specs.Packets.{good_of, is_good, packets_in}
 use Rattle.hcp_chain.specs.Joining.{join_step, message_in, given_by}
-use Rattle.shdlc_core.specs.Machine.{EndState, Session, taken, stopped}
-use Rattle.swp_base.specs.declared.control_frames.Control.{Control}
-use Rattle.swp_base.specs.declared.control_frames.Control.TheVariants.{I, S, Rset, Ua, Act as ActFrame, Clt}
-use Rattle.swp_act.specs.declared.ActEvent.{ActEvent}
-use Rattle.swp_act.specs.declared.ActEvent.TheVariants.{Start as ActStart, Take as ActTake, Stop as ActStop}
-use Rattle.link_laws.specs.machine.Machine.{LinkEnd as Machine, LinkInput, Message, Turn, is_open, is_faulty, moved, put_down, activated, heard, took}
-use Rattle.link_laws.specs.machine.Machine.{after_input, after_inputs, news, new_link_end, Role, turn, frame_fetched}
-use Rattle.link_laws.specs.machine.Machine.LinkInput.{Take, TakeUnknown, TakeBroken, Tick, Reset, Start, Stop, FromNode, Fetch}
-use Rattle.node_ends.specs.Holding.{IsReached}
+use Rattle.shdlc_core.specs.Machine.{Session}
 
 -- ## Messages of packets
 

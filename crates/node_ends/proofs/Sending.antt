@@ -1,14 +1,7 @@
 -- The next frame of an end is fetched.
-use Rattle.std.proofs.Common.{◌≡◌, [], refl, sym, ap, ◌∙◌, subst, arith}
-use Rattle.shdlc_core.specs.Machine.{EndState, fetched}
-use Rattle.block_pool.specs.Pool.{PoolState}
-use Rattle.link_laws.specs.machine.Machine.{LinkEnd as Machine, after_input, next_frame, frame_fetched, whole_acked}
-use Rattle.link_laws.specs.machine.Machine.LinkInput.{Fetch}
-use Rattle.link_end.specs.declared.«end».End.{End}
-use Rattle.link_end.specs.Ends.{EndStandsFor}
-use Rattle.node_ends.specs.declared.seat.Seat.{Seat}
-use Rattle.node_ends.specs.Holding.{without_got, kept_number}
-use Rattle.node_ends.specs.Ends.{SeatBecomes, has_sent}
+use Rattle.node_ends.proofs.Words.{End, EndStandsFor, EndState, Fetch, Machine, PoolState, Seat, SeatBecomes, [], after_input, ap, arith, frame_fetched}
+use Rattle.node_ends.proofs.Words.{has_sent, kept_number, next_frame, refl, subst, sym, whole_acked, without_got, ◌∙◌, ◌≡◌}
+use Rattle.shdlc_core.specs.Machine.{fetched}
 use Rattle.node_ends.proofs.Blocks.{fetched_aside}
 use Rattle.node_ends.proofs.Counting.{reached_on}
 use Rattle.node_ends.proofs.Moving.{boxes_hold, stays_beside}

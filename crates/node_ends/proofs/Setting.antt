@@ -1,26 +1,15 @@
 -- A block is set aside for an end, or released.
-use Rattle.std.proofs.Common.{◌≡◌, ◌≢◌, ℕ, ◌+◌, ◌-◌, ◌≤◌, ◌<◌, Bool, true, List, length, refl, sym, ap, ◌∙◌, subst, arith, length-set}
-use Rattle.std.proofs.lemmas.List.{get_or-set_same, get_or-set_other}
-use Rattle.std.specs.Prelude.{Option, nat_lt}
 use Rattle.std.proofs.lemmas.Bool.{lt-ltb}
-use Rattle.block_pool.specs.declared.chain.Chain.{Chain}
+use Rattle.node_ends.proofs.Words.{Bool, Chain, End, EndLeavesOthers, EndStandsFor, HoldsEnd, IsLive, List, Machine, Moves, Open, Option, PoolState, Queued}
+use Rattle.node_ends.proofs.Words.{Release, SetAside, Waiting, all_mapped, ap, arith, aside_of, chain_bytes, chains_in, get_or-set_other, get_or-set_same}
+use Rattle.node_ends.proofs.Words.{length, length-set, nat_lt, refl, spare, spare_is, spare_of, subst, sym, true, turn, used_of, without_got, ℕ, ◌+◌, ◌-◌, ◌<◌}
+use Rattle.node_ends.proofs.Words.{◌∙◌, ◌≡◌, ◌≢◌, ◌≤◌}
 use Rattle.block_pool.specs.declared.owners.Owner.{Owner}
 use Rattle.block_pool.specs.Slots.{Places, Held}
 use Rattle.block_pool.specs.Owners.{owner_at, with_aside}
-use Rattle.block_pool.specs.Pool.{PoolState, used_of, aside_of, spare_of, IsLive, chain_bytes}
 use Rattle.block_pool.specs.Holdings.{IsOwnChain}
-use Rattle.block_pool.proofs.HoldingLemmas.{all_mapped, counted_keeps}
-use Rattle.hcp_chain.specs.declared.joiner.Open.{Open}
+use Rattle.block_pool.proofs.HoldingLemmas.{counted_keeps}
 use Rattle.hcp_chain.specs.Holding.{IsOwnOpen, held_blocks}
-use Rattle.link_laws.specs.machine.Machine.{LinkEnd as Machine, turn, spare}
-use Rattle.link_laws.specs.machine.Machine.Turn.{SetAside, Release}
-use Rattle.link_messages.specs.declared.outbox.Queued.{Queued}
-use Rattle.link_messages.specs.Incoming.{chains_in}
-use Rattle.link_end.specs.declared.«end».End.{End}
-use Rattle.link_end.specs.Ends.{EndStandsFor, EndLeavesOthers}
-use Rattle.link_end.proofs.NodeLemmas.{spare_is}
-use Rattle.node_ends.specs.declared.seat.Waiting.{Waiting}
-use Rattle.node_ends.specs.Holding.{without_got, HoldsEnd, Moves}
 use Rattle.node_ends.proofs.Moving.{call_moves, call_holds}
 
 -- so many blocks of this owner are used and set aside now, and no chain has changed

@@ -1,15 +1,10 @@
 -- What a node does to an end has nothing to do with the messages that came there and wait.
-use Rattle.std.proofs.Common.{◌≡◌, ℕ, List, length, ap, ap₂, ◌∙◌, arith}
-use Rattle.std.specs.Prelude.{Result, IfErr, OnErr, slice_set, slice_index_or}
+use Rattle.std.specs.Prelude.{IfErr, OnErr}
 use Rattle.std.proofs.lemmas.List.{set-get_or}
-use Rattle.block_pool.specs.Pool.{PoolState}
-use Rattle.link_laws.specs.machine.Machine.{LinkEnd as Machine, Message, turn}
-use Rattle.link_laws.specs.machine.Machine.Turn.{Give, SetAside}
-use Rattle.link_end.specs.declared.report.SendRefused.{SendRefused}
+use Rattle.node_ends.proofs.Words.{Give, KeptEnds, List, Machine, Message, PoolState, Result, Seat, SendRefused, SetAside, ap, ap₂, arith, length}
+use Rattle.node_ends.proofs.Words.{slice_index_or, slice_set, turn, without_got, ℕ, ◌∙◌, ◌≡◌}
 use Rattle.link_end.specs.Reports.{give_told}
-use Rattle.node_ends.specs.declared.seat.Seat.{Seat}
-use Rattle.node_ends.specs.Holding.{without_got}
-use Rattle.node_ends.specs.Ends.{KeptEnds, TellsLengthOf}
+use Rattle.node_ends.specs.Ends.{TellsLengthOf}
 
 pub give_without : (m : Machine) (x : Message) → turn (without_got m) (Give x) ≡ without_got (turn m (Give x))
 give_without m x = grind arith

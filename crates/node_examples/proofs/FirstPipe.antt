@@ -1,6 +1,5 @@
 -- A link becomes active, and its host opens pipe 01 and reads a parameter; so it is refused before the pipe is open.
-use Rattle.std.proofs.Common.{◌≡◌, refl, [], ◌∷◌, ◌++◌}
-use Rattle.node_examples.specs.Openings.{host_activates, host_activates_told, pipe_opens, pipe_opens_told}
+use Rattle.node_examples.proofs.Words.{[], host_activates, host_activates_told, pipe_opens, pipe_opens_told, refl, ◌++◌, ◌∷◌, ◌≡◌}
 use Rattle.node_examples.specs.Told.{told_text, text, found_from, hosts_where, lowest_free, encode_with, decode_pairs, digits}
 
 activation_and_first_pipe : told_text (

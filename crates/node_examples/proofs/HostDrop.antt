@@ -1,7 +1,6 @@
 -- A message that is held at a host is dropped as its link is reset.
-use Rattle.std.proofs.Common.{◌≡◌, refl, [], ◌∷◌, ◌++◌}
-use Rattle.std.specs.Prelude.{replicate}
-use Rattle.node_examples.specs.Openings.{host_begins, host_begins_told, host_allows, host_allows_told, pipe_is_made, pipe_is_made_told}
+use Rattle.node_examples.proofs.Words.{[], host_allows, host_allows_told, host_begins, host_begins_told, pipe_is_made, pipe_is_made_told, refl, replicate, ◌++◌}
+use Rattle.node_examples.proofs.Words.{◌∷◌, ◌≡◌}
 use Rattle.node_examples.specs.Told.{told_text, text, found_from, hosts_where, lowest_free, encode_with, decode_pairs, digits}
 
 host_drop : told_text (

@@ -1,6 +1,5 @@
 -- Inits with the identity that is the default, with a pipe that is refused, and with eight pipes.
-use Rattle.std.proofs.Common.{◌≡◌, refl, [], ◌∷◌, ◌++◌}
-use Rattle.node_examples.specs.Openings.{host_begins, host_begins_told}
+use Rattle.node_examples.proofs.Words.{[], host_begins, host_begins_told, refl, ◌++◌, ◌∷◌, ◌≡◌}
 use Rattle.node_examples.specs.Told.{told_text, text, found_from, hosts_where, lowest_free, encode_with, decode_pairs, digits}
 
 init_default : told_text (

@@ -1,3 +1,4 @@
+mod Words
 mod Links
 mod Relays
 mod OrderAgain

@@ -1,6 +1,5 @@
 -- The order of the tests of a creation, of reading and of closing; pipes to the loopback gate and to the identity gate.
-use Rattle.std.proofs.Common.{◌≡◌, refl, [], ◌∷◌, ◌++◌}
-use Rattle.node_examples.specs.Openings.{host_begins, host_begins_told, host_allows, host_allows_told}
+use Rattle.node_examples.proofs.Words.{[], host_allows, host_allows_told, host_begins, host_begins_told, refl, ◌++◌, ◌∷◌, ◌≡◌}
 use Rattle.node_examples.specs.Told.{told_text, text, found_from, hosts_where, lowest_free, encode_with, decode_pairs, digits}
 
 order_again : told_text (

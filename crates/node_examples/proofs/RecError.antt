@@ -1,6 +1,5 @@
 -- REC_ERROR counts what is refused, stops at FFFF, and is read and set.
-use Rattle.std.proofs.Common.{◌≡◌, refl, [], ◌∷◌, ◌++◌}
-use Rattle.node_examples.specs.Openings.{host_begins, host_begins_told}
+use Rattle.node_examples.proofs.Words.{[], host_begins, host_begins_told, refl, ◌++◌, ◌∷◌, ◌≡◌}
 use Rattle.node_examples.specs.Told.{told_text, text, found_from, hosts_where, lowest_free, encode_with, decode_pairs, digits, bits_of_byte}
 
 rec_error : told_text (

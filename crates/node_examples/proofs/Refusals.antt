@@ -1,6 +1,5 @@
 -- Refusals in their order.
-use Rattle.std.proofs.Common.{◌≡◌, refl, [], ◌∷◌, ◌++◌}
-use Rattle.std.specs.Prelude.{replicate}
+use Rattle.node_examples.proofs.Words.{[], refl, replicate, ◌++◌, ◌∷◌, ◌≡◌}
 use Rattle.node_examples.specs.Told.{told_text, text, found_from, hosts_where, lowest_free, encode_with, decode_pairs, digits, bits_of_byte}
 
 refusals : told_text (

@@ -1,6 +1,5 @@
 -- Two hosts with a pipe between them: what is relayed, what is answered, and what is dropped, also where the link of either is down.
-use Rattle.std.proofs.Common.{◌≡◌, refl, [], ◌∷◌, ◌++◌}
-use Rattle.node_examples.specs.Openings.{host_begins, host_begins_told, host_allows, host_allows_told, pipe_is_made, pipe_is_made_told}
+use Rattle.node_examples.proofs.Words.{[], host_allows, host_allows_told, host_begins, host_begins_told, pipe_is_made, pipe_is_made_told, refl, ◌++◌, ◌∷◌, ◌≡◌}
 use Rattle.node_examples.specs.Told.{told_text, text, found_from, hosts_where, lowest_free, encode_with, decode_pairs, digits}
 
 relays : told_text (

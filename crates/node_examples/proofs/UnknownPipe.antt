@@ -1,7 +1,5 @@
 -- A host is told of the deletion of a pipe that it does not know; gates that it takes; a command that waits, and is too long.
-use Rattle.std.proofs.Common.{◌≡◌, refl, [], ◌∷◌, ◌++◌}
-use Rattle.std.specs.Prelude.{replicate}
-use Rattle.node_examples.specs.Openings.{host_begins, host_begins_told, host_allows, host_allows_told}
+use Rattle.node_examples.proofs.Words.{[], host_allows, host_allows_told, host_begins, host_begins_told, refl, replicate, ◌++◌, ◌∷◌, ◌≡◌}
 use Rattle.node_examples.specs.Told.{told_text, text, found_from, hosts_where, lowest_free, encode_with, decode_pairs, digits}
 
 unknown_pipe : told_text (

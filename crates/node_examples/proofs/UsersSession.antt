@@ -1,8 +1,6 @@
 -- A user's session over a cut: an init makes three pipes, the long message of a loopback pipe goes there and back, and the same init over again finds all.
+use Rattle.node_examples.proofs.Words.{List, [], host_activates, host_activates_again_told, host_activates_told, refl, replicate, ◌++◌, ◌∷◌, ◌≡◌}
 use Prim.Native.String.{String}
-use Rattle.std.specs.Prelude.{replicate}
-use Rattle.std.proofs.Common.{◌≡◌, refl, [], ◌∷◌, ◌++◌, List}
-use Rattle.node_examples.specs.Openings.{host_activates, host_activates_told, host_activates_again_told}
 use Rattle.node_examples.specs.Told.{told_text, text, found_from, hosts_where, lowest_free, encode_with, decode_pairs, digits}
 
 -- a line that begins so, with the message of 251 bytes; and with the frames of it, the first one, one in the midst, and the last one

@@ -1,32 +1,22 @@
 -- What comes to an end of a link of a world: the first frame on its way there is taken off its wire, or activation empties both.
-use Rattle.std.proofs.Common.{◌≡◌, ℕ, Bool, true, false, List, [], ◌∷◌, ◌++◌, drop, map, max, refl, ap, ap₂, sym, ◌∙◌, append-nil, arith}
-use Rattle.std.specs.Prelude.{Option, Some, None, Result, Ok, option_map, option_to_list}
-use Rattle.circular_buffer.specs.Buffer.{Buffer}
-use Rattle.swp_base.specs.declared.control_frames.Control.{Control}
+use Rattle.std.proofs.Common.{max}
+use Rattle.std.specs.Prelude.{Result}
+use Rattle.node_sites.proofs.Words.{Bool, Buffer, Control, End, Entry, Flying, IsTakenOff, Link, List, NextFrame, None, Ok, OnWire, Option, Some, WireEnd}
+use Rattle.node_sites.proofs.Words.{WireEndIs, WireStandsFor, Wires, WiresStandFor, [], ap, append-nil, ap₂, arith, arrival, control_of, drop, entries_for}
+use Rattle.node_sites.proofs.Words.{exchanged, false, lpdu_of, map, option_map, option_to_list, refl, seen_from, side_of, sym, true, ℕ, ◌++◌, ◌∙◌, ◌∷◌, ◌≡◌}
 use Rattle.swp_lpdu.specs.declared.LpduFault.{LpduFault}
-use Rattle.swp_lpdu.specs.Controls.{lpdu_of, control_of}
-use Rattle.trace_model.specs.declared.entry.Entry.{Entry}
 use Rattle.trace_model.specs.declared.entry.Entry.TheVariants as note
-use Rattle.trace_model.specs.declared.line.End.{End}
-use Rattle.link_laws.specs.sessions.Sessions.{OnWire, is_rset, took_with}
-use Rattle.link_laws.specs.messages.Links.{Link, exchanged}
-use Rattle.link_laws.specs.messages.Links.Comes.{NextFrame}
-use Rattle.history.specs.Steps.{entries_for}
-use Rattle.history.specs.Follows.{seen_from}
-use Rattle.link_wires.specs.declared.wire.Flying.{Flying}
-use Rattle.link_wires.specs.Notes.{side_of}
-use Rattle.link_wires.specs.Wires.{WireStandsFor, IsMade, kept_of}
+use Rattle.link_laws.specs.sessions.Sessions.{is_rset, took_with}
+use Rattle.link_wires.specs.Wires.{IsMade, kept_of}
 use Rattle.link_wires.proofs.Notes.{end_is}
-use Rattle.link_wires.proofs.Wires.{IsTakenOff, first_is, there_is_one, there_is_none, taken_off}
-use Rattle.node_machine.specs.world.World.{input_of, arrival}
+use Rattle.link_wires.proofs.Wires.{first_is, taken_off, there_is_none, there_is_one}
+use Rattle.node_machine.specs.world.World.{input_of}
 use Rattle.node_ends.specs.Inputs.{frame_said}
 use Rattle.node_sites.specs.declared.incoming.Arrived.{Arrived}
 use Rattle.node_sites.specs.declared.incoming.Arrived.TheVariants as arrived
 use Rattle.node_sites.specs.declared.incoming.Incoming.TheVariants as coming
-use Rattle.node_sites.specs.declared.wires.WireEnd.{WireEnd}
-use Rattle.node_sites.specs.declared.wires.Wires.{Wires}
 use Rattle.node_sites.specs.Arrivals.{ComesToEnd}
-use Rattle.node_sites.specs.LinksKept.{WireEndIs, WiresStandFor, without_first, IsFirst, IsTakenFirst}
+use Rattle.node_sites.specs.LinksKept.{IsFirst, IsTakenFirst, without_first}
 
 -- ## One end
 

@@ -1,30 +1,19 @@
 -- The frames of a node's end go out one by one.
-use Rattle.std.proofs.Common.{◌≡◌, ℕ, zero, suc, ◌+◌, ◌-◌, ◌==◌, Bool, true, false, List, [], ◌∷◌, ◌++◌, take, drop, refl, ap, ap₂, sym, subst}
-use Rattle.std.proofs.Common.{◌∙◌, append_assoc, append-nil, arith}
-use Rattle.std.specs.Prelude.{Option, Some, None, Ok, IfSome, option_map}
-use Rattle.std.specs.List.{AllByRecursion}
-use Rattle.swp_base.specs.declared.control_frames.Control.{Control}
+use Rattle.std.proofs.Common.{take}
+use Rattle.std.specs.Prelude.{IfSome}
+use Rattle.node_sites.proofs.Words.{AllByRecursion, AreNoted, Bool, Control, End, Entry, Link, List, None, Noted, Ok, Option, Port, SendsOneByOne, Some, Wires}
+use Rattle.node_sites.proofs.Words.{WiresStandFor, [], ap, append-nil, append_assoc, ap₂, arith, changed_if, control_of, drop, entries_for, false, lpdu_of}
+use Rattle.node_sites.proofs.Words.{most_fetches, next_frame, option_map, port_at, put, put_all, puts_entries, refl, seen_from, sent_port, side_of, subst, suc}
+use Rattle.node_sites.proofs.Words.{sym, true, with_port, zero, ℕ, ◌++◌, ◌+◌, ◌-◌, ◌==◌, ◌∙◌, ◌∷◌, ◌≡◌}
 use Rattle.swp_base.specs.declared.control_frames.Control.TheVariants.{Act as ActFrame}
-use Rattle.swp_lpdu.specs.Controls.{lpdu_of, control_of}
-use Rattle.trace_model.specs.declared.entry.Entry.{Entry}
-use Rattle.trace_model.specs.declared.line.End.{End}
 use Rattle.shdlc_core.specs.Machine.{frame_due, fetched, all_frames}
 use Rattle.link_laws.proofs.places.Joined.{fetched_idle}
-use Rattle.link_laws.specs.machine.Machine.{LinkEnd, ActDue, among, next_frame, frame_fetched, frames_out, sent_all}
-use Rattle.link_laws.specs.machine.Laws.{fetches, after_fetches, most_fetches}
-use Rattle.link_laws.specs.messages.Links.{Link, put, put_all}
-use Rattle.link_laws.specs.entries.Entries.{Entry as Noted, put_entries, puts_entries}
-use Rattle.history.specs.Steps.{entries_for}
-use Rattle.history.specs.Follows.{seen_from}
-use Rattle.link_wires.specs.Notes.{side_of, AreNoted}
+use Rattle.link_laws.specs.machine.Machine.{ActDue, LinkEnd, among, frame_fetched, frames_out, sent_all}
+use Rattle.link_laws.specs.machine.Laws.{after_fetches, fetches}
+use Rattle.link_laws.specs.entries.Entries.{put_entries}
 use Rattle.link_wires.proofs.Notes.{more_noted}
-use Rattle.node_machine.specs.Parts.{Port}
-use Rattle.node_machine.specs.Carrying.{port_at, with_port, changed_if}
 use Rattle.node_ends.specs.Ends.{has_sent}
-use Rattle.node_sites.specs.declared.wires.Wires.{Wires}
-use Rattle.node_sites.specs.LinksKept.{WiresStandFor}
-use Rattle.node_core.specs.Running.{SendsOneByOne}
-use Rattle.node_sites.specs.FramesOut.{IsOnly, sent_port}
+use Rattle.node_sites.specs.FramesOut.{IsOnly}
 
 -- ## An end that has none
 

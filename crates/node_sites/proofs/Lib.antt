@@ -1,3 +1,4 @@
+mod Words
 pub mod Numbered
 pub mod Powers
 pub mod Links

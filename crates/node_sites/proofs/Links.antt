@@ -1,25 +1,15 @@
 -- What happens on the wires of a link.
-use Rattle.std.proofs.Common.{◌≡◌, ℕ, true, false, List, ◌++◌, drop, refl, ap, sym, ◌∙◌, append_assoc}
-use Rattle.circular_buffer.specs.Buffer.{Buffer}
-use Rattle.swp_base.specs.declared.control_frames.Control.{Control}
-use Rattle.trace_model.specs.declared.entry.Entry.{Entry}
-use Rattle.trace_model.specs.declared.line.End.{End}
-use Rattle.link_laws.specs.sessions.Sessions.{OnWire, aged_wire}
-use Rattle.link_laws.specs.messages.Links.{NumberedEnd, Link, Loss, aged, exchanged, happens, put}
+use Rattle.node_sites.proofs.Words.{AreNoted, Buffer, Control, Controller, End, Entry, Flying, Host, Link, List, Loss, NumberedEnd, OnWire, WireEnd, WireEndIs}
+use Rattle.node_sites.proofs.Words.{WireStandsFor, Wires, WiresStandFor, aged_entries, aged_wire, ap, append_assoc, drop, entries_for, exchanged, false, put}
+use Rattle.node_sites.proofs.Words.{refl, seen_from, side_of, sym, true, ℕ, ◌++◌, ◌∙◌, ◌≡◌}
+use Rattle.link_laws.specs.messages.Links.{aged, happens}
 use Rattle.link_laws.specs.messages.Links.EndEvent.{Lose}
-use Rattle.link_laws.specs.entries.Entries.{first_lost, aged_entries}
-use Rattle.link_laws.specs.entries.Entries.End.{Controller, Host}
-use Rattle.history.specs.Steps.{at, entries_for}
-use Rattle.history.specs.Follows.{seen_from, frames_to}
-use Rattle.link_wires.specs.declared.wire.Flying.{Flying}
-use Rattle.link_wires.specs.Notes.{side_of, AreNoted}
-use Rattle.link_wires.specs.Wires.{WireStandsFor}
+use Rattle.link_laws.specs.entries.Entries.{first_lost}
+use Rattle.history.specs.Steps.{at}
+use Rattle.history.specs.Follows.{frames_to}
 use Rattle.link_wires.specs.Putting.{GoesOutOf}
 use Rattle.link_wires.proofs.GoingOut.{Stays, put_stays}
 use Rattle.link_wires.proofs.Notes.{entries-append}
-use Rattle.node_sites.specs.declared.wires.WireEnd.{WireEnd}
-use Rattle.node_sites.specs.declared.wires.Wires.{Wires}
-use Rattle.node_sites.specs.LinksKept.{WireEndIs, WiresStandFor}
 
 with_wire : {k : WireEnd} {e : NumberedEnd} {frames more : List OnWire} {wire : Buffer Flying} → WireEndIs k e frames → WireStandsFor wire more
     → WireEndIs (record k { wire = wire }) e more

@@ -1,39 +1,27 @@
 -- What a node does in a step doesn't depend on what was noted before.
-use Rattle.std.proofs.Common.{◌≡◌, ℕ, Bool, true, false, List, [], ◌∷◌, map, length, refl, sym, ap, ◌∙◌, not, ◌++◌, subst, append-nil}
-use Rattle.std.specs.Prelude.{Option, Some, None, ◌==◌, ◌&&◌}
-use Rattle.std.specs.List.{flat_map}
-use Rattle.std.specs.Option.{option_map_or}
-use Rattle.journal_laws.specs.Planned.{fails_within, after_planned}
+use Rattle.std.specs.Prelude.{◌&&◌}
+use Rattle.node_sites.proofs.Words.{AtEnd, Bool, Deed, Entry, List, Memory, Message, Node, None, Option, Port, RunsAs, Some, Stored, TimePasses, Work, Write}
+use Rattle.node_sites.proofs.Words.{WritesAsPlanned, [], after_planned, ap, append-nil, as_told, beginning, by_test, fails_within, false, flat_map, length, map}
+use Rattle.node_sites.proofs.Words.{node_memory, not, option_map_or, port_at, refl, sending, subst, sym, true, ℕ, ◌++◌, ◌==◌, ◌∙◌, ◌∷◌, ◌≡◌}
 use Rattle.hci_tables.specs.declared.command.Command.{Command}
 use Rattle.hci_tables.specs.Bodies.{body_of}
 use Rattle.hci_store.specs.Committing.{commit_writes}
-use Rattle.link_laws.specs.machine.Machine.{Message, is_held}
-use Rattle.node_machine.specs.Parts.{Port, Work, Deed}
+use Rattle.link_laws.specs.machine.Machine.{is_held}
 use Rattle.node_machine.specs.Parts.Deed.{Commits, Sends, SaysOk, Asks, Releases, Tells, IsAnswered, Drops, SetsErrors, Orders, Hears, GoesOn, Ends}
-use Rattle.node_machine.specs.Carrying.{unless_cut, port_at, commit, done, all_done, lack, needs}
+use Rattle.node_machine.specs.Carrying.{all_done, commit, done, lack, needs, unless_cut}
 use Rattle.node_machine.specs.Turns.{deeds_of, handles, holds_back, lets_go, have_turns, goes_through_ends, passes}
 use Rattle.node_machine.specs.Node.{NodeInput, all_come, times_out, forgets, forgotten, all_owed, synced, answers_and_passes, steps}
-use Rattle.node_machine.specs.Node.NodeInput.{AtEnd, TimePasses}
 use Rattle.node_core.specs.Syncing.{left_over}
 use Rattle.node_core.proofs.Joining.{stays_cut, goes_on}
-use Rattle.swp_base.specs.InMemory.{Memory, WritesAsPlanned}
-use Rattle.journal_laws.specs.Writes.{Write}
-use Rattle.trace_model.specs.declared.entry.Entry.{Entry}
-use Rattle.node_core.specs.declared.node.Node.{Node}
 use Rattle.node_core.specs.Bringing.{Brings}
-use Rattle.node_core.specs.Running.{RunsAs, BeginsStep, HasStepped, ran_so}
+use Rattle.node_core.specs.Running.{BeginsStep, HasStepped, ran_so}
 use Rattle.node_core.proofs.Planned.{planned_step, planned_writes}
-use Rattle.hci_store.specs.Stored.{Stored}
 use Rattle.node_machine.specs.Controller.{is_command_message}
-use Rattle.node_machine.specs.world.World.{sending, beginning}
 use Rattle.node_core.specs.Giving.{IsAsked}
 use Rattle.node_core.proofs.Sendings.{given_order, given_other, given_both}
-use Rattle.node_sites.specs.Powers.{node_memory}
 use Rattle.node_sites.specs.WorldNodes.{BeginsOver, HasGone, IsNotedSo}
 use Rattle.node_sites.specs.declared.noted.Noted.{Noted}
-use Rattle.node_sites.specs.Numbers.{as_told}
 use Rattle.node_sites.proofs.Numbered.{as_watched, as_noted}
-use Rattle.link_laws.proofs.Cases.{by_test}
 
 -- a node in a step, without what was noted
 abbrev pub bare : Work → Work

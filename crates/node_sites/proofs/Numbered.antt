@@ -1,43 +1,36 @@
 -- What a node notes in a step has the numbers of the sessions of its ends.
-use Rattle.std.proofs.Common.{◌≡◌, ℕ, ◌==◌, ◌≤◌, Bool, true, false, List, [], ◌∷◌, ◌++◌, map, Option, Some, None, refl, ap, sym, subst, ◌∙◌, ap₂, arith}
-use Rattle.std.proofs.Common.{append-nil, eq-eqb}
-use Rattle.std.specs.Prelude.{nat_lt, option_to_list}
-use Rattle.std.specs.List.{AllByRecursion, flat_map}
-use Rattle.std.specs.Option.{option_map_or}
-use Rattle.std.proofs.lemmas.Bool.{true≢false, eqb-true}
+use Rattle.std.specs.Prelude.{nat_lt}
+use Rattle.std.proofs.lemmas.Bool.{eqb-true}
 use Rattle.std.proofs.lemmas.List.{map-append}
+use Rattle.node_sites.proofs.Words.{AllByRecursion, AtEnd, Bool, Controller, Core, Deed, Desk, Entry, Host, Link, List, Message, NextFrame, None, Noted}
+use Rattle.node_sites.proofs.Words.{NumberedEnd, OnWire, Option, Port, Running, Some, TimePasses, Work, [], ap, append-nil, ap₂, arith, arrival, as_told}
+use Rattle.node_sites.proofs.Words.{by_test, changed_if, entries_for, eq-eqb, false, flat_map, map, option_map_or, option_to_list, port_at, port_for, refl}
+use Rattle.node_sites.proofs.Words.{subst, sym, true, true≢false, with_port, ℕ, ◌++◌, ◌==◌, ◌∙◌, ◌∷◌, ◌≡◌, ◌≤◌}
 use Rattle.swp_base.specs.declared.link_terms.Cause.{Cause}
 use Rattle.registry.proofs.ValueLemmas.{AllByRecursion-append as all_append}
-use Rattle.trace_model.specs.declared.entry.Entry.{Entry}
 use Rattle.trace_model.specs.declared.entry.Entry.TheVariants as entry
-use Rattle.link_laws.specs.machine.Machine.{Message, Report, LinkInput, Turn, Refused, report, after_input, whole_acked, give_refusal}
+use Rattle.link_laws.specs.machine.Machine.{LinkInput, Refused, Report, Turn, after_input, give_refusal, report, whole_acked}
 use Rattle.link_laws.specs.machine.Machine.LinkInput.{Reset}
 use Rattle.link_laws.specs.machine.Machine.Turn.{Give}
-use Rattle.link_laws.specs.entries.Entries.{End as Side, Entry as Noted, told, if_so, sent_unless}
-use Rattle.link_laws.specs.entries.Entries.End.{Controller, Host}
+use Rattle.link_laws.specs.entries.Entries.{End as Side, if_so, sent_unless, told}
 use Rattle.link_laws.specs.entries.Entries.Entry.{Up, Down, Active, GaveUp, Acked, Got, Sent, Emit, Took, Lost, Tick, Restarted, Cut}
 use Rattle.link_laws.proofs.entries.Quieting.{same_number}
-use Rattle.history.specs.Steps.{end_of, entry_of, entries_for}
-use Rattle.node_machine.specs.Parts.{Desk, Core, Port, Work, Deed, Running}
-use Rattle.node_machine.specs.Carrying.{own_side, noting, port_at, changed_if, with_port, with_desk, after_turn, noted_of, turn_at}
+use Rattle.history.specs.Steps.{end_of, entry_of}
+use Rattle.node_machine.specs.Carrying.{after_turn, noted_of, noting, own_side, turn_at, with_desk}
 use Rattle.node_machine.specs.Node.{NodeInput, input_at, has_come, told_at, all_come, with_older, is_late, reset_late, told_late, times_out, forgotten}
 use Rattle.node_machine.specs.Node.{forgets, is_forgotten, all_owed, is_over, without_notice, after_sessions, synced, steps, begins_with}
 use Rattle.node_machine.specs.Controller.{asked_at}
-use Rattle.node_machine.specs.Node.NodeInput.{AtEnd, TimePasses}
 use Rattle.node_laws.specs.telling.Telling.{tells_of}
 use Rattle.node_laws.proofs.telling.Accounts.{AreMute, AreSilent, all_do, all_owed_mute, all_synced_mute, forgotten_mute, rest}
 use Rattle.swp_base.specs.InMemory.{Plan}
-use Rattle.link_laws.specs.messages.Links.{NumberedEnd, Link, Comes, number_of}
-use Rattle.link_laws.specs.messages.Links.Comes.{NextFrame, AsksReset, Starts, Stops, NoInput}
-use Rattle.link_laws.specs.sessions.Sessions.{OnWire}
-use Rattle.node_machine.specs.world.World.{arrival, port_for, work_of}
+use Rattle.link_laws.specs.messages.Links.{Comes, number_of}
+use Rattle.link_laws.specs.messages.Links.Comes.{AsksReset, NoInput, Starts, Stops}
+use Rattle.node_machine.specs.world.World.{work_of}
 use Rattle.node_ends.specs.Holding.{kept_number}
 use Rattle.node_core.specs.Noting.{unnumbered}
 use Rattle.node_sites.specs.Numbers.{IsNumbered, AreNumbered, CountsFew, StaysCounted, swapped_number, with_swapped_number, with_session_number, session_at}
-use Rattle.node_sites.specs.Numbers.{as_told}
 use Rattle.node_sites.specs.declared.noted.Noted.{Noted as Kept}
 use Rattle.node_sites.specs.WorldNodes.{IsNotedSo, IsNotedBehind}
-use Rattle.link_laws.proofs.Cases.{by_test}
 
 end_link : (h : ℕ) (who : Side) → (end_of h who).link ≡ h
 end_link h Controller = refl

@@ -1,20 +1,17 @@
 -- The memory of a node that stands for a state of the world.
-use Rattle.std.proofs.Common.{◌≡◌, ℕ, ◌⊎◌, inl, inr, zero, suc, ◌≤◌, Bool, true, false, not, cond, List, [], ◌++◌, length, refl, sym, ap, ◌∙◌, subst, arith}
-use Rattle.std.proofs.Common.{append-nil, ◌+◌, min, ◌∷◌, map, ap₂}
-use Rattle.std.specs.Prelude.{Option, Some, None, ◌==◌}
-use Rattle.std.specs.Option.{option_map_or}
-use Rattle.std.proofs.lemmas.Bool.{cases_Bool, true≢false, not-false, not-true, eq-eqb}
-use Rattle.std.specs.List.{AllByRecursion}
-use Rattle.swp_base.specs.InMemory.{Memory, ReadsAsPlanned, WritesAsPlanned, is_next_read, memory_read}
-use Rattle.link_laws.specs.messages.Links.{NumberedEnd, Loss}
-use Rattle.node_machine.specs.Parts.{Running, Core, Desk, Port}
+use Rattle.std.proofs.Common.{cond, inl, inr, min, ◌⊎◌}
+use Rattle.std.proofs.lemmas.Bool.{cases_Bool, not-false, not-true}
+use Rattle.node_sites.proofs.Words.{AllByRecursion, Bool, Core, Desk, IsNodePlace, IsSoundMemory, List, Loss, Memory, Node, None, NumberedEnd, On, Option, Port}
+use Rattle.node_sites.proofs.Words.{Running, RunsAs, Some, Write, WritesAsPlanned, [], after_planned, ap, append-nil, ap₂, arith, changed_if, eq-eqb}
+use Rattle.node_sites.proofs.Words.{fails_within, false, length, map, next_frame, node_memory, not, option_map_or, port_for, refl, subst, suc, sym, true}
+use Rattle.node_sites.proofs.Words.{true≢false, with_port, zero, ℕ, ◌++◌, ◌+◌, ◌==◌, ◌∙◌, ◌∷◌, ◌≡◌, ◌≤◌}
+use Rattle.swp_base.specs.InMemory.{ReadsAsPlanned, is_next_read, memory_read}
 use Rattle.journal_laws.specs.declared.banks.Side.{Side}
 use Rattle.journal_laws.specs.declared.state.State.{State}
 use Rattle.journal_laws.specs.Banks.{other, is_opened_gate, head, current}
 use Rattle.journal_laws.specs.Journal.{unformatted, journal_at, journal, state_by, state_of}
 use Rattle.journal_laws.specs.Operations.{started_state, start_writes, compact_writes, compacted, format_writes}
-use Rattle.journal_laws.specs.Planned.{fails_within, after_planned}
-use Rattle.journal_laws.specs.Writes.{Write, AreRead, AreMade, FitIn}
+use Rattle.journal_laws.specs.Writes.{AreMade, AreRead, FitIn}
 use Rattle.journal_laws.proofs.Opening.{length-after, length-cut}
 use Rattle.journal_laws.proofs.Planned.{planned_answer, planned_memory}
 use Rattle.nv_journal.specs.declared.JournalFault.{JournalFault}
@@ -27,16 +24,12 @@ use Rattle.hci_store.specs.Starting.{ready_writes, ready_state, HasWritten}
 use Rattle.node_machine.specs.Node.{found, boot_writes, with_error}
 use Rattle.node_core.specs.Booting.{found_in_memory, IsStartRefused}
 use Rattle.node_laws.proofs.kept.Reckoned.{planned_cut, planned_whole}
-use Rattle.link_laws.specs.machine.Machine.{next_frame}
 use Rattle.link_laws.specs.messages.Links.Loss.{OnDemand, Broken, Unread, TooOld, TooMany}
-use Rattle.node_machine.specs.Carrying.{changed_if, with_port}
-use Rattle.node_machine.specs.world.World.{counts, port_for}
-use Rattle.node_core.specs.declared.node.Node.{Node}
-use Rattle.node_core.specs.Running.{RunsAs, one_more_error}
+use Rattle.node_machine.specs.world.World.{counts}
+use Rattle.node_core.specs.Running.{one_more_error}
 use Rattle.node_sites.specs.declared.power.Power.{Power}
-use Rattle.node_sites.specs.declared.power.Power.TheVariants.{On, Off}
-use Rattle.node_sites.specs.Powers.{IsNodePlace, memory_kept, is_broken, node_memory}
-use Rattle.node_sites.specs.Memories.{IsSoundMemory}
+use Rattle.node_sites.specs.declared.power.Power.TheVariants.{Off}
+use Rattle.node_sites.specs.Powers.{is_broken, memory_kept}
 
 pub kept_is : (k : Power) (m : Memory) (o : Option Running) (near : ℕ → NumberedEnd)
     → IsNodePlace k m o near → memory_kept k ≡ m

@@ -1,18 +1,14 @@
 -- What is known of the controller by what is kept of it, and what comes to its ends.
-use Rattle.std.proofs.Common.{◌≡◌, ℕ, ◌==◌, true, false, List, [], ◌∷◌, ◌++◌, get_or, map, refl, ap, ap₂, sym, subst, ◌∙◌, length, arith}
-use Rattle.std.specs.Prelude.{Option, Some, None, slice_set}
-use Rattle.std.specs.List.{AllByRecursion}
-use Rattle.node_world.proofs.Words.{AreDifferent, AreTimely, AtController, Clf, Comes, Core, CutOff, Desk, EndsBoot, Entry, HaveRoom, HostSite, IsNodePlace}
-use Rattle.node_world.proofs.Words.{IsThere, Link, LinkEnd, MayGoOn, Memory, NoInput, Node, NumberedEnd, Off, On, Port, Power, Running, RunsAs, Site, SiteIs}
-use Rattle.node_world.proofs.Words.{SitesAre, StandsAt, Step, Wires, WiresStandFor, WorldBecomes, after_planned, as_it_comes, as_it_comes_to, between}
-use Rattle.node_world.proofs.Words.{boot_writes, boots, changed_if, comes_at, comes_to, count_of, end_c, fails_within, found, happens, happens_at_controller}
-use Rattle.node_world.proofs.Words.{input_of, kept_alike, kept_is, link_is, link_to, memory_kept, new_clf, new_desk, new_link_end, next_frame, port_for}
-use Rattle.node_world.proofs.Words.{same_number, site_at, with_bare_link, with_site}
-use Rattle.node_machine.specs.world.World.{NodeWorld, controller_cut}
-use Rattle.node_laws.specs.telling.Telling.{hosts_in}
+use Rattle.node_world.proofs.Words.{AllByRecursion, AreDifferent, AreTimely, AtController, Clf, Comes, Core, CutOff, Desk, EndsBoot, Entry, HaveRoom, HostSite}
+use Rattle.node_world.proofs.Words.{IsNodePlace, IsThere, Link, LinkEnd, List, MayGoOn, Memory, NoInput, Node, NodeWorld, None, NumberedEnd, Off, On, Option}
+use Rattle.node_world.proofs.Words.{Port, Power, Running, RunsAs, Site, SiteIs, SitesAre, Some, StandsAt, Step, Wires, WiresStandFor, WorldBecomes, []}
+use Rattle.node_world.proofs.Words.{after_planned, ap, ap₂, arith, as_it_comes, as_it_comes_to, between, boot_writes, boots, changed_if, comes_at, comes_to}
+use Rattle.node_world.proofs.Words.{count_of, end_c, fails_within, false, found, get_or, happens, happens_at_controller, hosts_in, input_of, kept_alike}
+use Rattle.node_world.proofs.Words.{kept_is, length, link_is, link_to, map, memory_kept, new_clf, new_desk, new_link_end, new_port, next_frame, port_for, refl}
+use Rattle.node_world.proofs.Words.{same_number, site_at, slice_set, subst, sym, true, with_bare_link, with_site, ℕ, ◌++◌, ◌==◌, ◌∙◌, ◌∷◌, ◌≡◌}
+use Rattle.node_machine.specs.world.World.{controller_cut}
 use Rattle.swp_base.specs.declared.link_terms.Role.TheVariants as named
 use Rattle.trace_model.specs.declared.entry.Entry.TheVariants as note
-use Rattle.node_ends.specs.Making.{new_port}
 use Rattle.node_world.proofs.EndsGo.{each_found, goes_on, cut_same, same_stand, ended_far}
 use Rattle.node_world.proofs.SitesKept.{of_these, others_before, read_there, written_there}
 

@@ -1,32 +1,23 @@
 -- The world behind a step of the controller: what is kept stands for the world as the definition leaves it.
-use Rattle.std.proofs.Common.{◌≡◌, ℕ, ◌==◌, Bool, true, false, cond, List, [], ◌∷◌, ◌++◌, map, refl, ap, ap₂, sym, subst, ◌∙◌, append_assoc, append-nil, not}
-use Rattle.std.proofs.Common.{get_or, arith}
-use Rattle.std.specs.Prelude.{Option, Some, None, Result, OnOk}
-use Rattle.std.specs.List.{AllByRecursion, flat_map}
-use Rattle.std.specs.Option.{option_map_or}
-use Rattle.std.proofs.lemmas.Bool.{eqb-true}
-use Rattle.node_world.proofs.Words.{AreDifferent, AreNumbered, AreSessions, Arrived, AtEnd, BeginsOver, Comes, Control, Controller, CountsFew, CutOff, Desk}
-use Rattle.node_world.proofs.Words.{Ending, Entry, FewAreCounted, GoesOnWith, GoesOut, HasEnds, HasGone, HasOneEnd, HostSite, IfItRuns, Incoming, IsArrivalOf}
-use Rattle.node_world.proofs.Words.{IsNodePlace, IsOnly, Link, LinkEnd, LinkInput, MayGoOn, Memory, Node, NumberedEnd, On, Port, Power, Reset, ResetRefused}
-use Rattle.node_world.proofs.Words.{Running, RunsAs, SameWires, SendsTo, Site, SiteIs, SitesAre, StaysCounted, Step, WentOffWith, WiresStandFor, Work}
-use Rattle.node_world.proofs.Words.{WorldBecomes, after_planned, arrival, as_comes, as_it_comes, as_it_comes_to, between, changed_if, comes_at, comes_to}
-use Rattle.node_world.proofs.Words.{controller_work, cut, end_c, ending_of, entries_for, frames_emitted, frames_noted, frames_out, happens_at_controller}
-use Rattle.node_world.proofs.Words.{has_come, hosts_of_ends, input_at, input_of, is_up, kept_alike, link_is, link_to, near_end_in, new_link_end, next_frame}
-use Rattle.node_world.proofs.Words.{node_memory, number_of, on_ok, port_at, port_for, put, put_all, puts_entries, refusal_arrived, refusal_coming, renewed}
-use Rattle.node_world.proofs.Words.{same_number, sent_all, sent_port, sent_to, site_at, steps, swapped, turns_at, wires_for, with_bare_link, with_bare_wires}
-use Rattle.node_world.proofs.Words.{with_controller, with_port, work_numbers, work_of}
-use Rattle.link_laws.specs.messages.Links.{becomes}
-use Rattle.link_laws.specs.entries.Entries.{End as Side, far, pushed_out, wire_with, put_entries}
+use Rattle.node_world.proofs.Words.{AllByRecursion, AreDifferent, AreNumbered, AreSessions, Arrived, AtEnd, BeginsOver, Bool, Comes, Control, Controller}
+use Rattle.node_world.proofs.Words.{CountsFew, CutOff, Desk, Ending, EndsStep, Entry, FewAreCounted, GoesOnWith, GoesOut, HasEnds, HasGone, HasOneEnd, HostSite}
+use Rattle.node_world.proofs.Words.{IfItRuns, Incoming, IsArrivalOf, IsNodePlace, IsOnly, Link, LinkEnd, LinkInput, List, MayGoOn, Memory, Node, NodeWorld}
+use Rattle.node_world.proofs.Words.{None, NumberedEnd, On, OnOk, Option, Port, Power, Reset, ResetRefused, Result, Running, RunsAs, SameWires, SendsOneByOne}
+use Rattle.node_world.proofs.Words.{SendsTo, Site, SiteIs, SitesAre, Some, StaysCounted, Step, WentOffWith, WiresStandFor, Work, WorldBecomes, []}
+use Rattle.node_world.proofs.Words.{after_planned, all_one_by_one, ap, append-nil, append_assoc, ap₂, arith, arrival, arrival_numbered, as_comes, as_it_comes}
+use Rattle.node_world.proofs.Words.{as_it_comes_to, becomes, between, changed_if, comes_at, comes_to, cond, controller_work, cut, due_at, end_c, ending_of}
+use Rattle.node_world.proofs.Words.{entries_for, eqb-true, false, flat_map, frames_emitted, frames_noted, frames_out, get_or, happens_at_controller, has_come}
+use Rattle.node_world.proofs.Words.{has_frames, hosts_in, hosts_of_ends, input_at, input_of, is_up, kept_alike, link_is, link_to, map, near_end_in}
+use Rattle.node_world.proofs.Words.{new_link_end, next_frame, node_memory, not, number_of, on_ok, option_map_or, port_at, port_for, put, put_all, put_entries}
+use Rattle.node_world.proofs.Words.{puts_entries, refl, refusal_arrived, refusal_coming, renewed, same_number, sent_all, sent_port, sent_to, site_at, stepped}
+use Rattle.node_world.proofs.Words.{steps, subst, swapped, sym, true, turns_at, wires_for, with_bare_link, with_bare_wires, with_controller, with_port}
+use Rattle.node_world.proofs.Words.{work_numbers, work_of, ℕ, ◌++◌, ◌==◌, ◌∙◌, ◌∷◌, ◌≡◌}
+use Rattle.link_laws.specs.entries.Entries.{End as Side, far, pushed_out, wire_with}
 use Rattle.link_laws.specs.entries.Entries.Entry.{Emit}
-use Rattle.node_laws.specs.telling.Telling.{hosts_in}
 use Rattle.node_laws.proofs.telling.Steps.{AreAlike}
-use Rattle.node_machine.specs.world.World.{NodeWorld, runs_on, after_controller}
-use Rattle.node_core.specs.Running.{SendsOneByOne}
-use Rattle.node_core.proofs.Between.{all_one_by_one}
+use Rattle.node_machine.specs.world.World.{after_controller, runs_on}
 use Rattle.node_machine.specs.Node.{NodeInput}
 use Rattle.node_laws.proofs.telling.Events.{Stands, stands}
-use Rattle.node_sites.proofs.Numbered.{stepped, arrival_numbered}
-use Rattle.node_world.specs.Controllers.{due_at, has_frames, EndsStep}
 use Rattle.node_world.proofs.EndsGo.{same_stand, silent_same, same_twice, ended_far, each_found, next_ports, all_sides, EndGoes, controller_ends, hosts_kept}
 use Rattle.node_world.proofs.HostsHear.{refused_so, near_side, number_coming}
 

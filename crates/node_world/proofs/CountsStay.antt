@@ -1,13 +1,12 @@
 -- What functions of a world of nodes ask for: its numbers of RSETs and its counts of acknowledged messages stay within 32 bits.
-use Rattle.std.proofs.Common.{◌≡◌, ℕ, zero, suc, ◌+◌, ◌<◌, ◌≤◌, ◌^◌, ◌==◌, Bool, true, false, List, [], ◌∷◌, map, refl, arith}
-use Rattle.std.specs.Prelude.{Option, Some, None, length, replicate, unwrap_or, IfSome}
-use Rattle.std.specs.List.{AllByRecursion}
-use Rattle.node_world.proofs.Words.{AreSendable, AtEnd, Comes, CountsFew, Desk, FewOn, FewOnEach, Happening, IsFromOutside, Link, LinkEnd, LinkInput}
-use Rattle.node_world.proofs.Words.{NumberedEnd, OnWire, Port, Reset, Site, StaysCounted, Tick, TimePasses, after_input, has_come, input_at, link_to}
-use Rattle.node_world.proofs.Words.{near_end_in, port_for, taken_of}
+use Rattle.std.specs.Prelude.{IfSome}
+use Rattle.node_world.proofs.Words.{AcksWithin, AllByRecursion, AreSendable, AtEnd, Bool, Comes, CountsFew, Desk, FewOn, FewOnEach, Happening, IsFromOutside}
+use Rattle.node_world.proofs.Words.{Link, LinkEnd, LinkInput, List, None, NumberedEnd, OnWire, Option, Port, Reset, Site, Some, StaysCounted, Tick, TimePasses}
+use Rattle.node_world.proofs.Words.{[], after_input, arith, false, has_come, input_at, length, link_to, map, near_end_in, port_for, refl, replicate, suc}
+use Rattle.node_world.proofs.Words.{taken_of, true, unwrap_or, zero, ℕ, ◌+◌, ◌<◌, ◌==◌, ◌^◌, ◌∷◌, ◌≡◌, ◌≤◌}
 use Rattle.link_laws.specs.machine.Machine.Role.{Bare}
 use Rattle.link_laws.specs.messages.Links.{new_link}
-use Rattle.node_world.specs.Bounds.{AcksWithin, AckWithin}
+use Rattle.node_world.specs.Bounds.{AckWithin}
 use Rattle.node_world.proofs.FewInWorlds.{Nearly, whole_within, input_nearly, reset_nearly}
 
 -- ## Lines

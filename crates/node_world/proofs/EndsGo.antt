@@ -1,25 +1,19 @@
 -- What a step of an end does to the wires of its link, and to the end.
-use Rattle.std.proofs.Common.{◌≡◌, Bool, true, false, List, [], ◌∷◌, refl, sym, subst, ◌∙◌, ℕ, ◌==◌, cond, ap, map, ap₂, arith}
-use Rattle.std.specs.Prelude.{Option, Some, None, is_some}
-use Rattle.std.specs.Option.{option_map_or}
-use Rattle.std.proofs.lemmas.Bool.{eqb-true}
-use Rattle.std.specs.List.{AllByRecursion, find}
-use Rattle.node_world.proofs.Words.{AreDifferent, AreMute, AsksReset, AtEnd, Comes, Control, Controller, CutOff, Deed, Desk, Ending, GoesOut, HasEnds, Host}
-use Rattle.node_world.proofs.Words.{IsOrderly, Link, LinkEnd, LinkInput, NextFrame, NoInput, NumberedEnd, OnWire, Port, Reset, Running, SameWires, Site, Start}
-use Rattle.node_world.proofs.Words.{Starts, Step, Stop, Stops, Take, Tick, Turn, Wires, WiresStandFor, Work, after_input, arrival, as_it_comes, begins_with}
-use Rattle.node_world.proofs.Words.{between, comes_to, controller_work, cut, ended_by, ending_of, entries_for, exchanged, frames_out, happens_at_controller}
-use Rattle.node_world.proofs.Words.{has_input, host_opened, host_tick, host_work, hosts_of_ends, input_of, is_late_at, is_up, is_waiting}
-use Rattle.node_world.proofs.Words.{link_after_controller, link_is, link_to, near_end_in, near_tick, new_link_end, number_of, port_at, port_for, put, put_all}
-use Rattle.node_world.proofs.Words.{renewed, same_number, sent_all, sent_port, site_at, steps, swapped, ticked_so, took_with, turned, turns_at}
-use Rattle.node_world.proofs.Words.{with_bare_wires, with_controller, with_ended, work_of}
+use Rattle.std.specs.List.{find}
+use Rattle.node_world.proofs.Words.{AllByRecursion, AreDifferent, AreMute, AsksReset, AtEnd, Bool, Comes, Control, Controller, CutOff, Deed, Desk, Ending}
+use Rattle.node_world.proofs.Words.{GoesOut, HasEnds, Host, IsOrderly, Link, LinkEnd, LinkInput, List, NextFrame, NoInput, NodeWorld, None, NumberedEnd, OnWire}
+use Rattle.node_world.proofs.Words.{Option, Port, Reset, Running, SameWires, Site, Some, Start, Starts, Step, Stop, Stops, Take, Tick, Turn, Wires}
+use Rattle.node_world.proofs.Words.{WiresStandFor, Work, [], after_input, ap, ap₂, arith, arrival, as_it_comes, at_host, becomes, begins_with, between}
+use Rattle.node_world.proofs.Words.{comes_to, cond, controller_work, cut, ended_by, ending_of, entries_for, eqb-true, exchanged, false, frames_out}
+use Rattle.node_world.proofs.Words.{happens_at_controller, has_input, host_opened, host_tick, host_work, hosts_in, hosts_of_ends, input_of, is_due, is_late_at}
+use Rattle.node_world.proofs.Words.{is_some, is_up, is_waiting, link_after_controller, link_is, link_to, map, near_end_in, near_tick, new_link_end, number_of}
+use Rattle.node_world.proofs.Words.{option_map_or, port_at, port_for, put, put_all, refl, renewed, same_number, sent_all, sent_port, silent, site_at, steps}
+use Rattle.node_world.proofs.Words.{subst, swapped, sym, ticked_so, took_with, true, turned, turns_at, with_bare_wires, with_controller, with_ended}
+use Rattle.node_world.proofs.Words.{without_first, work_of, ℕ, ◌==◌, ◌∙◌, ◌∷◌, ◌≡◌}
 use Rattle.link_laws.specs.machine.Machine.{started, deactivated}
-use Rattle.link_laws.specs.messages.Links.{becomes, silent}
 use Rattle.node_laws.proofs.telling.Steps.{IsStep, after_coming, Goes, begun, stepped, steps_keep}
-use Rattle.node_sites.specs.LinksKept.{without_first}
 use Rattle.link_laws.specs.entries.Entries.{End as Side}
-use Rattle.node_machine.specs.world.World.{NodeWorld}
-use Rattle.node_laws.specs.telling.Telling.{hosts_in, IfDue, is_due}
-use Rattle.node_laws.proofs.telling.Accounts.{at_host}
+use Rattle.node_laws.specs.telling.Telling.{IfDue}
 use Rattle.node_laws.proofs.telling.Events.{given, is_so, is_step, opened, site_map}
 use Rattle.link_wires.proofs.GoingOut.{put_stays}
 use Rattle.node_machine.specs.Node.{is_late}

@@ -1,16 +1,17 @@
 -- What comes to an end acknowledges at most seven fragments more, and a message that counts as acknowledged whole has a fragment.
-use Rattle.std.proofs.Common.{◌≡◌, ◌⊎◌, inl, ℕ, ◌+◌, ◌-◌, ◌≤◌, ◌==◌, Bool, true, false, cond, List, [], ◌∷◌, ◌++◌, map, refl, ◌∙◌, arith, zero, suc, take, drop}
-use Rattle.std.proofs.Common.{◌*◌}
-use Rattle.std.specs.Prelude.{Option, Some, None, nat_le, is_some, not, ◌&&◌, length}
-use Rattle.node_world.proofs.Words.{Activates, AreSendable, Arms, AsksReset, AtEnd, Boots, Comes, Control, CutOff, End, Ending, FewBehind, FewOn, FewOnEach}
-use Rattle.node_world.proofs.Words.{Gives, GoesOut, Happening, Inits, IsCut, IsFromOutside, Link, LinkEnd, LinkInput, Loses, Loss, Memory, Message, NextFrame}
-use Rattle.node_world.proofs.Words.{NoInput, Occurrence, OnWire, Reset, Resets, Running, Site, Start, Starts, Stop, Stops, Take, Takes, Tick, Ticks, Turn, Work}
-use Rattle.node_world.proofs.Words.{after_host, after_input, aged, all_aged, all_happen, beginning, begins_with, boot_found, boot_written, boots, by_coming}
-use Rattle.node_world.proofs.Words.{by_controller, by_controller_tick, by_host, by_host_tick, can_happen, changed_if, comes_at, comes_to, controller_ticks}
-use Rattle.node_world.proofs.Words.{controller_work, counts, end_c, end_h, ended_by, ending_of, exchanged, frame_lost, frames_out, has_input, host_cut}
-use Rattle.node_world.proofs.Words.{host_does, host_tick, host_ticks, host_work, hosts_tick, is_late_at, is_rset, is_up, is_waiting, link_after_controller}
-use Rattle.node_world.proofs.Words.{loses_power_at, memory_at, near_tick, put, put_all, sending, sent_all, site_ticked, steps, ticked_so, ticks_at_controller}
-use Rattle.node_world.proofs.Words.{took_with, turned, turns_at, with_ended, with_memory, with_node, with_site, world_step, world_ticks}
+use Rattle.std.specs.Prelude.{nat_le}
+use Rattle.node_world.proofs.Words.{Activates, AreSendable, Arms, AsksReset, AtEnd, Bool, Boots, Comes, Control, CutOff, End, Ending, FewBehind, FewOn}
+use Rattle.node_world.proofs.Words.{FewOnEach, Gives, GoesOut, Happening, Inits, IsCut, IsFromOutside, Link, LinkEnd, LinkInput, List, Loses, Loss, Memory}
+use Rattle.node_world.proofs.Words.{Message, NextFrame, NoInput, NodeWorld, None, Occurrence, OnWire, Option, Reset, Resets, Running, Site, Some, Start, Starts}
+use Rattle.node_world.proofs.Words.{Stop, Stops, Take, Takes, Tick, Ticks, Turn, Work, [], activates, after_host, after_input, aged, all_aged, all_happen}
+use Rattle.node_world.proofs.Words.{arith, beginning, begins_with, boot_found, boot_written, boots, by_boot, by_coming, by_controller, by_controller_tick}
+use Rattle.node_world.proofs.Words.{by_host, by_host_tick, by_loss, by_memory, by_power, by_running, can_happen, changed_if, comes_at, comes_to, cond}
+use Rattle.node_world.proofs.Words.{controller_does, controller_ticks, controller_work, counts, drop, end_c, end_h, ended_by, ending_of, exchanged, false}
+use Rattle.node_world.proofs.Words.{frame_lost, frames_out, has_input, host_cut, host_does, host_tick, host_ticks, host_work, hosts_tick, inl, is_late_at}
+use Rattle.node_world.proofs.Words.{is_rset, is_some, is_up, is_waiting, length, link_after_controller, loses_power_at, map, memory_at, near_tick, not, put}
+use Rattle.node_world.proofs.Words.{put_all, refl, sending, sent_all, silent, site_lost, site_ticked, steps, suc, take, ticked_so, ticks_at_controller}
+use Rattle.node_world.proofs.Words.{took_with, true, turned, turns_at, with_ended, with_memory, with_node, with_site, world_step, world_ticks, zero, ℕ, ◌&&◌}
+use Rattle.node_world.proofs.Words.{◌*◌, ◌++◌, ◌+◌, ◌-◌, ◌==◌, ◌∙◌, ◌∷◌, ◌≡◌, ◌≤◌, ◌⊎◌}
 use Rattle.swp_base.specs.declared.control_frames.Control.TheVariants.{Act as ActFrame}
 use Rattle.swp_act.specs.declared.ActEvent.{ActEvent}
 use Rattle.swp_act.specs.declared.ActEvent.TheVariants.{Start as ActStart, Stop as ActStop}
@@ -19,9 +20,7 @@ use Rattle.hcp_packet.specs.Packets.{packet_count}
 use Rattle.link_laws.specs.machine.Machine.{whole_among, turn, moved, activated, took, had_tick, ActDue, frame_fetched, among}
 use Rattle.link_laws.specs.machine.Machine.LinkInput.{TakeUnknown, TakeBroken, FromNode, Fetch}
 use Rattle.link_laws.proofs.entries.Stepping.{fetched_acked}
-use Rattle.link_laws.specs.messages.Links.{silent, finished, has_taken, has_restarted, steps_at_controller}
-use Rattle.node_machine.specs.world.World.{NodeWorld, controller_does, activates}
-use Rattle.node_machine.proofs.world.Cases.{by_power, by_memory, by_running, by_boot, by_loss, site_lost}
+use Rattle.link_laws.specs.messages.Links.{finished, has_restarted, has_taken, steps_at_controller}
 use Rattle.link_laws.proofs.sessions.Sending.{at_most_one as one_at_most}
 pub use Rattle.link_laws.proofs.entries.Together.{ticks_host as far_stays_ticked}
 use Rattle.link_laws.proofs.messages.Project.{host_ended as ended_host}

@@ -1,26 +1,18 @@
 -- A host of the world behind a step of it: what is kept stands for the host as the definition leaves it.
-use Rattle.std.proofs.Common.{◌≡◌, ℕ, ◌==◌, Bool, true, false, cond, List, [], ◌∷◌, ◌++◌, map, refl, ap, sym, subst, ◌∙◌, not, append-nil, append_assoc}
-use Rattle.std.proofs.Common.{length, ap₂, arith}
-use Rattle.std.specs.Prelude.{Option, Some, None}
-use Rattle.std.specs.List.{AllByRecursion}
-use Rattle.node_world.proofs.Words.{Control, Core, CutOff, Desk, End, Ending, EndsBoot, Entry, GoesOut, HasBecome, Host, HostSite, IsNodePlace, IsOnly}
-use Rattle.node_world.proofs.Words.{IsToSend, Link, LinkEnd, Lose, Loss, MayTick, Memory, NoInput, Node, NumberedEnd, Off, On, Port, Power, Running, RunsAs}
-use Rattle.node_world.proofs.Words.{SameWires, Site, SiteIs, Tick, Turn, Uicc, Wires, WiresStandFor, Work, after_input, after_planned, at, between, boot_writes}
-use Rattle.node_world.proofs.Words.{changed_if, count_of, counts, entries_for, exchanged, fails_within, found, frames_noted, frames_out, happens, host_behind}
-use Rattle.node_world.proofs.Words.{host_boots, host_cut, host_ticks, hosts_of_ends, kept_alike, kept_is, memory_kept, new_link_end, new_uicc, next_frame}
-use Rattle.node_world.proofs.Words.{node_memory, port_at, port_for, put_all, puts_entries, renewed, sent_all, sent_port, site_loses, ticks_at_controller}
-use Rattle.node_world.proofs.Words.{turns_at, with_bare_wires, with_controller, with_port}
-use Rattle.link_laws.specs.messages.Links.{becomes}
-use Rattle.node_laws.proofs.telling.Accounts.{at_host}
+use Rattle.node_world.proofs.Words.{AllByRecursion, Bool, Control, Core, CutOff, Desk, End, EndDoes, Ending, EndsBoot, Entry, GoesOut, HasBecome, Host}
+use Rattle.node_world.proofs.Words.{HostSite, IsNodePlace, IsOnly, IsToSend, Link, LinkEnd, List, Lose, Loss, MayTick, Memory, NoInput, Node, None, NumberedEnd}
+use Rattle.node_world.proofs.Words.{Off, On, Option, Port, Power, Running, RunsAs, SameWires, SendsOneByOne, Site, SiteIs, Some, Tick, Turn, Uicc, Wires}
+use Rattle.node_world.proofs.Words.{WiresStandFor, Work, [], after_input, after_planned, all_one_by_one, ap, append-nil, append_assoc, ap₂, arith, at, at_host}
+use Rattle.node_world.proofs.Words.{becomes, between, boot_writes, changed_if, cond, count_of, counts, entries_for, exchanged, fails_within, false, found}
+use Rattle.node_world.proofs.Words.{frames_noted, frames_out, happens, host_behind, host_boots, host_cut, host_ticks, hosts_of_ends, kept_alike, kept_is}
+use Rattle.node_world.proofs.Words.{length, map, memory_kept, new_link_end, new_port, new_uicc, next_frame, node_memory, not, port_at, port_for, put_all}
+use Rattle.node_world.proofs.Words.{puts_entries, refl, renewed, sent_all, sent_port, site_loses, subst, sym, ticks_at_controller, true, turns_at}
+use Rattle.node_world.proofs.Words.{with_bare_wires, with_controller, with_port, ℕ, ◌++◌, ◌==◌, ◌∙◌, ◌∷◌, ◌≡◌}
 use Rattle.node_sites.proofs.FramesGoOut.{at_found}
-use Rattle.node_core.proofs.Between.{all_one_by_one}
-use Rattle.node_core.specs.Running.{SendsOneByOne}
 use Rattle.swp_base.specs.declared.link_terms.Role.{Role as Named}
 use Rattle.swp_base.specs.declared.link_terms.Role.TheVariants as named
 use Rattle.trace_model.specs.declared.entry.Entry.TheVariants as note
-use Rattle.node_ends.specs.Making.{new_port}
 use Rattle.node_core.specs.Booting.{hosts_linked, role_at}
-use Rattle.node_world.specs.HostSteps.{EndDoes}
 use Rattle.node_world.proofs.EndsGo.{same_stand, same_exchanged, silent_same, same_twice, ticks_on, goes_on, cut_same}
 
 -- Its frames went out at its one end p on the wires of the link l as it sees it, and it runs on.

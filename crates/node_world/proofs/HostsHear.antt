@@ -1,26 +1,20 @@
 -- A host of the world as a step of it begins.
-use Rattle.std.proofs.Common.{◌≡◌, ℕ, ◌==◌, ◌≤◌, ◌<◌, Bool, true, false, max, List, [], ◌∷◌, ◌++◌, map, replicate, get_or, refl, ap, ap₂, sym, subst, ◌∙◌}
-use Rattle.std.proofs.Common.{arith, ◌&&◌, append-nil}
-use Rattle.std.specs.Prelude.{Option, Some, None, is_some, Result, OnOk, Ok}
-use Rattle.std.specs.List.{AllByRecursion}
 use Rattle.std.proofs.lemmas.List.{get_or-replicate}
-use Rattle.std.proofs.lemmas.Bool.{eqb-false}
-use Rattle.node_world.proofs.Words.{AreMute, AreNumbered, Arrived, AsksReset, AtEnd, BeginsOver, Comes, Control, Core, CountsFew, CountsOn, Deed, Desk, End}
-use Rattle.node_world.proofs.Words.{Ending, Entry, HasBecome, HasEnds, HasGone, Host, HostSite, IfItRuns, Incoming, IsArrivalOf, IsHostOf, IsNodePlace}
-use Rattle.node_world.proofs.Words.{IsToSend, Link, LinkEnd, LinkInput, MayTick, Memory, Message, NextFrame, NoCause, NoInput, Node, NumberedEnd, Off, On}
-use Rattle.node_world.proofs.Words.{OnWire, Port, Power, Reset, ResetRefused, Running, RunsAs, SameWires, Site, SiteIs, Starts, Step, Stops, Tick, TimePasses}
-use Rattle.node_world.proofs.Words.{Turn, Wires, WiresStandFor, Work, WorldBecomes, after_planned, arrival, as_comes, as_it_comes, begins_with, between}
-use Rattle.node_world.proofs.Words.{entries_for, exchanged, frames_noted, frames_out, happens_at_controller, host_behind, host_hears, host_opened, host_stepped}
-use Rattle.node_world.proofs.Words.{host_tick, host_ticks, host_work, hosts_of_ends, if_accepted, input_of, is_rset, kept_alike, near_end_in, next_frame}
-use Rattle.node_world.proofs.Words.{node_memory, noted_behind, number_of, port_at, port_for, put, puts_entries, refusal_arrived, refusal_coming}
-use Rattle.node_world.proofs.Words.{sending_refused, session_at, side_of, steps, ticked_so, took_with, wires_for, work_numbers, work_of}
-use Rattle.link_laws.specs.entries.Entries.{put_entries}
-use Rattle.node_laws.specs.telling.Telling.{is_due, NoneDue}
+use Rattle.node_world.proofs.Words.{AllByRecursion, AreMute, AreNumbered, Arrived, AsksReset, AtEnd, BeginsOver, Bool, Comes, ComesToEnd, Control, Core}
+use Rattle.node_world.proofs.Words.{CountsComing, CountsFew, CountsOn, Deed, Desk, End, EndDoes, Ending, Entry, HasBecome, HasEnds, HasGone, Host, HostSite}
+use Rattle.node_world.proofs.Words.{IfItRuns, Incoming, IsArrivalOf, IsHostOf, IsNodePlace, IsToSend, Link, LinkEnd, LinkInput, List, MayArrive, MayTick}
+use Rattle.node_world.proofs.Words.{Memory, Message, NextFrame, NoCause, NoInput, NoMemory, Node, NodeWorld, None, NoneDue, Noted, NumberedEnd, Off, Ok, On}
+use Rattle.node_world.proofs.Words.{OnOk, OnWire, Option, Port, Power, Reset, ResetRefused, Result, Running, RunsAs, SameWires, Site, SiteIs, Some, Starts}
+use Rattle.node_world.proofs.Words.{Step, Stops, Tick, TimePasses, Turn, Wires, WiresStandFor, Work, WorldBecomes, [], after_planned, ap, append-nil, ap₂}
+use Rattle.node_world.proofs.Words.{arith, arrival, arrival_numbered, as_comes, as_it_comes, begins_with, between, entries_for, eqb-false, exchanged, false}
+use Rattle.node_world.proofs.Words.{frames_noted, frames_out, get_or, happens_at_controller, host_behind, host_hears, host_opened, host_stepped, host_tick}
+use Rattle.node_world.proofs.Words.{host_ticks, host_work, hosts_of_ends, if_accepted, input_of, is_due, is_rset, is_some, kept_alike, map, max, near_end_in}
+use Rattle.node_world.proofs.Words.{next_frame, node_memory, noted_behind, number_of, port_at, port_for, put, put_entries, puts_entries, refl, refusal_arrived}
+use Rattle.node_world.proofs.Words.{refusal_coming, replicate, seen_from, sending_refused, session_at, side_of, stepped, steps, subst, sym, ticked_so}
+use Rattle.node_world.proofs.Words.{took_with, true, wires_for, without_first, work_numbers, work_of, ℕ, ◌&&◌, ◌++◌, ◌<◌, ◌==◌, ◌∙◌, ◌∷◌, ◌≡◌, ◌≤◌}
 use Rattle.node_laws.proofs.telling.Steps.{Keeps, begins_keep, steps_keep, tick_keeps}
-use Rattle.node_sites.specs.LinksKept.{without_first}
-use Rattle.node_sites.specs.declared.noted.Noted.{Noted}
 use Rattle.node_sites.specs.WorldNodes.{IsNotedSo}
-use Rattle.node_sites.proofs.Numbered.{Numbers, stepped, begun, arrival_numbered}
+use Rattle.node_sites.proofs.Numbered.{Numbers, begun}
 use Rattle.trace_model.specs.declared.entry.NoCause.TheVariants as no
 use Rattle.link_laws.specs.machine.Machine.{give_refusal}
 use Rattle.node_machine.specs.Controller.{is_command_message}
@@ -28,16 +22,12 @@ use Rattle.node_machine.specs.world.Lines.{if_waiting}
 use Rattle.node_core.proofs.Asking.{asked_may}
 use Rattle.node_ends.specs.Ends.{MayStartAt}
 use Rattle.node_ends.specs.declared.inputs.LinkInput.TheVariants as asks
-use Rattle.swp_base.specs.declared.outside.NoMemory.{NoMemory}
-use Rattle.history.specs.Follows.{seen_from}
 use Rattle.link_wires.specs.Notes.{AreNoted}
-use Rattle.node_machine.specs.world.World.{NodeWorld}
 use Rattle.node_sites.specs.declared.incoming.Incoming.TheVariants as coming
 use Rattle.node_sites.specs.declared.incoming.Arrived.TheVariants as arrived
-use Rattle.node_sites.specs.Arrivals.{ComesToEnd, HasArrived, NoneArrived, MayArriveAt, MayArrive}
+use Rattle.node_sites.specs.Arrivals.{HasArrived, MayArriveAt, NoneArrived}
 use Rattle.node_sites.specs.Numbers.{with_session_number}
 use Rattle.node_machine.proofs.world.Cases.{after_tick}
-use Rattle.node_world.specs.HostSteps.{EndDoes, CountsComing}
 use Rattle.node_world.proofs.EndsGo.{same_stand, same_exchanged, EndGoes, host_ends, host_begins, EndTicks, host_end_ticks}
 pub use Rattle.node_core.proofs.SeenAsNode.{never_refused as done_always}
 pub use Rattle.node_laws.proofs.readings.Sites.{near_end_side as near_side}

@@ -1,36 +1,24 @@
 -- What happens at a host of a world, as the definitions of the whole world have it.
-use Rattle.std.proofs.Common.{◌≡◌, ℕ, ◌==◌, Bool, true, false, cond, List, [], ◌∷◌, ◌++◌, length, refl, ap, ap₂, sym, subst, ◌∙◌, ◌+◌, ◌<◌, ◌≤◌, ◌^◌, get_or}
-use Rattle.std.proofs.Common.{map, arith, ◌≢◌}
-use Rattle.std.specs.Prelude.{Option, Some, None, is_some, slice_set}
-use Rattle.std.specs.List.{AllByRecursion}
-use Rattle.std.proofs.lemmas.Bool.{eq-eqb}
-use Rattle.std.proofs.lemmas.List.{map-append}
-use Rattle.node_world.proofs.Words.{AreDifferent, AreMute, AreSendable, AtController, AtEnd, BecomesUnless, Comes, Controller, CountsOn, CutOff, Desk, End}
-use Rattle.node_world.proofs.Words.{Entry, FewAreCounted, FewBehind, FewOn, FewOnEach, Gives, Happening, HasBecome, HaveRoom, Header, Host, HostSite, IfItRuns}
-use Rattle.node_world.proofs.Words.{Inits, IsFromOutside, IsHost, IsHostOf, IsNodePlace, IsOrderly, IsThere, IsWithinBounds, Line, LineOutcome, LinePlayed}
-use Rattle.node_world.proofs.Words.{Link, LinkInput, Lose, Loss, MayGoOn, MayPlay, Memory, NoCause, NoInput, NumberedEnd, Off, On, Plan, Port, Power, Running}
-use Rattle.node_world.proofs.Words.{Site, SiteIs, SitesAre, SitesBecome, StandsAt, TimePasses, WasRefused, Work, WorldBecomes, WorldIs, after_host}
-use Rattle.node_world.proofs.Words.{after_planned, at, beginning, begins_with, boot_found, boot_writes, boot_written, boots, changed_if, comes_at, count_of}
-use Rattle.node_world.proofs.Words.{counts, end_c, end_h, ending_of, entries_for, exchanged, fails_within, first_lost, frame_lost, frames_noted, frames_to}
-use Rattle.node_world.proofs.Words.{happens, host_boots, host_cut, host_does, host_hears, host_stepped, host_work, if_accepted, input_of, line_step, link_is}
-use Rattle.node_world.proofs.Words.{link_to, loses_power_at, machine_in, memory_at, new_desk, node_at, node_of, port_for, refusal_coming, refusal_in, sending}
-use Rattle.node_world.proofs.Words.{sending_refused, side_of, site_at, site_loses, steps, turns_at, wires_for, with_memory, with_node, with_site, world_step}
+use Rattle.node_world.proofs.Words.{AcksWithin, AllByRecursion, AreDifferent, AreMute, AreSendable, Asked, AtController, AtEnd, BecomesUnless, Bool, Comes}
+use Rattle.node_world.proofs.Words.{Controller, CountsComing, CountsOn, CutOff, Desk, End, Entry, FewAreCounted, FewBehind, FewOn, FewOnEach, Gives, Happening}
+use Rattle.node_world.proofs.Words.{HasBecome, HaveRoom, Header, Host, HostSite, HostsPlayed, IfItRuns, Inits, IsFromOutside, IsHost, IsHostOf, IsNodePlace}
+use Rattle.node_world.proofs.Words.{IsOrderly, IsThere, IsWithinBounds, Line, LineOutcome, LinePlayed, Link, LinkInput, List, Lose, Loss, MayGoOn, MayPlay}
+use Rattle.node_world.proofs.Words.{Memory, NoCause, NoInput, NodeWorld, None, NumberedEnd, Off, On, Option, Plan, Port, Power, Running, Site, SiteIs, SitesAre}
+use Rattle.node_world.proofs.Words.{SitesBecome, Some, StandsAt, TimePasses, WasRefused, Work, WorldBecomes, WorldIs, [], after_host, after_planned, ap, ap₂}
+use Rattle.node_world.proofs.Words.{arith, at, beginning, begins_with, boot_found, boot_writes, boot_written, boots, changed_if, comes_at, cond, count_of}
+use Rattle.node_world.proofs.Words.{counts, deeds_asked, end_c, end_h, ending_of, entries_for, eq-eqb, exchanged, fails_within, false, first_lost, frame_lost}
+use Rattle.node_world.proofs.Words.{frames_noted, frames_to, get_or, goes_on, happens, host_boots, host_cut, host_does, host_hears, host_stepped, host_work}
+use Rattle.node_world.proofs.Words.{hosts_in, if_accepted, input_of, is_on, is_some, length, line_asked, line_step, link_is, link_to, links_of, loses_power_at}
+use Rattle.node_world.proofs.Words.{machine_in, map, map-append, memory_at, message_asked, new_desk, node_at, node_of, port_for, refl, refusal_coming}
+use Rattle.node_world.proofs.Words.{refusal_in, sending, sending_refused, side_of, site_at, site_loses, slice_set, steps, subst, sym, true, turns_at, wires_for}
+use Rattle.node_world.proofs.Words.{with_memory, with_node, with_site, world_step, ℕ, ◌++◌, ◌+◌, ◌<◌, ◌==◌, ◌^◌, ◌∙◌, ◌∷◌, ◌≡◌, ◌≢◌, ◌≤◌}
 use Rattle.trace_model.specs.declared.entry.Entry.TheVariants as entry
 use Rattle.node_machine.specs.Node.{found as found_at}
-use Rattle.node_machine.specs.world.World.{NodeWorld, links_of}
 use Rattle.node_machine.proofs.world.Cases.{after_host_step}
 use Rattle.node_laws.proofs.telling.Events.{site_host}
-use Rattle.node_laws.specs.telling.Telling.{hosts_in}
-use Rattle.node_sites.specs.Powers.{is_on}
 use Rattle.node_sites.specs.GivenMessages.{given_messages}
 use Rattle.trace_model.specs.declared.line.Line.TheVariants as line
-use Rattle.node_machine.specs.world.Lines.{goes_on}
-use Rattle.node_sites.specs.Asking.{deeds_asked, message_asked}
-use Rattle.node_sites.specs.declared.nodes.Asked.{Asked}
 use Rattle.node_sites.specs.declared.nodes.Asked.TheVariants.{Send, Init}
-use Rattle.node_world.specs.Bounds.{AcksWithin}
-use Rattle.node_world.specs.HostSteps.{CountsComing}
-use Rattle.node_world.specs.Whole.{line_asked, HostsPlayed}
 use Rattle.node_world.specs.Controllers.{FewAreCountedAt}
 use Rattle.node_world.proofs.HostsDo.{boot_goes, boot_stops}
 use Rattle.node_world.proofs.HostsHear.{worked, stepped_off, stepped_on, hears_none}

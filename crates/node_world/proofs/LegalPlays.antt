@@ -1,17 +1,16 @@
 -- The history of plays is legal.
-use Rattle.std.proofs.Common.{◌≡◌, inl, inr, ℕ, ◌+◌, ◌≤◌, true, false, List, [], ◌∷◌, ◌++◌, refl, ap, sym, ◌∙◌, arith, ◌==◌, ◌⊎◌, suc, ◌-◌, ◌^◌, min, Bool}
-use Rattle.std.proofs.Common.{cond, eqb, length, append-nil, append_assoc, length-append, length-take, subst}
-use Rattle.std.specs.Prelude.{Some, IsSome}
-use Rattle.std.specs.List.{AllByRecursion, fold}
-use Rattle.std.proofs.lemmas.Bool.{true≢false, cases_Bool, eqb-true, eq-eqb}
-use Rattle.node_world.proofs.Words.{Book, Entry, FollowsNodes, Header, IsHost, IsNodeHeader, IsNodeOf, IsPlayFor, IsPlayedLine, Line, Memory, NodeHistory}
-use Rattle.node_world.proofs.Words.{NoneIsMisread, Play, Round, Said, Site, WouldFind, book_in, current, hosts_stay_behind, last_in, lines_may_be_played}
-use Rattle.node_world.proofs.Words.{lines_played, lines_said, memory_at, new_world, nodes_behind, round_behind, site_at}
+use Rattle.node_world.proofs.Words.{AllByRecursion, AllKeep, Book, Bool, Entry, FindsCommands, FollowsNodes, Header, IsHost, IsNodeHeader, IsNodeOf, IsPlayFor}
+use Rattle.node_world.proofs.Words.{IsPlayedLine, IsSome, Last, Line, List, Memory, NodeHistory, NodeWorld, NoneIsMisread, Play, Round, Said, Site, SiteKeeps}
+use Rattle.node_world.proofs.Words.{Some, WouldFind, [], ap, append-nil, append_assoc, arith, book_in, cases_Bool, commands_in, cond, current, eq-eqb, eqb}
+use Rattle.node_world.proofs.Words.{eqb-true, false, fold, hosts_stay_behind, inl, inr, last_in, length, length-append, length-take, lines_may_be_played}
+use Rattle.node_world.proofs.Words.{lines_of_play, lines_played, lines_said, memory_at, min, new_world, nodes_behind, refl, round_behind, site_at, site_found}
+use Rattle.node_world.proofs.Words.{sound_has_no_fault, steps_from, subst, suc, sym, true, true≢false, with_found, ℕ, ◌++◌, ◌+◌, ◌-◌, ◌==◌, ◌^◌, ◌∙◌, ◌∷◌, ◌≡◌}
+use Rattle.node_world.proofs.Words.{◌≤◌, ◌⊎◌}
 use Rattle.trace_model.specs.declared.line.Line.TheVariants as saying
 use Rattle.trace_model.specs.Lines.{IsHeader, IsLineOf, MayBegin}
 use Rattle.history.specs.Histories.{History}
 use Rattle.history.specs.Follows.{Follows}
-use Rattle.node_machine.specs.world.NodeHistories.{steps_from, node_entries}
+use Rattle.node_machine.specs.world.NodeHistories.{node_entries}
 use Rattle.node_laws.specs.schedules.Ranges.{AreNodeLinesOf, asking, lines_asking}
 use Rattle.node_laws.specs.answers.Headline.{IsPlayed}
 use Rattle.node_laws.specs.answers.Headline.PlayedHistory.{OfLink, OfNodes}
@@ -19,20 +18,15 @@ use Rattle.node_laws.proofs.schedules.Ranges.{in_range, hosts_are, sent_by_hosts
 use Rattle.node_laws.proofs.bounds.Paying.{asking-append, asking_few}
 use Rattle.node_laws.proofs.worlds.Schedules.{played_legal}
 use Rattle.lines_told.specs.lines.Below.{is_settling, memory_behind}
-use Rattle.lines_told.specs.lines.Plays.{lines_of_play}
 use Rattle.lines_told.specs.lines.RoundLines.{IsRoundLine}
 use Rattle.lines_told.proofs.lines.Told.{round_known}
 use Rattle.trace_model.specs.declared.entry.Entry.TheVariants as entry
-use Rattle.hci_store.proofs.Committed.{sound_has_no_fault}
-use Rattle.node_machine.specs.world.World.{NodeWorld}
-use Rattle.node_machine.specs.world.NodeFilters.{book_after, commands_in, with_found}
-use Rattle.node_machine.specs.world.NodeLegal.{AreFound, FindsCommands, Kept, Last, last_after}
+use Rattle.node_machine.specs.world.NodeFilters.{book_after}
+use Rattle.node_machine.specs.world.NodeLegal.{AreFound, Kept, last_after}
 use Rattle.node_machine.specs.world.NodeLegal.Last.{NothingYet, CommandLast, CutBehindCommand, OtherLast}
 use Rattle.node_laws.specs.kept.Hosts.{IsFew}
-use Rattle.node_laws.specs.kept.Worlds.{AllKeep, SiteKeeps}
 use Rattle.node_laws.proofs.kept.Doing.{book_more, last_more}
 use Rattle.node_laws.proofs.kept.Ticking.{all_keep, are_kept}
-use Rattle.node_laws.proofs.kept.Events.{site_found}
 use Rattle.node_laws.proofs.schedules.Few.{are_few}
 use Rattle.node_world.specs.Legal.{HaveLegalHistory, IsFoundAsKept, IsKeptBehind}
 use Rattle.node_world.proofs.WorldsBehind.{node_there}

@@ -1,29 +1,21 @@
 -- What becomes of a line at which one thing happens, or which is refused.
-use Rattle.std.proofs.Common.{◌≡◌, ℕ, ◌==◌, Bool, true, false, List, [], ◌∷◌, length, refl, sym, subst, ◌∙◌, append-nil, arith, ◌≢◌, ◌++◌}
-use Rattle.std.specs.Prelude.{Option, Some, None, Contains, IsTrue, is_some, option_map}
-use Rattle.std.specs.List.{AllByRecursion, list_any}
-use Rattle.std.proofs.lemmas.Bool.{eq-eqb, true≢false}
+use Rattle.std.specs.Prelude.{Contains, IsTrue}
 use Rattle.std.proofs.lemmas.List.Elements.{All-contains, All-from_recursion}
-use Rattle.node_world.proofs.Words.{AsksReset, End, Entry, Finds, Happening, Header, HostSite, IsNodeOf, IsThere, IsWithinBounds, Line, LineOutcome, LinePlayed}
-use Rattle.node_world.proofs.Words.{LinkEnd, Loses, Loss, MayPlay, NoCause, Power, Running, Site, SitesAre, SitesBecome, Takes, WasRefused, WorldBecomes}
-use Rattle.node_world.proofs.Words.{WorldIs, frames_at, if_off, is_running, line_step, machine_in, misread_in, node_at, node_of, refusal_coming, refusal_in}
-use Rattle.node_world.proofs.Words.{reset_refusal, site_at, world_step}
+use Rattle.node_world.proofs.Words.{AllByRecursion, ArrayVec, AsksReset, Bool, End, Entry, Finds, Happening, Header, HostSite, HostsPlayed, IsNodeOf, IsThere}
+use Rattle.node_world.proofs.Words.{IsWithinBounds, Line, LineOutcome, LinePlayed, LinkEnd, List, Loses, Loss, LostFor, MayPlay, NoCause, NodeWorld, None}
+use Rattle.node_world.proofs.Words.{Occurred, OnWire, Option, Power, Running, Same, Site, SitesAre, SitesBecome, Some, Takes, WasRefused, WorldBecomes, WorldIs}
+use Rattle.node_world.proofs.Words.{[], append-nil, arith, eq-eqb, false, first_verdict, frames_at, goes_on, hosts_in, if_off, is_damaging, is_running, is_some}
+use Rattle.node_world.proofs.Words.{length, line_step, list_any, machine_in, misread_in, node_at, node_of, option_map, refl, refusal_coming, refusal_in}
+use Rattle.node_world.proofs.Words.{reset_noted, site_at, subst, sym, true, true≢false, world_step, ℕ, ◌++◌, ◌==◌, ◌∙◌, ◌∷◌, ◌≡◌, ◌≢◌}
+use Rattle.link_laws.specs.machine.Machine.{reset_refusal}
 use Rattle.trace_model.specs.declared.entry.Entry.TheVariants as note
-use Rattle.node_machine.specs.world.World.{NodeWorld}
-use Rattle.node_machine.specs.world.Lines.{goes_on, first_cause}
-use Rattle.node_machine.specs.world.Lines.LineOutcome.{Occurred}
-use Rattle.node_laws.specs.telling.Telling.{hosts_in}
+use Rattle.node_machine.specs.world.Lines.{first_cause}
 use Rattle.trace_model.specs.declared.entry.NoCause.TheVariants as no
 use Rattle.trace_model.specs.declared.line.Line.TheVariants as line
-use Rattle.link_laws.specs.sessions.Sessions.{OnWire}
 use Rattle.link_end.specs.Reports.{reset_refused}
-use Rattle.history.specs.Follows.{as_noted, first_verdict, if_empty, if_out_of_reach}
-use Rattle.arrayvec.specs.ArrayVec.{ArrayVec}
-use Rattle.history.specs.Damage.Verdict.{Same, LostFor}
+use Rattle.history.specs.Follows.{as_noted, if_empty, if_out_of_reach}
 use Rattle.link_wires.specs.declared.finding.Damaged.{Damaged}
 use Rattle.link_wires.specs.declared.finding.Damaged.TheVariants as found
-use Rattle.node_world.specs.Whole.{HostsPlayed, is_damaging}
-use Rattle.node_world.specs.HostSteps.{reset_noted}
 use Rattle.node_world.proofs.FewInWorlds.{longer}
 
 -- ## What is asked

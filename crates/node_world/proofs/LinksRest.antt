@@ -1,15 +1,12 @@
 -- Whether the links of a world are at rest, as it is read of its nodes and wires one by one.
-use Rattle.std.proofs.Common.{◌≡◌, ℕ, ◌+◌, ◌<◌, ◌≤◌, Bool, true, false, List, [], ◌∷◌, ◌++◌, length, get_or, map, refl, ap, ap₂, sym, subst, ◌∙◌, append-nil}
-use Rattle.std.proofs.Common.{append_assoc, arith, length-append}
-use Rattle.std.specs.Prelude.{◌&&◌, Option, Some, None}
-use Rattle.std.specs.List.{AllByRecursion, list_all}
-use Rattle.node_world.proofs.Words.{AreTimely, Clf, Core, Desk, HasEnds, HostSite, IfItRuns, IsNodePlace, MayGoOn, Memory, Node, NumberedEnd, Off, On, OnWire}
-use Rattle.node_world.proofs.Words.{Port, Power, Running, RunsAs, Site, SiteIs, SitesAre, is_clear, link_is, link_to, new_clf, new_link_end, port_for, site_at}
+use Rattle.std.specs.List.{list_all}
+use Rattle.node_world.proofs.Words.{AllByRecursion, AreTimely, Bool, Clf, Core, Desk, HasEnds, HostSite, IfItRuns, IsNodePlace, List, MayGoOn, Memory, Node}
+use Rattle.node_world.proofs.Words.{NodeWorld, None, NumberedEnd, Off, On, OnWire, Option, Port, Power, Running, RunsAs, Site, SiteIs, SitesAre, Some, [], ap}
+use Rattle.node_world.proofs.Words.{append-nil, append_assoc, ap₂, arith, false, get_or, hosts_in, is_clear, length, length-append, link_is, link_to, map}
+use Rattle.node_world.proofs.Words.{new_clf, new_link_end, port_for, refl, site_at, subst, sym, true, ℕ, ◌&&◌, ◌++◌, ◌+◌, ◌<◌, ◌∙◌, ◌∷◌, ◌≡◌, ◌≤◌}
 use Rattle.link_laws.specs.machine.AtRest.{end_rests}
 use Rattle.link_laws.specs.messages.Rest.{link_rests}
-use Rattle.node_machine.specs.world.World.{NodeWorld}
 use Rattle.node_machine.specs.world.Rounds.{sites_rest}
-use Rattle.node_laws.specs.telling.Telling.{hosts_in}
 use Rattle.node_ends.specs.Ends.{are_at_rest}
 use Rattle.node_world.specs.Rounds.{IsToLookAt, far_rests, near_rests}
 use Rattle.node_world.proofs.EndsGo.{each_found}

@@ -1,49 +1,41 @@
 -- What a node of a world finds as it boots is of version 02.
-use Rattle.std.proofs.Common.{◌≡◌, List, ℕ, refl, ◌⊎◌, inl, inr, ◌-◌, ◌^◌, ◌≤◌, min, false, cond, [], ◌∷◌, ◌++◌, length, map, take, sym, ap, ◌∙◌, subst, arith}
-use Rattle.std.proofs.Common.{length-take, eqb, Bool, true, ◌==◌}
-use Rattle.std.specs.Prelude.{Option, Some, None, IsSome, is_some, replicate}
-use Rattle.std.specs.Option.{option_map_or}
-use Rattle.std.specs.List.{AllByRecursion}
-use Rattle.std.proofs.lemmas.Bool.{cond_both, eq-eqb, cases_Bool, eqb-true, ne_eqb}
-use Rattle.node_world.proofs.Words.{Activates, Arms, AsksReset, AtController, AtEnd, Book, Boots, Comes, CutOff, Desk, End, Entry, Gives, Happening, Inits}
-use Rattle.node_world.proofs.Words.{IsCut, IsHost, IsSentByHost, IsSoundMemory, Line, LineOutcome, Loses, Loss, Memory, NextFrame, NoCause, NoInput}
-use Rattle.node_world.proofs.Words.{NumberedEnd, Occurrence, Port, Resets, Running, Side, Site, Starts, Step, Takes, Ticks, WasRefused, Work, WouldFind}
-use Rattle.node_world.proofs.Words.{after_host, after_planned, all_aged, all_happen, beginning, begins_with, book_in, boot_found, boot_writes, boot_written}
-use Rattle.node_world.proofs.Words.{boots, by_coming, by_controller, by_controller_tick, by_host, by_host_tick, can_happen, changed_if, comes_at}
-use Rattle.node_world.proofs.Words.{controller_ticks, controller_work, count_of, counts, current, end_c, end_h, fails_within, found, frame_lost, happens}
-use Rattle.node_world.proofs.Words.{host_cut, host_does, host_tick, host_work, hosts_tick, last_in, line_step, link_after_controller, loses_power_at}
-use Rattle.node_world.proofs.Words.{memory_at, near_tick, new_desk, new_site, new_world, node_at, port_at, port_for, refusal_in, sending, site_at, site_ticked}
-use Rattle.node_world.proofs.Words.{started_state, state_of, steps, with_memory, with_node, with_site, world_step, world_ticks}
-use Rattle.journal_laws.specs.Journal.{journal, is_open_beside, state_by}
-use Rattle.node_machine.specs.world.NodeLegal.{Last, FindsCommands}
+use Rattle.std.proofs.lemmas.Bool.{cond_both}
+use Rattle.node_world.proofs.Words.{Activates, AllByRecursion, AllKeep, Arms, AsksReset, AtController, AtEnd, Book, Bool, Boots, Comes, CutOff, Desk, End}
+use Rattle.node_world.proofs.Words.{Entry, FindsCommands, Gives, Happening, HciTables, Inits, IsCut, IsHost, IsSentByHost, IsSome, IsSoundMemory, KeepsSome}
+use Rattle.node_world.proofs.Words.{Last, Line, LineOutcome, List, Loses, Loss, Memory, NextFrame, NoCause, NoInput, NodeWorld, None, NumberedEnd, Occurrence}
+use Rattle.node_world.proofs.Words.{Option, Port, Resets, Running, Side, Site, SiteKeeps, Some, Starts, State, Step, Takes, Ticks, WasRefused, Work, WouldFind}
+use Rattle.node_world.proofs.Words.{[], after_host, after_planned, all_aged, all_happen, ap, arith, beginning, begins_with, book_in, boot_found, boot_writes}
+use Rattle.node_world.proofs.Words.{boot_written, boots, by_boot, by_coming, by_controller, by_controller_tick, by_host, by_host_tick, by_loss, by_memory}
+use Rattle.node_world.proofs.Words.{by_power, by_running, can_happen, cases_Bool, changed_if, close, comes_at, commands_in, cond, controller_does}
+use Rattle.node_world.proofs.Words.{controller_ticks, controller_work, count_of, counts, current, end_c, end_h, eq-eqb, eqb, eqb-true, fails_within, false}
+use Rattle.node_world.proofs.Words.{found, frame_lost, goes_on, happens, host_cut, host_does, host_tick, host_work, hosts_tick, inl, inr, is_some, last_in}
+use Rattle.node_world.proofs.Words.{length, length-take, line_step, link_after_controller, links_of, loses_power_at, map, memory_at, min, ne_eqb, near_tick}
+use Rattle.node_world.proofs.Words.{new_desk, new_memory, new_site, new_world, node_at, option_map_or, port_at, port_for, refl, refusal_in, replicate, sending}
+use Rattle.node_world.proofs.Words.{site_at, site_found, site_lost, site_ticked, sound_has_no_fault, started_state, state_by, state_of, steps, subst, sym}
+use Rattle.node_world.proofs.Words.{tables_of, take, true, with_found, with_memory, with_node, with_site, world_after, world_step, world_ticks, ℕ, ◌++◌, ◌-◌}
+use Rattle.node_world.proofs.Words.{◌==◌, ◌^◌, ◌∙◌, ◌∷◌, ◌≡◌, ◌≤◌, ◌⊎◌}
+use Rattle.journal_laws.specs.Journal.{is_open_beside, journal}
 use Rattle.trace_model.specs.declared.entry.Entry.TheVariants as entry
-use Rattle.journal_laws.specs.declared.state.State.{State}
 use Rattle.journal_laws.specs.Writes.{after_writes, Write}
 use Rattle.journal_laws.specs.Operations.{format_writes, formatted}
-use Rattle.hci_tables.specs.Tables.{HciTables, no_tables, after_commands, close}
-use Rattle.hci_store.specs.Image.{tables_of}
+use Rattle.hci_tables.specs.Tables.{after_commands, no_tables}
 use Rattle.hci_store.proofs.Starting.{counted}
 use Rattle.node_machine.specs.Parts.{Creation}
 use Rattle.node_machine.specs.Controller.{asked_at}
-use Rattle.node_machine.specs.world.NodeFilters.{with_found, commands_in}
 use Rattle.node_laws.specs.kept.Finds.{Knows}
 use Rattle.node_laws.specs.kept.Books.{WaitsFor}
-use Rattle.node_laws.specs.kept.Worlds.{NodeKeeps, SiteKeeps, AllKeep, MayHappen}
+use Rattle.node_laws.specs.kept.Worlds.{MayHappen, NodeKeeps}
 use Rattle.node_laws.proofs.kept.Reckoned.{planned_whole}
 use Rattle.node_laws.proofs.kept.Doing.{book_more, closed_book, finds_all}
 use Rattle.node_laws.proofs.kept.Booting.{says, knows_used, knows_formatted, good_found, new_hosts, boot_lost}
 use Rattle.trace_model.specs.declared.line.Line.TheVariants as line
-use Rattle.node_machine.specs.world.World.{NodeWorld, links_of, new_memory, controller_does}
-use Rattle.node_machine.specs.world.Lines.{happenings, goes_on}
-use Rattle.node_machine.specs.world.NodeHistories.{world_after}
+use Rattle.node_machine.specs.world.Lines.{happenings}
 use Rattle.node_laws.specs.kept.Hosts.{AreHosts}
 use Rattle.node_laws.proofs.kept.Events.{Goes, activates_goes, arms_goes, boots_goes, comes_goes, controller_goes, cut_goes, gives_goes, host_goes, hosts_in}
-use Rattle.node_laws.proofs.kept.Events.{inits_goes, loses_is, lost_goes, site_found, with_site_twice}
+use Rattle.node_laws.proofs.kept.Events.{inits_goes, loses_is, lost_goes, with_site_twice}
 use Rattle.node_laws.proofs.kept.Ticking.{MayAllHappen, all_begin, line_may, ticks_goes}
-use Rattle.hci_store.proofs.Committed.{sound_has_no_fault}
-use Rattle.node_sites.specs.Memories.{KeepsSome, ReadsGoThrough}
+use Rattle.node_sites.specs.Memories.{ReadsGoThrough}
 use Rattle.swp_base.specs.InMemory.{is_next, memory_after}
-use Rattle.node_machine.proofs.world.Cases.{by_power, by_memory, by_running, by_boot, by_loss, site_lost}
 
 pub boots_find_version_02 : (content : List ℕ) (book : Book) (last : Last) → WouldFind content book last → (started_state (state_of content)).version ≡ 2
 boots_find_version_02 content book last w = go (current content)

@@ -1,25 +1,14 @@
 -- One thing happens again and again at a line: which world stands behind so many of them, and what is kept of it.
-use Rattle.std.proofs.Common.{◌≡◌, ℕ, zero, suc, ◌+◌, ◌*◌, ◌==◌, ◌≤◌, Bool, true, false, List, [], ◌∷◌, ◌++◌, map, refl, ap, sym, subst, ◌∙◌, append_assoc}
-use Rattle.std.proofs.Common.{append-nil, arith, length, ◌<◌, get_or, length-append}
-use Rattle.std.specs.Prelude.{Some, None, replicate}
-use Rattle.std.specs.List.{AllByRecursion}
-use Rattle.std.proofs.lemmas.Grind.{flat_map-append}
-use Rattle.std.proofs.lemmas.Bool.{eq-eqb}
-use Rattle.std.proofs.lemmas.List.{length-map}
-use Rattle.node_world.proofs.Words.{AtEnd, Comes, End, Entry, FewBehind, Happening, HostSite, IsHost, IsThere, IsWithinBounds, Line, LineOutcome, LinePlayed}
-use Rattle.node_world.proofs.Words.{MayGoOn, NextFrame, Occurrence, Power, Site, SitesAre, Takes, WorldBecomes, WorldHasGone, WorldIs, after_host, aged}
-use Rattle.node_world.proofs.Words.{all_aged, all_happen, by_coming, by_controller, by_controller_tick, by_host, can_happen, comes_at}
-use Rattle.node_world.proofs.Words.{controller_ticks, controller_work, end_c, end_h, ends_in_order, ends_take_all, entries_in, frames_at, frames_to, host_work}
-use Rattle.node_world.proofs.Words.{line_step, link_after_controller, link_to, near_tick, refusal_in, site_at, site_ticked, site_unticked, steps}
-use Rattle.node_world.proofs.Words.{world_round, world_step, world_ticks}
-use Rattle.node_machine.specs.world.World.{NodeWorld}
-use Rattle.node_machine.specs.world.Lines.{goes_on}
-use Rattle.node_machine.specs.world.Lines.LineOutcome.{Occurred}
-use Rattle.node_laws.specs.telling.Telling.{hosts_in}
+use Rattle.node_world.proofs.Words.{AllByRecursion, AtEnd, Bool, Comes, End, Entry, FewBehind, Happening, HostSite, IsHost, IsThere, IsWithinBounds, Line}
+use Rattle.node_world.proofs.Words.{LineOutcome, LinePlayed, List, MayGoOn, MayTakeAll, MayTakeInOrder, NextFrame, NodeWorld, None, Occurred, Occurrence, Power}
+use Rattle.node_world.proofs.Words.{Site, SitesAre, Some, Takes, WorldBecomes, WorldHasGone, WorldIs, [], after_host, aged, all_aged, all_happen, ap}
+use Rattle.node_world.proofs.Words.{append-nil, append_assoc, arith, by_coming, by_controller, by_controller_tick, by_host, can_happen, comes_at}
+use Rattle.node_world.proofs.Words.{controller_ticks, controller_work, end_c, end_h, end_takes_all, ends_in_order, ends_take_all, entries_in, eq-eqb, false}
+use Rattle.node_world.proofs.Words.{flat_map-append, frames_at, frames_to, get_or, goes_on, host_work, hosts_in, length, length-append, length-map, line_step}
+use Rattle.node_world.proofs.Words.{link_after_controller, link_to, map, near_tick, refl, refusal_in, replicate, site_at, site_ticked, site_unticked, steps}
+use Rattle.node_world.proofs.Words.{subst, suc, sym, true, world_round, world_step, world_ticks, zero, ℕ, ◌*◌, ◌++◌, ◌+◌, ◌<◌, ◌==◌, ◌∙◌, ◌∷◌, ◌≡◌, ◌≤◌}
 use Rattle.node_laws.proofs.telling.Lasting.{hosts_ticked, step_orderly}
-use Rattle.node_machine.specs.world.Rounds.{end_takes_all}
 use Rattle.node_laws.proofs.rounds.Allowing.{ends_of, order_is}
-use Rattle.node_world.specs.Rounds.{MayTakeAll, MayTakeInOrder}
 use Rattle.node_world.proofs.FewInWorlds.{few_behind_step, longer, few_behind_all}
 use Rattle.node_world.proofs.CountsStay.{repeats}
 use Rattle.node_world.proofs.SitesKept.{as_many}

@@ -1,19 +1,12 @@
 -- What is kept of hosts, one by one, as something happens to each of them.
-use Rattle.std.proofs.Common.{◌≡◌, ℕ, suc, ◌+◌, ◌<◌, ◌≤◌, List, [], ◌∷◌, ◌++◌, length, get_or, map, refl, ap, sym, subst, ◌∙◌, append_assoc, append-nil, arith}
-use Rattle.std.proofs.Common.{◌==◌, Bool, true, false, drop, ap₂, ◌≢◌, max, take}
-use Rattle.std.specs.Prelude.{slice_set, Some, None}
-use Rattle.std.specs.List.{flat_map, AllByRecursion}
-use Rattle.std.proofs.lemmas.List.{get_or_at, set_at, length-append, length-map, map-append, drop-set-lt, drop_more, length-take-le, get_or-set_same}
+use Rattle.std.proofs.lemmas.List.{drop-set-lt, drop_more, get_or-set_same, get_or_at, length-take-le, set_at}
 use Rattle.std.proofs.lemmas.List.{get_or-set_other, take-append-drop}
-use Rattle.std.proofs.lemmas.Grind.{flat_map-append}
-use Rattle.std.specs.Option.{option_map_or}
-use Rattle.std.proofs.lemmas.Bool.{eqb-false}
-use Rattle.node_world.proofs.Words.{AreDifferent, AreSessions, Control, Controller, Entry, HasOneEnd, HaveRoom, HostSite, IsHost, IsNodePlace, IsOnly, Link}
-use Rattle.node_world.proofs.Words.{NumberedEnd, Port, Site, SiteIs, SitesAre, StandsAt, Wires, WiresStandFor, changed_if, entries_for, frames_emitted}
-use Rattle.node_world.proofs.Words.{frames_out, number_of, port_at, put_all, puts_entries, sent_port, sent_to, site_at, swapped, with_port}
-use Rattle.node_laws.specs.telling.Telling.{hosts_in}
-use Rattle.node_sites.specs.FramesOut.{SendsFrom}
-use Rattle.node_world.specs.Controllers.{due_at, has_frames}
+use Rattle.node_world.proofs.Words.{AllByRecursion, AreDifferent, AreSessions, Bool, Control, Controller, Entry, HasOneEnd, HaveRoom, HostSite, IsHost}
+use Rattle.node_world.proofs.Words.{IsNodePlace, IsOnly, Link, List, None, NumberedEnd, Port, SendsFrom, Site, SiteIs, SitesAre, Some, StandsAt, Wires}
+use Rattle.node_world.proofs.Words.{WiresStandFor, [], ap, append-nil, append_assoc, ap₂, arith, changed_if, drop, due_at, entries_for, eqb-false, false}
+use Rattle.node_world.proofs.Words.{flat_map, flat_map-append, frames_emitted, frames_out, get_or, has_frames, hosts_in, length, length-append, length-map, map}
+use Rattle.node_world.proofs.Words.{map-append, max, number_of, option_map_or, port_at, put_all, puts_entries, refl, sent_port, sent_to, site_at, slice_set}
+use Rattle.node_world.proofs.Words.{subst, suc, swapped, sym, take, true, with_port, ℕ, ◌++◌, ◌+◌, ◌<◌, ◌==◌, ◌∙◌, ◌∷◌, ◌≡◌, ◌≢◌, ◌≤◌}
 use Rattle.node_world.proofs.EndsGo.{all_far}
 
 pub as_many : (ks : List HostSite) (sites : List Site) → SitesAre ks sites → length ks ≡ length sites

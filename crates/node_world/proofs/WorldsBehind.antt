@@ -1,45 +1,38 @@
 -- What may stand below a header of nodes is what the laws of worlds of nodes ask for.
-use Rattle.std.proofs.Common.{◌≡◌, ℕ, ◌<◌, ◌==◌, false, List, [], ◌∷◌, sym, arith, Bool, true, ◌++◌, refl, subst, ◌≢◌, zero, suc, ◌+◌, ◌≤◌, ◌∙◌, length, ap}
-use Rattle.std.proofs.Common.{append_assoc}
-use Rattle.std.specs.Prelude.{Some, None, ◌||◌, Option, not, ◌&&◌, if◌then◌else◌}
-use Rattle.std.specs.List.{AllByRecursion, list_any, filter, range_with_len}
+use Rattle.std.specs.Prelude.{if◌then◌else◌, ◌||◌}
+use Rattle.std.specs.List.{filter, range_with_len}
 use Rattle.std.specs.List.Sorted.{IsStrictlySortedBy}
 use Rattle.std.specs.declared.cmp.Ordering.TheVariants.{Less}
 use Rattle.std.specs.Ordering.{nat_cmp}
-use Rattle.std.proofs.lemmas.Bool.{ne_eqb, true≢false, eq-eqb}
 use Rattle.std.proofs.lemmas.Cmp.{ranked}
 use Rattle.std.proofs.lemmas.List.Elements.{recursion_from_All}
 use Rattle.std.proofs.lemmas.Map.Keys.{sorted_head, sorted_tail, sorted_from_strictly_increasing}
-use Rattle.std.specs.Option.{option_map, option_map_or}
-use Rattle.std.proofs.lemmas.List.{length-map}
-use Rattle.node_world.proofs.Words.{AreTimely, End, Entry, FewBehind, FollowsNodes, Header, IsHost, IsNodeHeader, IsNodeOf, IsPlayable, IsPlayedLine}
-use Rattle.node_world.proofs.Words.{IsSentByHost, IsSoundMemory, Line, MayGoOn, MayPlay, Memory, NodeHistory, NoneIsMisread, Running, Side, Site, after-append}
-use Rattle.node_world.proofs.Words.{after_planned, boot_found, boot_writes, boot_written, boots, count_of, current, ends_in_order, ends_take_all, fails_within}
-use Rattle.node_world.proofs.Words.{frames_at, has, host_cut, is_clear, is_running, loses_power_at, mask_of, memory_at, new_world, node_at, node_of}
-use Rattle.node_world.proofs.Words.{nodes_behind, site_at, started_state, state_of, with_memory, with_node, with_site}
+use Rattle.std.specs.Option.{option_map}
+use Rattle.node_world.proofs.Words.{AllByRecursion, AreTimely, Bool, End, Entry, FewBehind, FollowsNodes, Header, IsHost, IsNodeHeader, IsNodeOf, IsPlayable}
+use Rattle.node_world.proofs.Words.{IsPlayedLine, IsSentByHost, IsSoundMemory, KeepsSome, Line, List, MayGoOn, MayGoRound, MayPlay, Memory, NodeHistory}
+use Rattle.node_world.proofs.Words.{NodeWorld, None, NoneIsMisread, Option, Running, Side, Site, Some, State, [], after-append, after_planned, ap, append_assoc}
+use Rattle.node_world.proofs.Words.{arith, boot_found, boot_writes, boot_written, boots, close, count_of, current, ends_in_order, ends_take_all, eq-eqb}
+use Rattle.node_world.proofs.Words.{fails_within, false, frames_at, host_cut, hosts_in, is_clear, is_running, length, length-map, list_any, loses_power_at}
+use Rattle.node_world.proofs.Words.{mask_of, memory_at, ne_eqb, new_world, node_at, node_of, nodes_behind, not, option_map_or, refl, site_at, started_state}
+use Rattle.node_world.proofs.Words.{state_by, state_of, steps_from, subst, suc, sym, tables_of, true, true≢false, with_memory, with_node, with_site}
+use Rattle.node_world.proofs.Words.{world_after, zero, ℕ, ◌&&◌, ◌++◌, ◌+◌, ◌<◌, ◌==◌, ◌∙◌, ◌∷◌, ◌≡◌, ◌≢◌, ◌≤◌}
+use Rattle.gate_admin.specs.View.{has}
 use Rattle.trace_model.specs.Lines.{MayFollow}
 use Rattle.trace_model.specs.declared.line.Line.TheVariants as line
-use Rattle.node_machine.specs.world.World.{NodeWorld}
-use Rattle.node_machine.specs.world.NodeHistories.{occurrences_in, steps_from, world_after}
-use Rattle.node_laws.specs.telling.Telling.{hosts_in}
+use Rattle.node_machine.specs.world.NodeHistories.{occurrences_in}
 use Rattle.node_laws.specs.links.Runs.{ArePlayable}
 use Rattle.node_laws.proofs.order.Lines.{watches, of_none, IsSo, all_so_behind, behind_history}
 use Rattle.node_laws.proofs.order.Ticking.{timely}
 use Rattle.lines_told.proofs.lines.Told.{all-append, sure-append, sure_round, takes_so}
-use Rattle.node_sites.specs.Memories.{KeepsSome}
 use Rattle.gate_admin.specs.View.{hosts_where}
 use Rattle.node_laws.proofs.steps.StepWalks.{is_in_mask}
 use Rattle.node_laws.proofs.links.Noticing.{from_mask}
 use Rattle.trace_model.specs.declared.entry.Entry.TheVariants as entry
-use Rattle.journal_laws.specs.declared.state.State.{State}
 use Rattle.journal_laws.specs.Banks.{other, is_opened_gate, head}
-use Rattle.journal_laws.specs.Journal.{unformatted, journal_at, state_by, count}
-use Rattle.hci_tables.specs.Tables.{close}
-use Rattle.hci_store.specs.Image.{tables_of}
+use Rattle.journal_laws.specs.Journal.{count, journal_at, unformatted}
 use Rattle.lines_told.specs.lines.Plays.{round_in, taking_in}
 use Rattle.node_world.specs.Whole.{after_ticks}
 use Rattle.node_world.specs.Worlds.{IsPeekedSo, at_rest}
-use Rattle.node_world.specs.Rounds.{MayGoRound}
 use Rattle.node_world.proofs.MemoriesKeep.{keeps_at_first, keeps_behind_lines, controller_in_order, hosts_in_order}
 pub use Rattle.node_laws.proofs.schedules.Ranges.{hosts_are as are_hosts}
 pub use Rattle.node_laws.proofs.schedules.Ranges.{hosts_few as links_few}

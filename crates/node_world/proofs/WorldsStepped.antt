@@ -1,33 +1,30 @@
 -- Few RSETs are put on the links of a world behind plays, and few fragments count as acknowledged at their ends: in a round time passes once
 -- and each end takes what stands on its wire, and a line has time pass a hundred times at most, or one end take frames.
-use Rattle.std.proofs.Common.{◌≡◌, inr, ℕ, suc, ◌+◌, ◌<◌, ◌==◌, true, false, Bool, List, [], ◌∷◌, ◌++◌, get_or, map, refl, ap, sym, subst, ◌∙◌, arith, zero}
-use Rattle.std.proofs.Common.{◌*◌, ◌≤◌, cond, length}
-use Rattle.std.specs.Prelude.{Option, Some, None, Result, Ok, Err, IfOk, OnOk, replicate, is_some, unwrap_or}
-use Rattle.std.specs.List.{AllByRecursion, list_any, fold}
-use Rattle.std.proofs.lemmas.Result.{on_ok_weaker}
-use Rattle.node_world.proofs.Words.{Activates, AreFewWithParts, AreTimely, Arms, AtController, Boots, End, Entry, FewBehind, FewOnEach, Gives, Happening}
-use Rattle.node_world.proofs.Words.{Header, HostSite, Inits, IsCut, IsNodeHeader, IsNodeOf, IsPlayFor, IsPlayable, IsPlayedLine, Line, LineOutcome, LinePlayed}
-use Rattle.node_world.proofs.Words.{Loses, MayGoOn, MayPlay, Memory, NoCause, Occurrence, Off, OnDemand, Play, Resets, Round, Said, Site}
-use Rattle.node_world.proofs.Words.{SiteIs, SitesAre, StandsAt, Takes, Ticks, WasRefused, WorldHasGone, after-append, all_happen, can_happen}
-use Rattle.node_world.proofs.Words.{ends_in_order, ends_take_all, entries_in, frames_at, hosts_stay_behind, if_off, kept_is, line_step}
-use Rattle.node_world.proofs.Words.{lines_may_be_played, lines_played, lines_said, mask_of, memory_at, memory_kept, misread_in, new_site, new_world}
-use Rattle.node_world.proofs.Words.{nodes_behind, refusal_in, round_behind, rounds_played, site_at, taken_of, world_round, world_step}
-use Rattle.gate_admin.specs.View.{hosts_where}
+use Rattle.std.specs.Prelude.{Err}
+use Rattle.node_world.proofs.Words.{Activates, AllByRecursion, AreTimely, Arms, AtController, Bool, Boots, End, Entry, FewBehind, FewOnEach, Gives, Happening}
+use Rattle.node_world.proofs.Words.{Header, HostSite, IfOk, Inits, IsCut, IsMisreadIn, IsNodeHeader, IsNodeOf, IsPlayFor, IsPlayable, IsPlayedLine, Line}
+use Rattle.node_world.proofs.Words.{LineOutcome, LinePlayed, List, Loses, LostFor, Machine, MayGoOn, MayGoRound, MayPlay, Memory, Misread, NoCause, None}
+use Rattle.node_world.proofs.Words.{Occurrence, Off, Ok, OnDemand, OnOk, Option, Play, Resets, Result, Round, Said, Same, Site, SiteIs, SitesAre, Some}
+use Rattle.node_world.proofs.Words.{StandsAt, Takes, Ticks, WasRefused, WorldHasGone, [], after-append, all_happen, ap, arith, can_happen, cond, end_takes_all}
+use Rattle.node_world.proofs.Words.{ends_in_order, ends_take_all, entries_in, false, first_verdict, fold, frames_at, get_or, goes_on, hosts_stay_behind}
+use Rattle.node_world.proofs.Words.{hosts_where, if_off, inr, is_some, kept_is, length, line_step, lines_may_be_played, lines_of_play, lines_played, lines_said}
+use Rattle.node_world.proofs.Words.{list_any, map, mask_of, memory_at, memory_kept, misread_in, new_memory, new_site, new_world, nodes_behind, on_ok_weaker}
+use Rattle.node_world.proofs.Words.{refl, refusal_in, replicate, round_behind, site_at, subst, suc, sym, taken_of, true, unwrap_or, world_round, world_step}
+use Rattle.node_world.proofs.Words.{zero, ℕ, ◌*◌, ◌++◌, ◌+◌, ◌<◌, ◌==◌, ◌∙◌, ◌∷◌, ◌≡◌, ◌≤◌}
+use Rattle.node_world.specs.Worlds.{AreFewWithParts}
+use Rattle.lines_told.specs.lines.Plays.{rounds_played}
 use Rattle.history.specs.Histories.{noted}
-use Rattle.history.specs.Follows.{first_verdict}
-use Rattle.node_machine.specs.world.World.{NodeWorld as Machine, new_memory}
-use Rattle.node_machine.specs.world.Lines.{goes_on, happens_by}
+use Rattle.node_machine.specs.world.Lines.{happens_by}
 use Rattle.lines_told.specs.lines.Below.{told_below}
-use Rattle.lines_told.specs.lines.Plays.{told_of_play, lines_of_play, AreFewPlays}
+use Rattle.lines_told.specs.lines.Plays.{AreFewPlays, told_of_play}
 use Rattle.lines_told.proofs.lines.Told.{for_with, no_more_rounds, no_more_said, one_round, one_said, played_round, played_said, sure_with_round}
 use Rattle.lines_told.proofs.lines.Told.{sure_with_said, told_round, round_behind_goes}
-use Rattle.link_wires.specs.declared.finding.Misread.{Misread}
 use Rattle.trace_model.specs.declared.line.Line.TheVariants as line
 use Rattle.link_laws.specs.messages.Links.{AllAllowed, LinkEvent, after_link_events}
 use Rattle.link_laws.specs.messages.Links.LinkEvent.{AtHost}
 use Rattle.history.specs.Damage.{Verdict}
-use Rattle.history.specs.Damage.Verdict.{Same, LostFor, Undetected}
-use Rattle.node_machine.specs.world.Rounds.{end_takes_all, world_after_round}
+use Rattle.history.specs.Damage.Verdict.{Undetected}
+use Rattle.node_machine.specs.world.Rounds.{world_after_round}
 use Rattle.node_laws.specs.acked.AckedRounds.{AreAckedWithin, HostAcksAtMost, taken_in}
 use Rattle.node_laws.specs.acked.InTurn.{AcksAtMost, AllAtController, AllAtHost, IsAckedWithin}
 use Rattle.node_laws.specs.rounds.LinkEvents.{link_events_in}
@@ -40,9 +37,7 @@ use Rattle.node_laws.proofs.links.Worlds.{MayHappen, runs_then}
 use Rattle.node_laws.proofs.rounds.Allowing.{all_go, on_allowed, takes_pass}
 use Rattle.node_laws.proofs.rsets.InWorlds.{each_longer, few_behind_step, few_in_new_world}
 use Rattle.node_world.specs.declared.worlds.NodeWorld.{NodeWorld}
-use Rattle.node_world.specs.Rounds.{MayGoRound}
 use Rattle.node_world.specs.Worlds.{IsNodeWorldBehind, HasRoomForNodeLine, HasRoomForRound, nodes_entries, IsPeekedSo}
-use Rattle.node_world.specs.Whole.{IsMisreadIn}
 use Rattle.node_world.proofs.HostsInWorlds.{site_stands, nowhere}
 use Rattle.node_world.proofs.SitesKept.{read_there}
 use Rattle.node_world.proofs.WorldsBehind.{peeked, masked, may_go_round, may_play, are_playable, goes_on_behind, node_there, sound_behind, timely_behind}

@@ -1,24 +1,20 @@
 -- A tick of the controller: how it begins, how what it notes is numbered, and what is behind it.
-use Rattle.std.proofs.Common.{◌≡◌, ℕ, Bool, true, false, not, List, [], ◌∷◌, get_or, map, refl, ap, sym, subst, ◌∙◌, append-nil, ◌==◌, ◌++◌, append_assoc}
-use Rattle.std.proofs.Common.{arith}
-use Rattle.std.specs.Prelude.{Option, Some, None, Result, OnOk}
-use Rattle.std.specs.List.{AllByRecursion, flat_map}
-use Rattle.node_world.proofs.Words.{AreNumbered, AreSessions, AreTimely, AreToTick, BeginsOver, Clf, CountsFew, CountsOn, CutOff, Desk, Ending}
-use Rattle.node_world.proofs.Words.{Entry, FewAreCounted, FewOn, FewOnEach, GoesOnWith, GoesOut, HasEnds, HasGone, HostSite, IfItRuns, IfOff, IsHost, IsHostOf}
-use Rattle.node_world.proofs.Words.{IsNodePlace, IsWithinBounds, Link, MayGoOn, MayTick, Memory, Node, NumberedEnd, Off, On, Power, Running, SameWires}
-use Rattle.node_world.proofs.Words.{Site, SiteIs, SitesAre, Tick, TimePasses, Uicc, WentOffWith, Work, WorldBecomes, WorldIs, after_input, after_planned}
-use Rattle.node_world.proofs.Words.{aged, all_aged, by_controller_tick, by_host_tick, controller_ticks, ending_of, exchanged, frames_out, host_tick}
-use Rattle.node_world.proofs.Words.{host_ticks, hosts_of_ends, hosts_tick, is_late_at, link_is, link_to, near_tick, near_ticks, new_clf, new_desk}
-use Rattle.node_world.proofs.Words.{new_link_end, new_uicc, node_memory, number_of, on_ok, port_for, site_at, site_ticked, site_unticked, ticked_so}
-use Rattle.node_world.proofs.Words.{ticks_at_controller, turns_at, work_numbers, work_of, world_ticks}
-use Rattle.node_machine.specs.world.World.{NodeWorld}
+use Rattle.node_world.proofs.Words.{AllByRecursion, AreNumbered, AreSessions, AreTimely, AreToTick, BeginsOver, Bool, Clf, CountsFew, CountsOn, CutOff, Desk}
+use Rattle.node_world.proofs.Words.{Ending, EndsStep, Entry, FewAreCounted, FewOn, FewOnEach, GoesOnWith, GoesOut, HasEnds, HasGone, HostSite, IfItRuns, IsHost}
+use Rattle.node_world.proofs.Words.{IsHostOf, IsNodePlace, IsWithinBounds, Link, List, MayGoOn, MayTick, Memory, Node, NodeWorld, None, NoneDue, NumberedEnd}
+use Rattle.node_world.proofs.Words.{Off, On, OnOk, Option, Power, Result, Running, SameWires, Site, SiteIs, SitesAre, Some, Tick, TimePasses, Uicc, WentOffWith}
+use Rattle.node_world.proofs.Words.{Work, WorldBecomes, WorldIs, [], after_input, after_planned, aged, all_aged, ap, append-nil, append_assoc, arith}
+use Rattle.node_world.proofs.Words.{by_controller_tick, by_host_tick, controller_ticks, ending_of, exchanged, false, flat_map, frames_out, get_or, host_tick}
+use Rattle.node_world.proofs.Words.{host_ticks, hosts_in, hosts_of_ends, hosts_tick, is_late_at, link_is, link_to, map, near_tick, near_ticks, new_clf}
+use Rattle.node_world.proofs.Words.{new_desk, new_link_end, new_uicc, node_memory, not, number_of, on_ok, port_for, refl, site_at, site_ticked, site_unticked}
+use Rattle.node_world.proofs.Words.{stepped, subst, sym, ticked_so, ticks_at_controller, true, turns_at, work_numbers, work_of, world_ticks, ℕ, ◌++◌, ◌==◌, ◌∙◌}
+use Rattle.node_world.proofs.Words.{◌∷◌, ◌≡◌}
+use Rattle.node_laws.specs.telling.Telling.{IfOff}
 use Rattle.node_machine.proofs.world.Cases.{after_near_tick}
-use Rattle.node_laws.specs.telling.Telling.{hosts_in, IsTimely, NoneDue}
+use Rattle.node_laws.specs.telling.Telling.{IsTimely}
 use Rattle.node_laws.proofs.telling.Steps.{tick_keeps}
 use Rattle.node_laws.proofs.telling.Events.{hosts_same_of_nodes as hosts_same, orderly_map}
-use Rattle.node_sites.proofs.Numbered.{stepped}
 use Rattle.node_laws.proofs.telling.WorldTicks.{tick_host}
-use Rattle.node_world.specs.Controllers.{EndsStep}
 use Rattle.node_world.specs.Whole.{SitesTick}
 use Rattle.node_world.proofs.EndsGo.{same_stand, same_twice, each_found, all_far, ticks_on, NearTicks, controller_end_ticks}
 use Rattle.node_world.proofs.HostsDo.{becomes_same}

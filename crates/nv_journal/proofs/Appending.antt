@@ -1,11 +1,10 @@
 -- One more record in a memory that says what a journal keeps of it.
-use Rattle.std.proofs.Common.{◌≡◌, ℕ, List, [], ◌∷◌, ◌++◌, Result, Ok, Err, OnErr, IsSome, sym, ap, subst}
-use Rattle.journal_laws.specs.declared.state.State.{State}
-use Rattle.journal_laws.specs.Writes.{Write, after_writes, IsCut}
-use Rattle.journal_laws.specs.Journal.{Journal, records, state_of, IsStarted}
-use Rattle.journal_laws.specs.Operations.{append_writes, HasRoomForBody, appended, IsAllOrNothing, LeftByCut}
+use Rattle.std.proofs.Common.{IsSome, OnErr}
+use Rattle.nv_journal.proofs.Words.{Err, HasRoomForBody, IsAllOrNothing, IsStarted, Journal, LeftByCut, List, Ok, Result, Says, State, [], after_writes, ap}
+use Rattle.nv_journal.proofs.Words.{append_writes, records, state_of, subst, sym, ℕ, ◌++◌, ◌∷◌, ◌≡◌}
+use Rattle.journal_laws.specs.Writes.{IsCut, Write}
+use Rattle.journal_laws.specs.Operations.{appended}
 use Rattle.journal_laws.proofs.Opening.{append_whole, append_says, append_cut, append_started}
-use Rattle.nv_journal.specs.Kept.{Says}
 
 pub started_of : (content : List ℕ) (state : State) → Says content state → IsSome state.in_use → IsStarted content
 started_of content state says some = record {

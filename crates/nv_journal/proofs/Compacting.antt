@@ -1,14 +1,12 @@
 -- A snapshot in the place of the records of a memory that says what a journal keeps of it.
-use Rattle.std.proofs.Common.{◌≡◌, ℕ, ◌+◌, Bool, false, List, [], ◌∷◌, ◌++◌, Some, Result, Ok, Err, IsErr, is_ok, sym, refl, ap, ap₂, ◌∙◌, subst}
-use Rattle.std.specs.Option.{option_map_or}
-use Rattle.journal_laws.specs.declared.banks.Side.{Side}
-use Rattle.journal_laws.specs.declared.state.State.{State}
-use Rattle.journal_laws.specs.Writes.{write, after_writes, AreMade}
-use Rattle.journal_laws.specs.Banks.{other, bank_place}
-use Rattle.journal_laws.specs.Journal.{Journal, records, state_of, count_of, IsStarted}
-use Rattle.journal_laws.specs.Operations.{bank_bytes, open_bank, close_bank, compact_writes, CanCompact, compacted, IsAllOrNothing}
+use Rattle.std.proofs.Common.{IsErr, is_ok}
+use Rattle.nv_journal.proofs.Words.{AreMade, Bool, Err, IsAllOrNothing, IsStarted, Journal, List, Ok, Result, Says, Side, Some, State, [], after_writes, ap}
+use Rattle.nv_journal.proofs.Words.{ap₂, bank_bytes, bank_place, compact_writes, false, option_map_or, other, records, refl, state_of, subst, sym, ℕ, ◌++◌, ◌+◌}
+use Rattle.nv_journal.proofs.Words.{◌∙◌, ◌∷◌, ◌≡◌}
+use Rattle.journal_laws.specs.Writes.{write}
+use Rattle.journal_laws.specs.Journal.{count_of}
+use Rattle.journal_laws.specs.Operations.{CanCompact, close_bank, compacted, open_bank}
 use Rattle.journal_laws.proofs.Opening.{compact_whole, compact_says, compact_cut, compact_started}
-use Rattle.nv_journal.specs.Kept.{Says}
 use Rattle.nv_journal.proofs.Appending.{started_of, says_started}
 
 pub not_ok : {T E : Type 0} (r : Result T E) → IsErr r → is_ok r ≡ false

@@ -1,14 +1,8 @@
 -- A format of a memory where no bank is in use.
-use Rattle.std.proofs.Common.{◌≡◌, ℕ, false, List, Option, Some, None, is_some, sym, refl, ap, ◌∙◌}
-use Rattle.std.proofs.lemmas.Bool.{true≢false}
-use Rattle.journal_laws.specs.declared.banks.Side.{Side}
-use Rattle.journal_laws.specs.declared.state.State.{State}
-use Rattle.journal_laws.specs.Writes.{after_writes}
-use Rattle.journal_laws.specs.Journal.{Journal, records}
-use Rattle.journal_laws.specs.Operations.{format_writes, formatted, IsUnformatted, IsAllOrNothing}
-use Rattle.journal_laws.proofs.InUse.{no_journal}
+use Rattle.nv_journal.proofs.Words.{IsAllOrNothing, Journal, List, None, Option, Says, Side, Some, State, after_writes, ap, false, format_writes, is_some}
+use Rattle.nv_journal.proofs.Words.{no_journal, records, refl, sym, true≢false, ℕ, ◌∙◌, ◌≡◌}
+use Rattle.journal_laws.specs.Operations.{IsUnformatted, formatted}
 use Rattle.journal_laws.proofs.Opening.{format_is_whole, format_state, format_is_cut, format_started}
-use Rattle.nv_journal.specs.Kept.{Says}
 use Rattle.nv_journal.proofs.Appending.{says_started}
 
 pub none_of : (o : Option Side) → is_some o ≡ false → o ≡ None

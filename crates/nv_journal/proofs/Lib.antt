@@ -1,3 +1,4 @@
+mod Words
 pub mod Appending
 pub mod Snapshotting
 pub mod Compacting

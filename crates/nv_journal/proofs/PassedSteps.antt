@@ -1,30 +1,22 @@
 -- The gate that comes next in a pass, by the bytes ahead, and the reads of a pass.
-use Rattle.std.proofs.Common.{◌≡◌, ◌⊎◌, inl, inr, ℕ, zero, suc, ◌+◌, ◌-◌, ◌*◌, ◌<◌, ◌≤◌, ◌==◌, ◌||◌, ◌&&◌, min, Bool, true, false, cond, nat_le, nat_lt, List}
-use Rattle.std.proofs.Common.{[], ◌∷◌, ◌++◌, length, take, drop, slice_index, slice_range, slice_get, Option, Some, None, IsTrue, sym, refl, ap, ap₂, ◌∙◌}
-use Rattle.std.proofs.Common.{subst, arith, append_assoc, append-nil, length-append, length-take, length-drop, take-take, take_at, add-zero, zero-add, suc-add}
+use Rattle.std.proofs.Common.{take_at}
 use Rattle.std.proofs.Common.{add_assoc, if◌then◌else◌}
-use Rattle.std.specs.Option.{option_map_or}
-use Rattle.std.specs.Int.{w16, from_be_bytes}
-use Rattle.std.proofs.lemmas.List.{drop-take, drop-drop}
-use Rattle.std.proofs.lemmas.Bool.{cases_lt, true≢false}
-use Rattle.nv_journal.specs.declared.JournalFault.TheVariants.{UnknownFormat, BadRecord}
+use Rattle.std.proofs.lemmas.List.{drop-take}
+use Rattle.nv_journal.proofs.Words.{AreRead, BadRecord, Bool, Found, IsFilled, IsPassed, IsReadSoFar, IsTrue, Journal, List, None, Option, Says, SaysSoFar}
+use Rattle.nv_journal.proofs.Words.{Scanned, Side, Some, State, UnknownFormat, [], add-zero, ap, append-nil, append_assoc, ap₂, arith, bank, bank_place, behind}
+use Rattle.nv_journal.proofs.Words.{body, cases_lt, cond, current, drop, drop-drop, false, fault, found_from, found_in, from_be_bytes, gap, gate_at, gate_of}
+use Rattle.nv_journal.proofs.Words.{head, index_len, inl, inr, is_opened_gate, journal, journal_at, journal_in_use, left, length, length-append, length-bank}
+use Rattle.nv_journal.proofs.Words.{length-drop, length-take, min, nat_le, nat_lt, next_gate, next_place, no_journal, one_more_read, option_map_or, other}
+use Rattle.nv_journal.proofs.Words.{reads_up_to, records, refl, size_in, slice_get, slice_index, slice_range, subst, suc, suc-add, sym, take, take-take, true}
+use Rattle.nv_journal.proofs.Words.{true≢false, w16, zero, zero-add, ℕ, ◌&&◌, ◌*◌, ◌++◌, ◌+◌, ◌-◌, ◌<◌, ◌==◌, ◌||◌, ◌∙◌, ◌∷◌, ◌≡◌, ◌≤◌, ◌⊎◌}
 use Rattle.nv_journal.specs.declared.gates.Gate.{Gate}
 use Rattle.nv_journal.specs.declared.gates.Gate.TheVariants.{Closed, Bad, Record}
-use Rattle.nv_journal.specs.Faults.{fault, IsFaulty}
-use Rattle.nv_journal.specs.Gates.{gate_of}
-use Rattle.nv_journal.specs.Kept.{Says}
-use Rattle.nv_journal.specs.Scanning.{passed_on, IsPassed, SaysSoFar, IsFilled, Scanned, IsReadSoFar}
+use Rattle.nv_journal.specs.Faults.{IsFaulty}
+use Rattle.nv_journal.specs.Scanning.{passed_on}
 use Rattle.nv_journal.proofs.Snapshotting.{size_in-append}
-use Rattle.journal_laws.specs.declared.banks.Side.{Side}
-use Rattle.journal_laws.specs.declared.state.State.{State}
-use Rattle.journal_laws.specs.Banks.{other, bank_place, bank, is_opened_gate, head, current}
-use Rattle.journal_laws.specs.Records.{index_len, gap, body, is_record, Found, nothing_found, bad, behind, found_from, size_in}
-use Rattle.journal_laws.specs.Journal.{Journal, found_in, journal_at, journal, records, gate_at, next_gate, next_place, left}
-use Rattle.journal_laws.proofs.Places.{length-bank}
+use Rattle.journal_laws.specs.Records.{bad, is_record, nothing_found}
 use Rattle.journal_laws.proofs.Reading.{window, first, is_good_parts, found_good, bad_found, found_closed}
-use Rattle.journal_laws.proofs.InUse.{journal_in_use, state_at, no_journal}
-use Rattle.journal_laws.specs.Writes.{AreRead}
-use Rattle.journal_laws.proofs.ReadFirst.{one_more_read, reads_up_to}
+use Rattle.journal_laws.proofs.InUse.{state_at}
 
 -- ---- the first bytes decide
 

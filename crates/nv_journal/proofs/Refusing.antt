@@ -1,16 +1,10 @@
 -- Why a start is refused.
-use Rattle.std.proofs.Common.{◌≡◌, ◌⊎◌, inl, inr, ℕ, ◌+◌, ◌≤◌, Bool, true, false, List, [], Some, None, Result, Err, IsTrue, sym, ap, ◌∙◌, subst, arith}
+use Rattle.nv_journal.proofs.Words.{AreMade, AreRead, Bool, Err, IsReadSoFar, IsTrue, LeftByCut, List, None, Result, Says, Scanned, Some, State, [], ap, arith}
+use Rattle.nv_journal.proofs.Words.{false, fault, format_writes, inl, inr, option_map_or, reads_up_to, subst, sym, true, ℕ, ◌+◌, ◌∙◌, ◌≡◌, ◌≤◌, ◌⊎◌}
 use Rattle.swp_base.specs.Outside.{Rose}
 use Rattle.nv_journal.specs.declared.JournalFault.{JournalFault}
 use Rattle.nv_journal.specs.declared.JournalFault.TheVariants.{NvFault}
-use Rattle.journal_laws.specs.Writes.{AreRead, AreMade}
-use Rattle.journal_laws.proofs.ReadFirst.{reads_up_to}
-use Rattle.nv_journal.specs.Faults.{fault}
-use Rattle.nv_journal.specs.Scanning.{Scanned, IsReadSoFar}
-use Rattle.std.specs.Option.{option_map_or}
-use Rattle.journal_laws.specs.declared.state.State.{State}
-use Rattle.journal_laws.specs.Operations.{format_writes, start_writes, started_state, LeftByCut}
-use Rattle.nv_journal.specs.Kept.{Says}
+use Rattle.journal_laws.specs.Operations.{start_writes, started_state}
 use Rattle.nv_journal.specs.Refusals.{IsImageFault, IsRefused, IsOpened, IsUnformattable}
 
 abbrev pub failed : {T : Type 0} → JournalFault → Result T JournalFault

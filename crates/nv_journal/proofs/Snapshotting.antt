@@ -1,10 +1,9 @@
 -- The bytes of a snapshot.
-use Rattle.std.proofs.Common.{◌≡◌, ℕ, ◌+◌, ◌≤◌, List, [], ◌∷◌, ◌++◌, length, sym, refl, ap, ap₂, ◌∙◌, subst, arith, append_assoc, append-nil, length-append}
-use Rattle.std.proofs.Common.{add-zero, zero-add, ◌-◌}
 use Rattle.std.specs.List.{AllByRecursion}
-use Rattle.journal_laws.specs.Records.{IsBody, Found, behind, found_from, record_bytes, records_bytes, size_in, used}
+use Rattle.nv_journal.proofs.Words.{AreRecords, Found, List, [], add-zero, ap, append-nil, append_assoc, ap₂, arith, behind, bodies_of, length, length-append}
+use Rattle.nv_journal.proofs.Words.{record_bytes, refl, size_in, subst, sym, used, zero-add, ℕ, ◌++◌, ◌+◌, ◌-◌, ◌∙◌, ◌∷◌, ◌≡◌, ◌≤◌}
+use Rattle.journal_laws.specs.Records.{IsBody, found_from, records_bytes}
 use Rattle.journal_laws.proofs.Reading.{found_closed, records_are_read, length-records_bytes, few_records}
-use Rattle.nv_journal.specs.Snapshots.{bodies_of, AreRecords}
 
 records_bytes-append : (position : ℕ) (bodies : List (List ℕ)) (body : List ℕ)
     → records_bytes position (bodies ++ body ∷ []) ≡ records_bytes position bodies ++ 90 ∷ record_bytes (position + length bodies) body

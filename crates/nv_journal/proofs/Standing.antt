@@ -1,21 +1,14 @@
 -- Where the records of a memory stand.
-use Rattle.std.proofs.Common.{◌≡◌, ◌⊎◌, inl, inr, ℕ, zero, suc, ◌+◌, ◌-◌, ◌<◌, ◌≤◌, ◌==◌, ◌||◌, ◌&&◌, min, Bool, true, false, nat_le, nat_lt, List, [], ◌∷◌}
-use Rattle.std.proofs.Common.{length, take, drop, slice_index, slice_range, slice_get, Option, Some, None, sym, refl, ap, ap₂, ◌∙◌, subst, arith, length-take}
-use Rattle.std.proofs.Common.{length-drop, take-take, suc-add, add-zero, cond}
-use Rattle.std.specs.Option.{option_map_or}
-use Rattle.std.specs.Int.{w16, from_be_bytes}
-use Rattle.std.proofs.lemmas.List.{drop-drop}
-use Rattle.std.proofs.lemmas.Bool.{cases_Bool, cases_lt, and_parts, leb-true, ltb-true}
-use Rattle.journal_laws.specs.declared.banks.Side.{Side}
-use Rattle.journal_laws.specs.declared.state.State.{State}
-use Rattle.journal_laws.specs.Banks.{bank_place, bank, is_opened_gate, head, current}
-use Rattle.journal_laws.specs.Records.{index_len, gap, body, is_good_record, Found, behind, found_from, size_in}
-use Rattle.journal_laws.specs.Journal.{Journal, unformatted, found_in, journal_at, journal, records, gate_at, next_place, left}
-use Rattle.journal_laws.proofs.Places.{length-bank}
+use Rattle.std.proofs.lemmas.Bool.{and_parts, cases_Bool, leb-true, ltb-true}
+use Rattle.nv_journal.proofs.Words.{Bool, Found, Journal, List, None, Option, Says, Side, Some, State, [], add-zero, ap, ap₂, arith, bank, bank_place, behind}
+use Rattle.nv_journal.proofs.Words.{body, cases_lt, cond, current, drop, drop-drop, false, found_in, from_be_bytes, gap, gate_at, head, index_len, inl, inr}
+use Rattle.nv_journal.proofs.Words.{is_opened_gate, journal, journal_at, journal_in_use, left, length, length-bank, length-drop, length-take, min, nat_le}
+use Rattle.nv_journal.proofs.Words.{nat_lt, next_place, no_journal, option_map_or, records, refl, size_in, slice_get, slice_index, slice_range, subst, suc}
+use Rattle.nv_journal.proofs.Words.{suc-add, sym, take, take-take, true, unformatted, w16, zero, ℕ, ◌&&◌, ◌+◌, ◌-◌, ◌<◌, ◌==◌, ◌||◌, ◌∙◌, ◌∷◌, ◌≡◌, ◌≤◌, ◌⊎◌}
+use Rattle.journal_laws.specs.Records.{found_from, is_good_record}
 use Rattle.journal_laws.proofs.Reading.{window, first, is_good_parts, found_good, bad_found, found_closed}
-use Rattle.journal_laws.proofs.InUse.{journal_in_use, no_journal}
 use Rattle.nv_journal.specs.Gates.{len_of}
-use Rattle.nv_journal.specs.Kept.{Says, IsGateOf}
+use Rattle.nv_journal.specs.Kept.{IsGateOf}
 
 -- ---- in a bank
 

@@ -1,41 +1,40 @@
 -- A node that runs alone: its steps, the frames that it sends, and what comes of what comes to it.
-use Rattle.std.proofs.Common.{◌≡◌, ℕ, List, [], ◌∷◌, ◌++◌, refl, ap, ◌∙◌, ◌≤◌, Bool, true, false, cond, length, map, sym, subst, ◌+◌, ◌-◌, ◌⊎◌, ◌==◌, zero, suc}
-use Rattle.std.proofs.Common.{take, drop, inl, inr, arith, ◌*◌, append_assoc, append-nil, not}
-use Rattle.std.specs.Prelude.{map, Some, None, is_none, ◌==◌, Option, option_map, is_some, ◌&&◌, ◌+◌, min, Result}
-use Rattle.std.specs.List.{AllByRecursion, flat_map}
+use Rattle.std.proofs.Common.{inl, inr, ◌⊎◌}
+use Rattle.std.specs.Prelude.{Result, min, option_map}
+use Rattle.std.specs.List.{AllByRecursion}
 use Rattle.std.proofs.lemmas.Grind.{flat_map-append}
 use Rattle.std.proofs.lemmas.List.{length-map}
-use Rattle.std.proofs.lemmas.Bool.{true≢false, and_right}
-use Rattle.swp_base.specs.declared.control_frames.Control.{Control}
+use Rattle.std.proofs.lemmas.Bool.{and_right}
+use Rattle.one_end.proofs.Words.{Bool, Control, Core, EndForm, Foretells, FrameComes, HasAnswered, List, Lone, LoneCause, Memory, Node, None, Option}
+use Rattle.one_end.proofs.Words.{ResetComes, Running, RunsAlone, RunsReady, Some, StartComes, StopComes, TickComes, WereMade, [], after_planned, ap, append-nil}
+use Rattle.one_end.proofs.Words.{append_assoc, arith, asks_reset, cond, does_alone, does_by_power, drop, false, flat_map, frames_written, is_none, is_some}
+use Rattle.one_end.proofs.Words.{length, map, new_link_end, not, refl, reset_refusal, role_alone, subst, suc, sym, take, true, true≢false, zero, ℕ, ◌&&◌, ◌*◌}
+use Rattle.one_end.proofs.Words.{◌++◌, ◌+◌, ◌-◌, ◌==◌, ◌∙◌, ◌∷◌, ◌≡◌, ◌≤◌}
 use Rattle.swp_base.specs.declared.control_frames.Control.TheVariants.{Act as ActFrame}
 use Rattle.swp_base.specs.declared.link_terms.FrameFault.{FrameFault}
-use Rattle.swp_base.specs.InMemory.{Memory}
 use Rattle.swp_lpdu.specs.Controls.{lpdu_of, control_of}
 use Rattle.swp_lpdu.specs.declared.LpduFault.{LpduFault}
 use Rattle.trace_model.specs.declared.entry.Entry.{Entry}
 use Rattle.trace_model.specs.declared.entry.Entry.TheVariants as entry
 use Rattle.trace_model.specs.declared.line.End.{End}
-use Rattle.lone_laws.specs.alone.Ends.{EndForm, entry_written, asks_reset, frame_written}
+use Rattle.lone_laws.specs.alone.Ends.{entry_written, frame_written}
 use Rattle.lone_laws.proofs.alone.Walks.{IsUnwritten, steps_unwritten}
-use Rattle.lone_laws.specs.alone.Lone.{Lone, LoneCause, lone_end, lone_input, node_input, lone_arrival, lone_work, frames_behind, emits_behind}
-use Rattle.lone_laws.specs.alone.Lone.{lone_behind_step, role_alone, lone_port, session_with, side_behind, with_refusal, does_by_power}
-use Rattle.lone_laws.specs.alone.Lone.LoneCause.{FrameComes, FrameIsRefused, TickComes, ResetComes, StartComes, StopComes}
+use Rattle.lone_laws.specs.alone.Lone.{emits_behind, frames_behind, lone_arrival, lone_behind_step, lone_end, lone_input, lone_port, lone_work, node_input}
+use Rattle.lone_laws.specs.alone.Lone.{session_with, side_behind, with_refusal}
+use Rattle.lone_laws.specs.alone.Lone.LoneCause.{FrameIsRefused}
 use Rattle.lone_laws.proofs.answered.Knowing.{step_is}
-use Rattle.one_end.specs.Running.{frames_written, does_alone, HasAnswered, RunsReady}
-use Rattle.one_end.specs.Alone.{RunsAlone, TakesAlone}
+use Rattle.one_end.specs.Alone.{TakesAlone}
 use Rattle.one_end.proofs.Running.{over, StepsAlone, stepped_ready}
-use Rattle.journal_laws.specs.Planned.{after_planned}
-use Rattle.link_laws.specs.machine.Machine.{LinkInput, frames_out, new_link_end, reset_refusal, LinkEnd, ActDue, among, next_frame, frame_fetched, sent_all}
+use Rattle.link_laws.specs.machine.Machine.{ActDue, LinkEnd, LinkInput, among, frame_fetched, frames_out, next_frame, sent_all}
 use Rattle.link_laws.specs.machine.Machine.{nearer, report, lpdu_input}
 use Rattle.link_laws.specs.machine.Laws.{fetches, after_fetches, most_fetches}
 use Rattle.link_laws.specs.machine.Machine.LinkInput.{Tick, Reset, Start, Stop}
-use Rattle.node_machine.specs.Parts.{Running, Port, Work, Desk, Core}
+use Rattle.node_machine.specs.Parts.{Desk, Port, Work}
 use Rattle.node_machine.specs.Node.{NodeInput, steps, with_error}
 use Rattle.node_machine.specs.world.World.{runs_on}
 use Rattle.node_machine.specs.Carrying.{port_at, with_port, changed_if}
 use Rattle.node_machine.specs.Node.NodeInput.{AtEnd, TimePasses}
-use Rattle.node_core.specs.declared.node.Node.{Node}
-use Rattle.node_core.specs.Bringing.{Brings, Foretells, WereMade, plan_left}
+use Rattle.node_core.specs.Bringing.{Brings, plan_left}
 use Rattle.node_core.specs.Running.{SendsOneByOne, RunsAs, BeginsStep, HasStepped, IsAllSent, between, ran_so, one_more_error}
 use Rattle.node_core.specs.declared.inputs.NodeInput.{NodeInput as ToNode}
 use Rattle.node_core.specs.declared.inputs.NodeInput.TheVariants.{At, Tick as ToTick}

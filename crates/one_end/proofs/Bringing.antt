@@ -1,17 +1,15 @@
 -- What a byte brought.
-use Rattle.std.proofs.Common.{◌≡◌, ◌∙◌, ℕ, List, ◌∷◌, true, [], ◌++◌, refl, ap, arith}
 use Rattle.std.specs.Prelude.{filter}
-use Rattle.std.specs.List.{flat_map}
+use Rattle.one_end.proofs.Words.{FrameComes, List, [], ap, arith, bytes_bring, causes_brought, flat_map, refl, true, ℕ, ◌++◌, ◌∙◌, ◌∷◌, ◌≡◌}
 use Rattle.byte_link.specs.declared.unit.Unit.{Unit}
 use Rattle.byte_link.specs.declared.unit.Unit.TheVariants as unit
 use Rattle.byte_link.specs.Reading.{unit_given, units_given, says_something}
 use Rattle.byte_link.specs.Written.{units_behind}
 use Rattle.swp_frame.specs.declared.fed.Fed.TheVariants as fed
-use Rattle.lone_laws.specs.alone.Lone.LoneCause.{FrameComes}
-use Rattle.lone_laws.specs.alone.Ends.{unit_brings, bytes_bring}
+use Rattle.lone_laws.specs.alone.Ends.{unit_brings}
 use Rattle.lone_laws.specs.alone.Ends.EndForm.{OnBytes}
 use Rattle.one_end.specs.declared.reading.Brought.{Brought}
-use Rattle.one_end.specs.Reading.{causes_brought, is_nothing_brought}
+use Rattle.one_end.specs.Reading.{is_nothing_brought}
 
 -- where it brought nothing, nothing comes to the node
 pub nothing_brought : (b : Brought) → is_nothing_brought b ≡ true → causes_brought b ≡ []

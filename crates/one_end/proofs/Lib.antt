@@ -1,3 +1,4 @@
+mod Words
 pub mod Alone
 pub mod Running
 pub mod Bringing

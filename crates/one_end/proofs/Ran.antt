@@ -1,30 +1,25 @@
 -- A run over any memory is a run of a node alone, over a memory that keeps its bytes and of which one write fails as planned.
-use Rattle.std.proofs.Common.{◌≡◌, ◌+◌, ◌<◌, ◌%◌, ℕ, zero, suc, Bool, true, false, cond, List, [], ◌∷◌, ◌++◌, length, get_or, refl, slice_index, sym, ap, ◌∙◌}
-use Rattle.std.proofs.Common.{subst, arith, append-nil}
-use Rattle.std.specs.Prelude.{Option, Some, None, is_none}
+use Rattle.std.proofs.Common.{slice_index}
 use Rattle.std.proofs.lemmas.Bool.Decides.{nat_tests}
 use Rattle.std.proofs.lemmas.Nat.{mod-mul-add}
 use Rattle.std.proofs.lemmas.List.FromFn.{fill_by_all}
-use Rattle.swp_base.specs.InMemory.{Memory, Plan, plan_after, cycled}
+use Rattle.one_end.proofs.Words.{Bool, EndForm, Foretells, IsRunOfBytes, List, Lone, Memory, None, Option, Running, Some, WereMade, Write, [], after_planned}
+use Rattle.one_end.proofs.Words.{after_planned-append, ap, append-nil, arith, booted_from, cond, end_booted, end_causes, end_written, false, found_in_memory}
+use Rattle.one_end.proofs.Words.{get_or, is_none, length, lone_after, new_link_end, plan_behind, planned_whole, refl, role_alone, subst, suc, sym, true, zero}
+use Rattle.one_end.proofs.Words.{ℕ, ◌%◌, ◌++◌, ◌+◌, ◌<◌, ◌∙◌, ◌∷◌, ◌≡◌}
+use Rattle.swp_base.specs.InMemory.{Plan, cycled, plan_after}
 use Rattle.swp_base.specs.Outside.{overwritten, IsWritten}
-use Rattle.journal_laws.specs.Writes.{Write, after_writes, IsCut, AreMade}
-use Rattle.journal_laws.specs.Planned.{fails_within, after_planned}
+use Rattle.journal_laws.specs.Writes.{AreMade, IsCut, after_writes}
+use Rattle.journal_laws.specs.Planned.{fails_within}
 use Rattle.journal_laws.proofs.Planned.{made_whole, made_in_part, none_within}
 use Rattle.hci_store.specs.Starting.{ready_writes, HasWritten}
-use Rattle.link_laws.specs.machine.Machine.{new_link_end}
-use Rattle.node_machine.specs.Parts.{Running}
-use Rattle.node_machine.specs.Carrying.{plan_behind}
 use Rattle.node_machine.specs.Node.{found, boot_writes}
 use Rattle.node_laws.proofs.cuts.Commits.{IsFilled, planned_filled}
-use Rattle.node_laws.proofs.kept.Reckoned.{after_planned-append, planned_whole}
-use Rattle.node_core.specs.Booting.{found_in_memory}
-use Rattle.node_core.specs.Bringing.{WereMade, Foretells}
-use Rattle.lone_laws.specs.alone.Lone.{Lone, role_alone, lone_booted, lone_after}
-use Rattle.lone_laws.specs.alone.Ends.{EndForm, end_causes, end_written, end_node}
+use Rattle.lone_laws.specs.alone.Lone.{lone_booted}
+use Rattle.lone_laws.specs.alone.Ends.{end_node}
 use Rattle.lone_laws.specs.alone.Memories.{IsTakenMemory, behind_boot}
 use Rattle.lone_laws.specs.alone.Runs.{IsAnsweredRun}
 use Rattle.lone_laws.proofs.answered.Runs.{answered_run, boots_silently, found_again}
-use Rattle.one_end.specs.Standing.{booted_from, end_booted, IsRunOfBytes}
 use Rattle.one_end.specs.WholeRuns.{IsRunAlone}
 
 -- ## A node that begins over a memory that its boot has left

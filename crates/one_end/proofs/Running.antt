@@ -1,30 +1,19 @@
 -- Runs of a node alone: answers one after another, whole runs, and runs that grow by what comes.
-use Rattle.std.proofs.Common.{◌≡◌, ℕ, Bool, true, false, cond, List, [], ◌∷◌, ◌++◌, refl, sym, ap, ◌∙◌, subst, append_assoc, append-nil, length, map, ◌<◌, ◌≤◌}
-use Rattle.std.proofs.Common.{◌+◌, take, drop, get_or, reverse, ap₂, take-add, arith}
-use Rattle.std.specs.Prelude.{Option, None, is_none, is_some}
-use Rattle.std.specs.List.{flat_map}
-use Rattle.std.proofs.lemmas.List.{map-append, take_more, take-append-drop, reverse-append, take-take}
-use Rattle.swp_base.specs.InMemory.{Memory}
-use Rattle.swp_base.specs.declared.control_frames.Control.{Control}
-use Rattle.journal_laws.specs.Planned.{after_planned}
-use Rattle.journal_laws.specs.Writes.{Write}
-use Rattle.node_machine.specs.Parts.{Running}
-use Rattle.node_machine.specs.Carrying.{plan_behind}
-use Rattle.node_laws.proofs.kept.Reckoned.{after_planned-append, planned_whole}
-use Rattle.node_core.specs.Bringing.{WereMade, Foretells}
+use Rattle.std.proofs.Common.{ap₂, take-add}
+use Rattle.std.proofs.lemmas.List.{map-append, reverse-append, take-append-drop, take_more}
+use Rattle.one_end.proofs.Words.{Bool, Control, EndForm, Foretells, FrameComes, HasAnswered, HasBooted, IsAlone, IsRunOfBytes, List, Lone, LoneCause, Memory}
+use Rattle.one_end.proofs.Words.{Node, None, OneEnd, Option, ResetComes, Running, RunsAlone, RunsReady, RunsYet, WereMade, Write, [], after_planned}
+use Rattle.one_end.proofs.Words.{after_planned-append, all_answered, answers_alone, ap, append-nil, append_assoc, arith, asks_reset, booted_from, bytes_bring}
+use Rattle.one_end.proofs.Words.{cond, does_alone, does_by_power, drop, end_booted, end_causes, end_written, false, first_comes, flat_map, form_named}
+use Rattle.one_end.proofs.Words.{frames_written, get_or, is_none, is_some, length, lone_after, map, plan_behind, planned_whole, refl, reset_refusal, reverse}
+use Rattle.one_end.proofs.Words.{subst, sym, take, take-take, true, ℕ, ◌++◌, ◌+◌, ◌<◌, ◌∙◌, ◌∷◌, ◌≡◌, ◌≤◌}
 use Rattle.node_core.proofs.Joining.{foretold_parts, made_on}
-use Rattle.node_core.specs.declared.node.Node.{Node}
-use Rattle.lone_laws.specs.alone.Lone.{Lone, LoneCause, does_by_power, lone_step, lone_events, lone_after}
-use Rattle.lone_laws.specs.alone.Lone.LoneCause.{ResetComes, FrameComes}
-use Rattle.lone_laws.specs.alone.Ends.{EndForm, asks_reset, event_written, with_resets, byte_brings, bytes_bring, first_comes, end_causes, end_written}
-use Rattle.one_end.specs.Running.{does_alone, then_does, answers_alone, all_answered, BringsAlone, frames_written, HasAnswered, RunsYet, RunsReady}
-use Rattle.one_end.specs.Alone.{RunsAlone}
-use Rattle.one_end.specs.declared.one_end.OneEnd.{OneEnd}
-use Rattle.one_end.specs.Standing.{StandsAlone, IsAlone, booted_from, end_booted, run_brings, HasBooted, HearsAlone, HasRun, IsRunOfBytes}
+use Rattle.lone_laws.specs.alone.Lone.{lone_events, lone_step}
+use Rattle.lone_laws.specs.alone.Ends.{byte_brings, event_written, with_resets}
+use Rattle.one_end.specs.Running.{BringsAlone, then_does}
+use Rattle.one_end.specs.Standing.{HasRun, HearsAlone, StandsAlone, run_brings}
 use Rattle.one_end.specs.Reading.{form_read, ReaderStandsFor}
-use Rattle.one_end.specs.Writing.{form_named}
 use Rattle.one_end.specs.declared.reading.Reader.{Reader}
-use Rattle.link_laws.specs.machine.Machine.{reset_refusal}
 
 -- ## A node that has lost its power does nothing
 

@@ -1,9 +1,8 @@
 -- The pipe that is found free.
-use Rattle.std.proofs.Common.{ℕ, zero, suc, ◌+◌, ◌<◌, ◌≤◌, Bool, List, arith}
-use Rattle.std.specs.Prelude.{Option, Some, None, IfSome}
+use Rattle.std.proofs.Common.{suc, zero}
+use Rattle.std.specs.Prelude.{IfSome, None, Some}
 use Rattle.std.specs.List.{find, range_with_len}
-use Rattle.std.proofs.lemmas.Bool.{cond_both}
-use Rattle.pipe_table.specs.declared.row.PipeRow.{PipeRow}
+use Rattle.pipe_table.proofs.Words.{Bool, List, Option, PipeRow, arith, cond_both, ℕ, ◌+◌, ◌<◌, ◌≤◌}
 use Rattle.pipe_table.specs.PipeRows.{IsDynamic, is_free, lowest_free}
 
 -- a number that is found among n from a on

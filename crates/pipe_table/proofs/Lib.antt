@@ -1,2 +1,3 @@
+mod Words
 pub mod TableLemmas
 pub mod FreeLemmas

@@ -1,11 +1,10 @@
 -- What keeps the rows of a table sorted.
-use Rattle.std.proofs.Common.{◌≡◌, ℕ, ◌+◌, ◌<◌, Bool, cond, eqb, false, List, map, length, set, get_or, take, drop, ◌++◌, refl, ap, ◌∙◌, arith}
-use Rattle.std.proofs.lemmas.Bool.{cond_both}
+use Rattle.std.proofs.Common.{cond, get_or, map, set}
 use Rattle.std.proofs.lemmas.List.{get_or_default}
 use Rattle.std.proofs.lemmas.List.Edits.{map_over_more}
+use Rattle.pipe_table.proofs.Words.{ArePipeRows, Bool, List, PipeRow, all_closed, ap, arith, as_opened, cond_both, drop, eqb, false, length, pid_of, refl, take}
+use Rattle.pipe_table.proofs.Words.{with_opened, ℕ, ◌++◌, ◌+◌, ◌<◌, ◌∙◌, ◌≡◌}
 use Rattle.sorted_rows.proofs.RowLemmas.{AreRows-map}
-use Rattle.pipe_table.specs.declared.row.PipeRow.{PipeRow}
-use Rattle.pipe_table.specs.PipeRows.{ArePipeRows, pid_of, as_opened, with_opened, all_closed}
 
 pub ArePipeRows-with_opened : (rows : List PipeRow) (pid : ℕ) (opened : Bool) → ArePipeRows rows → ArePipeRows (with_opened rows pid opened)
 ArePipeRows-with_opened rows pid opened h =

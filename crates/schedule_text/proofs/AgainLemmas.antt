@@ -1,23 +1,17 @@
 -- What is written is read again.
-use Rattle.std.proofs.Common.{◌≡◌, ◌&&◌, ℕ, zero, suc, ◌*◌, ◌^◌, ◌/◌, ◌%◌, ◌<◌, ◌≤◌, Bool, true, false, cond, nat_lt, List, [], ◌∷◌, ◌++◌, length, get_or}
-use Rattle.std.proofs.Common.{slice_index, refl, sym, ◌∙◌, ap, subst, arith, rules, Some, Ok, All, filter}
-use Rattle.std.specs.List.{list_all, slice_split, AllByRecursion}
 use Rattle.std.specs.Char.{is_ascii_digit}
-use Rattle.std.specs.Str.{all_ascii_digits}
 use Rattle.std.specs.Str.Parse.{digits_value}
-use Rattle.std.specs.Fmt.{decimal}
-use Rattle.std.proofs.lemmas.Bool.Decides.{nat_tests}
 use Rattle.std.proofs.lemmas.Fmt.{decimal_nonempty, first_decimal, digits_decimal, digits_value-decimal}
 use Rattle.std.proofs.lemmas.Str.Parse.{IsNumeralModel, numerals_by_value}
-use Rattle.std.proofs.lemmas.List.Sums.{AllPass-from_list_all}
 use Rattle.std.proofs.lemmas.List.Splits.{slice_split_none, slice_split_at}
 use Rattle.std.proofs.Math.ListN.{get_or-eq_default}
-use Rattle.hex.specs.Hex.{decode_sized, encode_with, encode_upper, upper_digits, IsBytes}
-use Rattle.hex.proofs.HexLemmas.{decode_of-encode_upper, decode_sized-twice, length-encode_with}
-use Rattle.trace_model.specs.declared.line.End.{End}
-use Rattle.schedule_text.specs.Words.{words, spaced}
-use Rattle.schedule_text.specs.Values.{byte_value, bytes_value, number_value, is_bad_front, side_value, end_value}
-use Rattle.schedule_text.specs.Entries.{byte_text, end_text}
+use Rattle.schedule_text.proofs.Names.{All, AllByRecursion, AllPass-from_list_all, Bool, End, List, Ok, Some, [], all_ascii_digits, ap, arith, byte_text}
+use Rattle.schedule_text.proofs.Names.{byte_value, bytes_value, cond, decimal, decode_sized-twice, encode_upper, end_text, end_value, false, filter, get_or}
+use Rattle.schedule_text.proofs.Names.{length, length-encode_with, list_all, nat_lt, nat_tests, number_value, refl, rules, side_value, slice_index, slice_split}
+use Rattle.schedule_text.proofs.Names.{spaced, subst, suc, sym, true, upper_digits, words, zero, ℕ, ◌%◌, ◌&&◌, ◌*◌, ◌++◌, ◌/◌, ◌<◌, ◌^◌, ◌∙◌, ◌∷◌, ◌≡◌, ◌≤◌}
+use Rattle.hex.specs.Hex.{IsBytes, decode_sized, encode_with}
+use Rattle.hex.proofs.HexLemmas.{decode_of-encode_upper}
+use Rattle.schedule_text.specs.Values.{is_bad_front}
 use Rattle.schedule_text.proofs.WordsLemmas.{is_space, is_letter, kept}
 
 -- a word of letters

@@ -1,21 +1,12 @@
 -- Lines that are read at once are what their rows say.
-use Rattle.std.proofs.Common.{◌≡◌, ℕ, List, [], ◌∷◌, false, refl, sym, ap, ◌∙◌, arith, Option, Some, None, Ok, codes, is_some, ◌≤◌, ◌-◌, true, Bool, length}
-use Rattle.std.proofs.Common.{take, drop, get_or}
-use Rattle.std.proofs.lemmas.List.{take_all}
-use Rattle.std.proofs.lemmas.List.Sums.{list_all-from_AllPass}
-use Rattle.std.specs.Option.{option_map, option_and_then}
-use Rattle.hex.specs.Hex.{decode_of, hex_digit_value, is_hex_digit}
-use Rattle.hex.proofs.HexLemmas.{decode_of-ok}
-use Rattle.trace_model.specs.declared.line.End.{End}
-use Rattle.trace_model.specs.declared.line.Header.{Header}
+use Rattle.schedule_text.proofs.Names.{Bool, End, Header, List, None, Ok, Option, Some, [], ap, arith, by_row, byte_value, bytes_value, codes, decode_of}
+use Rattle.schedule_text.proofs.Names.{decode_of-ok, drop, end_value, false, get_or, hex_digit_value, is_hex_digit, is_some, length, list_all-from_AllPass}
+use Rattle.schedule_text.proofs.Names.{number_in, option_and_then, option_map, refl, row_for, side_value, spaced, sym, take, take_all, true, words, ℕ, ◌-◌, ◌∙◌}
+use Rattle.schedule_text.proofs.Names.{◌∷◌, ◌≡◌, ◌≤◌}
 use Rattle.trace_model.specs.declared.line.Line.TheVariants as line
 use Rattle.schedule_text.specs.declared.forms.Kind.TheVariants as kind
 use Rattle.schedule_text.specs.declared.read.Read.TheVariants as read
-use Rattle.schedule_text.specs.Values.{number_in, byte_value, bytes_value, side_value, end_value}
-use Rattle.schedule_text.specs.Forms.{row_for}
-use Rattle.schedule_text.specs.Lines.{by_row}
 use Rattle.schedule_text.specs.AtOnce.{EndAndWord}
-use Rattle.schedule_text.specs.Words.{words, spaced}
 use Rattle.schedule_text.proofs.WordsLemmas.{is_letter}
 use Rattle.schedule_text.proofs.AgainLemmas.{IsWord, words-spaced}
 use Rattle.schedule_text.proofs.HexLemmas.{no_high, no_low, byte_of_others}

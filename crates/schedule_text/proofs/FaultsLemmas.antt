@@ -1,17 +1,14 @@
 -- When each fault comes.
-use Rattle.std.proofs.Common.{◌≡◌, ◌≢◌, ℕ, ◌+◌, Bool, true, false, not, cond, List, [], ◌∷◌, refl, sym, ◌∙◌, subst, Option, Some, None, Result, Ok, Err, inl}
-use Rattle.std.proofs.Common.{inr, codes, ◌↔◌, IfOk, IsTrue, arith}
-use Rattle.std.specs.Option.{option_map, option_or}
-use Rattle.trace_model.specs.declared.line.Header.{Header}
-use Rattle.schedule_text.specs.declared.fault.LineFault.{LineFault}
+use Rattle.std.proofs.Common.{IfOk, IsTrue, ◌↔◌, ◌≢◌}
+use Rattle.schedule_text.proofs.Names.{Bool, Err, FormRow, Header, LineFault, List, None, Ok, Option, Read, Result, Slot, Some, [], activate_row, arith}
+use Rattle.schedule_text.proofs.Names.{arm_row, boot_row, busy_row, by_row, codes, cond, cut_row, damage_row, deliver_row, false, first_digits_fault}
+use Rattle.schedule_text.proofs.Names.{first_host_fault, has_third, header_row, init_row, inl, inr, is_comment, is_well_formed, lose_row, may_stand, nodes_row}
+use Rattle.schedule_text.proofs.Names.{not, option_map, option_or, read_of, ready_row, refl, reset_row, rising, row_for, rows, send_row, settle_row, slots}
+use Rattle.schedule_text.proofs.Names.{subst, sym, tables_row, tick_row, true, unless_fault, words_fault, ℕ, ◌+◌, ◌∙◌, ◌∷◌, ◌≡◌}
 use Rattle.schedule_text.specs.declared.fault.LineFault.TheVariants as fault
-use Rattle.schedule_text.specs.declared.read.Read.{Read}
 use Rattle.schedule_text.specs.declared.read.Read.TheVariants as read
 use Rattle.schedule_text.specs.declared.forms.Kind.TheVariants as kind
-use Rattle.schedule_text.specs.Forms.{FormRow, rows, row_for, has_third, nodes_row, header_row, send_row, deliver_row, lose_row, damage_row, tick_row}
-use Rattle.schedule_text.specs.Forms.{reset_row, busy_row, ready_row, boot_row, cut_row, activate_row, arm_row, init_row, tables_row, settle_row}
-use Rattle.schedule_text.specs.Rules.{Slot, slots, rising, first_digits_fault, first_host_fault, is_well_formed, words_fault}
-use Rattle.schedule_text.specs.Lines.{read_of, may_stand, has_nodes, hosts_of, unless_fault, by_row, is_comment}
+use Rattle.schedule_text.specs.Lines.{has_nodes, hosts_of}
 use Rattle.schedule_text.specs.Answers.{IsReadOrNoMemory, IsOutOfOrder}
 use Rattle.schedule_text.proofs.RowsLemmas.{row_cases}
 

@@ -1,8 +1,7 @@
 -- The first byte that passes a test.
-use Rattle.std.proofs.Common.{◌≡◌, ℕ, ◌<◌, Bool, true, not, List, length, get_or, Option, Some, None, ap, arith, position}
-use Rattle.std.specs.List.{position_or_len}
 use Rattle.std.proofs.lemmas.List.Sums.{prefix_len_is}
-use Rattle.std.proofs.lemmas.Grind.{common_steps}
+use Rattle.schedule_text.proofs.Names.{Bool, List, None, Option, Some, ap, arith, common_steps, get_or, length, not, position, position_or_len, true, ℕ, ◌<◌}
+use Rattle.schedule_text.proofs.Names.{◌≡◌}
 use Rattle.memchr.specs.Find.{IsFirstByte}
 
 not_passed : (b : Bool) → ¬ (b ≡ true) → not b ≡ true

@@ -1,9 +1,7 @@
 -- The table of the program is that of the definition.
-use Rattle.std.proofs.Common.{◌≡◌, ◌&&◌, ℕ, Bool, cond, List, [], ◌∷◌, refl, Some, map, find, arith}
-use Rattle.std.specs.Option.{option_map}
-use Rattle.std.specs.Str.{bytes_eq}
+use Rattle.std.proofs.Common.{find}
+use Rattle.schedule_text.proofs.Names.{Bool, List, Some, [], arith, bytes_eq, cond, has_third, map, option_map, refl, row_in, row_of_form, ℕ, ◌&&◌, ◌∷◌, ◌≡◌}
 use Rattle.schedule_text.specs.declared.forms.Form.{Form}
-use Rattle.schedule_text.specs.Forms.{row_of_form, has_third, row_in}
 
 -- the row of the form that is found
 pub row-find : (forms : List Form) (first : List ℕ) (ws : List (List ℕ))

@@ -1,17 +1,12 @@
 -- How growing text goes on.
-use Rattle.std.proofs.Common.{◌≡◌, ℕ, ◌+◌, ◌*◌, ◌≤◌, ◌/◌, ◌%◌, ◌<◌, List, [], ◌∷◌, ◌++◌, length, take, refl, sym, ◌∙◌, ap, subst, slice_index}
-use Rattle.std.proofs.Common.{append_assoc, get_or, ◌^◌, append-nil, length-append, arith, false}
-use Rattle.std.proofs.lemmas.List.{take_at, take_more, take-append-le}
+use Rattle.std.proofs.lemmas.List.{take-append-le}
 use Rattle.std.proofs.lemmas.Grind.{flat_map-append}
-use Rattle.std.specs.Fmt.{decimal}
-use Rattle.std.proofs.lemmas.Fmt.{decimal_step, decimal_digit}
-use Rattle.hex.specs.Hex.{encode_with, encode_upper, upper_digits}
-use Rattle.hex.proofs.HexLemmas.{length-encode_with}
-use Rattle.schedule_text.specs.declared.text.Text.{Text}
+use Rattle.std.proofs.lemmas.Fmt.{decimal_step}
+use Rattle.schedule_text.proofs.Names.{HoldsText, HoldsWords, List, Start, Text, [], all_text, ap, append-nil, append_assoc, arith, decimal, decimal_digit}
+use Rattle.schedule_text.proofs.Names.{encode_upper, entry_line, entry_lines, false, get_or, length, length-append, length-encode_with, refl, slice_index}
+use Rattle.schedule_text.proofs.Names.{spaced, subst, sym, take, take_at, take_more, upper_digits, ℕ, ◌%◌, ◌*◌, ◌++◌, ◌+◌, ◌/◌, ◌<◌, ◌^◌, ◌∙◌, ◌∷◌, ◌≡◌, ◌≤◌}
+use Rattle.hex.specs.Hex.{encode_with}
 use Rattle.trace_model.specs.declared.entry.Entry.{Entry}
-use Rattle.schedule_text.specs.Words.{spaced}
-use Rattle.schedule_text.specs.Entries.{entry_line, entry_lines}
-use Rattle.schedule_text.specs.Growth.{Start, all_text, HoldsText, HoldsWords}
 
 -- text behind text
 abbrev pub behind : Start → List ℕ → Start

@@ -1,14 +1,9 @@
 -- Which words are pairs of hexadecimal digits, and how many.
-use Rattle.std.proofs.Common.{◌≡◌, ◌+◌, ◌*◌, ◌%◌, ◌/◌, ◌<◌, ◌≤◌, IfSome, ℕ, true, List, [], ◌∷◌, length, refl, sym, ◌∙◌, ap, ap₂, arith, Option}
-use Rattle.std.proofs.Common.{Some, None, Result, Ok, Err}
-use Rattle.std.specs.Result.{result_ok}
-use Rattle.std.specs.List.{list_all}
-use Rattle.std.specs.Option.{option_map, option_and_then}
-use Rattle.std.proofs.lemmas.List.Sums.{AllPass-from_list_all, list_all-from_AllPass}
-use Rattle.hex.specs.Hex.{decode_of, decode_pairs, digit_or_error, hex_digit_value, is_hex_digit, ◌>>=◌}
-use Rattle.hex.specs.declared.error.FromHexError.{FromHexError}
-use Rattle.hex.proofs.HexLemmas.{decode_of-ok, decode_of-digits}
-use Rattle.schedule_text.specs.Values.{byte_value, bytes_value}
+use Rattle.schedule_text.proofs.Names.{AllPass-from_list_all, Err, FromHexError, IfSome, List, None, Ok, Option, Result, Some, [], ap, ap₂, arith, byte_value}
+use Rattle.schedule_text.proofs.Names.{bytes_value, decode_of, decode_of-ok, hex_digit_value, is_hex_digit, length, list_all, list_all-from_AllPass}
+use Rattle.schedule_text.proofs.Names.{option_and_then, option_map, refl, result_ok, sym, true, ℕ, ◌%◌, ◌*◌, ◌+◌, ◌/◌, ◌<◌, ◌∙◌, ◌∷◌, ◌≡◌, ◌≤◌}
+use Rattle.hex.specs.Hex.{decode_pairs, digit_or_error, ◌>>=◌}
+use Rattle.hex.proofs.HexLemmas.{decode_of-digits}
 
 -- an even number of digits stands for half as many bytes
 pub bytes_of_digits : (word : List ℕ) → length word % 2 ≡ 0 → list_all is_hex_digit word ≡ true

@@ -1,19 +1,12 @@
 -- A host that a line is refused for isn't in the header.
-use Rattle.std.proofs.Common.{◌≡◌, ◌==◌, ◌&&◌, ◌||◌, ℕ, ◌+◌, Bool, true, false, cond, List, [], ◌∷◌, refl, Option, Some, Err, arith}
-use Rattle.std.proofs.lemmas.Bool.{and_parts}
-use Rattle.std.specs.List.{list_all, list_any}
-use Rattle.std.specs.Option.{option_map, option_or}
-use Rattle.trace_model.specs.declared.line.Header.{Header}
-use Rattle.schedule_text.specs.declared.fault.LineFault.{LineFault}
+use Rattle.schedule_text.proofs.Names.{Bool, Err, FormRow, Header, Kind, LineFault, List, Option, Read, Slot, Some, [], activate_row, and_parts, arith, arm_row}
+use Rattle.schedule_text.proofs.Names.{boot_row, busy_row, by_row, cond, cut_row, damage_row, deliver_row, digits_fault, false, first_digits_fault}
+use Rattle.schedule_text.proofs.Names.{first_host_fault, host_fault, init_row, is_well_formed, list_all, list_any, lose_row, may_stand, option_map, option_or}
+use Rattle.schedule_text.proofs.Names.{read_of, ready_row, refl, reset_row, rising, row_for, rows, send_row, settle_row, slots, tables_row, tick_row, true}
+use Rattle.schedule_text.proofs.Names.{unless_fault, words_fault, ℕ, ◌&&◌, ◌+◌, ◌==◌, ◌||◌, ◌∷◌, ◌≡◌}
 use Rattle.schedule_text.specs.declared.fault.LineFault.TheVariants as fault
-use Rattle.schedule_text.specs.declared.read.Read.{Read}
-use Rattle.schedule_text.specs.declared.forms.Kind.{Kind}
 use Rattle.schedule_text.specs.declared.forms.Kind.TheVariants as kind
-use Rattle.schedule_text.specs.Forms.{FormRow, rows, row_for, send_row, deliver_row, lose_row, damage_row, tick_row, reset_row, busy_row, ready_row}
-use Rattle.schedule_text.specs.Forms.{boot_row, cut_row, activate_row, arm_row, init_row, tables_row, settle_row}
-use Rattle.schedule_text.specs.Rules.{Slot, slots, later, rising, stranger, digits_fault, host_fault, first_digits_fault, first_host_fault, is_well_formed}
-use Rattle.schedule_text.specs.Rules.{words_fault}
-use Rattle.schedule_text.specs.Lines.{read_of, may_stand, unless_fault, by_row}
+use Rattle.schedule_text.specs.Rules.{later, stranger}
 use Rattle.schedule_text.proofs.RowsLemmas.{row_cases}
 
 no_host_digits : (at from : ℕ) (k : Kind) (word : List ℕ) (id : ℕ) → digits_fault at from k word ≡ Some (fault.Host id) → ⊥

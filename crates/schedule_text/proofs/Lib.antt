@@ -1,3 +1,4 @@
+mod Names
 pub mod AgainLemmas
 mod AtOnceLemmas
 pub mod FaultsLemmas

@@ -1,31 +1,19 @@
 -- What is read is inside the grammar: a line for each form, by what its words are.
-use Rattle.std.proofs.Common.{◌≡◌, ◌==◌, ◌||◌, ℕ, zero, suc, ◌+◌, ◌<◌, ◌≤◌, Bool, true, false, not, cond, nat_lt, List, [], ◌∷◌, length, get_or}
-use Rattle.std.proofs.Common.{refl, sym, ◌∙◌, subst, ap, slice_index}
-use Rattle.std.proofs.Common.{inl, inr, arith, Option, Some, None, Result, Ok, Err, IfSome, Contains, All, IsSome, slice_get, eqb-true}
-use Rattle.std.specs.List.{list_any}
-use Rattle.std.specs.List.Sorted.{IsStrictlyIncreasing}
-use Rattle.std.specs.Option.{option_map_or}
-use Rattle.std.specs.Result.{result_ok}
-use Rattle.std.proofs.lemmas.List.{get_or_default}
-use Rattle.hex.specs.Hex.{decode_of}
-use Rattle.hex.specs.declared.error.FromHexError.{FromHexError}
-use Rattle.hex.proofs.HexLemmas.{decode_of-ok, decode_sized-twice}
-use Rattle.trace_model.specs.declared.line.Header.{Header}
-use Rattle.trace_model.specs.declared.line.Line.{Line}
+use Rattle.std.proofs.Common.{IsSome}
+use Rattle.schedule_text.proofs.Names.{All, Bool, Contains, Err, FormRow, FromHexError, Header, IfSome, IsStrictlyIncreasing, Line, LineFault, List, None, Ok}
+use Rattle.schedule_text.proofs.Names.{Option, Read, Result, Some, [], activate_row, ap, arith, arm_row, boot_row, busy_row, by_row, by_words, byte_value}
+use Rattle.schedule_text.proofs.Names.{bytes_value, cond, cut_row, damage_row, decode_of, decode_of-ok, decode_sized-twice, deliver_row, each_word, eqb-true}
+use Rattle.schedule_text.proofs.Names.{false, get_or, get_or_default, header_row, init_row, inl, inr, is_comment, length, line_of, list_any, lose_row, nat_lt}
+use Rattle.schedule_text.proofs.Names.{nodes_row, not, number_in, option_map_or, read_of, ready_row, refl, reset_row, result_ok, rising, row_for, rows}
+use Rattle.schedule_text.proofs.Names.{send_row, settle_row, sized_value, slice_get, slice_index, slots, subst, suc, sym, tables_row, tick_row, true, two_bytes}
+use Rattle.schedule_text.proofs.Names.{unless_fault, words, words_fault, zero, ℕ, ◌+◌, ◌<◌, ◌==◌, ◌>>=◌, ◌||◌, ◌∙◌, ◌∷◌, ◌≡◌, ◌≤◌}
 use Rattle.trace_model.specs.declared.line.Line.TheVariants as line
 use Rattle.trace_model.specs.Lines.{IsHost, IsHeader, IsNodeHeader, MayBegin, MayFollow}
-use Rattle.schedule_text.specs.declared.fault.LineFault.{LineFault}
 use Rattle.schedule_text.specs.declared.fault.LineFault.TheVariants as fault
 use Rattle.schedule_text.specs.declared.forms.Kind.TheVariants as kind
 use Rattle.schedule_text.specs.declared.forms.Name.TheVariants as name
-use Rattle.schedule_text.specs.declared.read.Read.{Read}
 use Rattle.schedule_text.specs.declared.read.Read.TheVariants as read
-use Rattle.schedule_text.specs.Words.{words}
-use Rattle.schedule_text.specs.Values.{byte_value, bytes_value, sized_value, two_bytes, number_in}
-use Rattle.schedule_text.specs.Forms.{FormRow, rows, row_for, nodes_row, header_row, send_row, deliver_row, lose_row, damage_row, tick_row, reset_row}
-use Rattle.schedule_text.specs.Forms.{busy_row, ready_row, boot_row, cut_row, activate_row, arm_row, init_row, tables_row, settle_row}
-use Rattle.schedule_text.specs.Rules.{slots, rising, words_fault}
-use Rattle.schedule_text.specs.Lines.{◌>>=◌, number_at, each_word, read_of, unless_fault, by_row, by_words, is_comment, line_of}
+use Rattle.schedule_text.specs.Lines.{number_at}
 use Rattle.schedule_text.specs.Answers.{CanBeRead, IsInGrammar}
 use Rattle.schedule_text.proofs.RowsLemmas.{AllFit, Right, no_fault, row_cases}
 use Rattle.schedule_text.proofs.PlacesLemmas.{number-range, places-read, rise-increasing, rise-below}

@@ -1,10 +1,8 @@
 -- The number that decimal digits write, digit by digit.
-use Rattle.std.proofs.Common.{◌≡◌, ◌&&◌, ℕ, suc, ◌+◌, ◌-◌, ◌*◌, ◌<◌, ◌≤◌, Bool, true, false, cond, nat_le, List, [], ◌∷◌, length, get_or, drop, ap, arith}
-use Rattle.std.proofs.Common.{Option, Some, None, drop-cons, add-one}
 use Rattle.std.specs.Char.{digit_value, is_ascii_digit}
-use Rattle.std.specs.Str.{all_ascii_digits}
 use Rattle.std.specs.Str.Parse.{digits_value_after}
-use Rattle.schedule_text.specs.Values.{option_if}
+use Rattle.schedule_text.proofs.Names.{Bool, List, None, Option, Some, [], add-one, all_ascii_digits, ap, arith, cond, drop, drop-cons, false, get_or, length}
+use Rattle.schedule_text.proofs.Names.{nat_le, option_if, suc, true, ℕ, ◌&&◌, ◌*◌, ◌+◌, ◌-◌, ◌<◌, ◌∷◌, ◌≡◌, ◌≤◌}
 
 -- the number of the digits read so far and these
 abbrev pub onward : ℕ → List ℕ → Option ℕ

@@ -1,13 +1,10 @@
 -- What pairs of hexadecimal digits stand for is what the kit reads of them.
-use Rattle.std.proofs.Common.{◌≡◌, ℕ, ◌+◌, ◌*◌, ◌<◌, List, [], ◌∷◌, ◌++◌, ◌-◌, ◌≤◌, length, take, drop, get_or, slice_index, refl, sym, ap, ◌∙◌, subst}
-use Rattle.std.proofs.Common.{arith, append_assoc, append-nil, Option, Some, None, Ok, unwrap_or}
-use Rattle.std.specs.Result.{result_ok}
-use Rattle.std.proofs.lemmas.List.{take_all, take_more}
-use Rattle.hex.specs.Hex.{decode_pairs, hex_digit_value, pair_value}
+use Rattle.schedule_text.proofs.Names.{IsPair, IsPairs, List, None, Ok, Option, Some, [], ap, append-nil, append_assoc, arith, byte_value, bytes_value, drop}
+use Rattle.schedule_text.proofs.Names.{get_or, hex_digit_value, length, refl, result_ok, slice_index, subst, sym, take, take_all, take_more, unwrap_or, ℕ, ◌*◌}
+use Rattle.schedule_text.proofs.Names.{◌++◌, ◌+◌, ◌-◌, ◌<◌, ◌∙◌, ◌∷◌, ◌≡◌, ◌≤◌}
+use Rattle.hex.specs.Hex.{decode_pairs, pair_value}
 use Rattle.hex.proofs.Pairs.{cons_byte, decode_pairs-ok_pair}
 use Rattle.hex.proofs.HexLemmas.{decode_of-even}
-use Rattle.schedule_text.specs.Values.{byte_value, bytes_value}
-use Rattle.schedule_text.specs.Pairs.{IsPair, IsPairs}
 use Rattle.schedule_text.proofs.HexLemmas.{no_high, no_low, two_digits}
 
 -- two digits that stand for a byte

@@ -1,13 +1,8 @@
 -- Places of bits, word by word.
-use Rattle.std.proofs.Common.{◌≡◌, ◌&&◌, ℕ, zero, suc, ◌+◌, ◌<◌, ◌≤◌, Bool, nat_le, List, [], ◌∷◌, ◌++◌, length, slice_index, refl, sym, ap, subst, arith}
-use Rattle.std.proofs.Common.{Option, Some, None, All, append_assoc, append-nil}
-use Rattle.std.specs.List.Sorted.{IsStrictlyIncreasing}
-use Rattle.std.specs.Option.{option_map, option_map_or}
-use Rattle.std.proofs.lemmas.Bool.{le-leb}
+use Rattle.schedule_text.proofs.Names.{All, Bool, IsStrictlyIncreasing, List, None, Option, Some, [], ap, append-nil, append_assoc, arith, bit_places, le-leb}
+use Rattle.schedule_text.proofs.Names.{length, nat_le, number_in, number_value, option_if, option_map, option_map_or, refl, slice_index, slots, subst, suc, sym}
+use Rattle.schedule_text.proofs.Names.{zero, ℕ, ◌&&◌, ◌++◌, ◌+◌, ◌<◌, ◌>>=◌, ◌∷◌, ◌≡◌, ◌≤◌}
 use Rattle.schedule_text.specs.declared.forms.Kind.TheVariants as kind
-use Rattle.schedule_text.specs.Values.{number_value, number_in, option_if}
-use Rattle.schedule_text.specs.Rules.{slots}
-use Rattle.schedule_text.specs.Lines.{◌>>=◌, bit_places}
 use Rattle.schedule_text.proofs.RowsLemmas.{AllFit}
 
 -- the places of these words, behind others

@@ -1,31 +1,21 @@
 -- What is written of a line or a header is read again as it: one lemma for each kind of word, and a line for each form.
-use Rattle.std.proofs.Common.{◌≡◌, ◌==◌, ◌||◌, ℕ, zero, suc, ◌+◌, ◌*◌, ◌/◌, ◌%◌, ◌^◌, ◌<◌, ◌≤◌, Bool, true, false, not, cond, inl, inr, eqb-true, List, []}
-use Rattle.std.proofs.Common.{◌∷◌, ◌++◌, length, get_or, slice_get, slice_index, map, refl, sym, ◌∙◌, ap, subst, arith, Option, Some, None, Ok, Err}
-use Rattle.std.proofs.Common.{IfSome, Contains, All, codes, length-append}
-use Rattle.std.specs.List.{list_any, AllByRecursion}
-use Rattle.std.specs.List.Sorted.{IsStrictlyIncreasing}
-use Rattle.std.specs.Option.{option_map, option_map_or}
-use Rattle.std.specs.Fmt.{decimal}
 use Rattle.std.proofs.lemmas.Bool.{le-ltb, eq-eqb}
-use Rattle.std.proofs.lemmas.Fmt.{decimal_digit}
-use Rattle.std.proofs.lemmas.List.{get_or_default, length-map}
-use Rattle.hex.specs.Hex.{encode_upper}
-use Rattle.trace_model.specs.declared.line.End.{End}
-use Rattle.trace_model.specs.declared.line.Header.{Header}
-use Rattle.trace_model.specs.declared.line.Line.{Line}
+use Rattle.std.proofs.lemmas.List.{length-map}
+use Rattle.schedule_text.proofs.Names.{All, AllByRecursion, Bool, Contains, End, Err, FormRow, Header, IfSome, IsStrictlyIncreasing, Line, List, None, Ok}
+use Rattle.schedule_text.proofs.Names.{Option, Read, Some, [], activate_row, ap, arith, bit_places, boot_row, busy_row, by_words, byte_text, byte_value}
+use Rattle.schedule_text.proofs.Names.{bytes_value, codes, cond, cut_row, damage_row, decimal, decimal_digit, deliver_row, each_word, encode_upper, end_text}
+use Rattle.schedule_text.proofs.Names.{end_value, eqb-true, false, get_or, get_or_default, init_row, inl, inr, length, length-append, line_of, list_any}
+use Rattle.schedule_text.proofs.Names.{lose_row, map, nodes_row, not, number_in, number_value, number_words, option_map, option_map_or, read_of, ready_row}
+use Rattle.schedule_text.proofs.Names.{refl, reset_row, send_row, sized_value, slice_get, slice_index, slots, spaced, subst, suc, sym, tables_row, tick_row}
+use Rattle.schedule_text.proofs.Names.{true, two_bytes, unless_fault, words_fault, zero, ℕ, ◌%◌, ◌*◌, ◌++◌, ◌+◌, ◌/◌, ◌<◌, ◌==◌, ◌>>=◌, ◌^◌, ◌||◌, ◌∙◌, ◌∷◌}
+use Rattle.schedule_text.proofs.Names.{◌≡◌, ◌≤◌}
 use Rattle.trace_model.specs.declared.line.Line.TheVariants as line
 use Rattle.trace_model.specs.Lines.{IsHost, IsHeader, MayBegin, MayFollow}
 use Rattle.schedule_text.specs.declared.fault.LineFault.TheVariants as fault
 use Rattle.schedule_text.specs.declared.forms.Kind.TheVariants as kind
-use Rattle.schedule_text.specs.declared.read.Read.{Read}
 use Rattle.schedule_text.specs.declared.read.Read.TheVariants as read
-use Rattle.schedule_text.specs.Words.{spaced}
-use Rattle.schedule_text.specs.Values.{byte_value, bytes_value, sized_value, two_bytes, two_bytes_value, number_value, number_in, end_value}
-use Rattle.schedule_text.specs.Forms.{FormRow, nodes_row, boot_row, cut_row, activate_row, init_row, tables_row, send_row, deliver_row, lose_row, damage_row}
-use Rattle.schedule_text.specs.Forms.{tick_row, reset_row, busy_row, ready_row}
-use Rattle.schedule_text.specs.Rules.{slots, words_fault}
-use Rattle.schedule_text.specs.Lines.{◌>>=◌, read_of, bit_places, each_word, unless_fault, by_words, line_of}
-use Rattle.schedule_text.specs.Entries.{byte_text, two_bytes_text, end_text, number_words, header_words, line_words, line_text}
+use Rattle.schedule_text.specs.Values.{two_bytes_value}
+use Rattle.schedule_text.specs.Entries.{header_words, line_text, line_words, two_bytes_text}
 use Rattle.schedule_text.proofs.AgainLemmas.{IsWord, words-spaced, byte_again, end_again, bytes_again, number_again, hex_word, end_word, number_word}
 use Rattle.schedule_text.proofs.AgainLemmas.{length-hex}
 use Rattle.schedule_text.proofs.RowsLemmas.{IsKnown, IsNodeKnown, Fits, AllFit, Right, right_words}

@@ -1,20 +1,13 @@
 -- What is known of the words of a line without fault: one lemma for each kind of word, and_parts ways.
-use Rattle.std.proofs.Common.{◌≡◌, ◌==◌, ◌&&◌, ◌||◌, ℕ, ◌+◌, ◌<◌, ◌≤◌, Bool, true, false, not, cond, List, [], ◌∷◌, length, refl, sym, Option, Some, None}
-use Rattle.std.proofs.Common.{is_some, codes, arith}
-use Rattle.std.proofs.lemmas.Bool.{leb-true, le-leb, and_parts}
-use Rattle.std.specs.List.{list_all, list_any, AllByRecursion}
-use Rattle.std.specs.Option.{option_map, option_or}
-use Rattle.std.specs.Str.{bytes_eq}
+use Rattle.std.proofs.lemmas.Bool.{leb-true}
 use Rattle.std.proofs.lemmas.Slice.Eq.{bytes_eq-Decides}
-use Rattle.trace_model.specs.declared.line.End.{End}
-use Rattle.schedule_text.specs.declared.fault.LineFault.{LineFault}
+use Rattle.schedule_text.proofs.Names.{AllByRecursion, Bool, End, FormRow, Kind, LineFault, List, None, Option, Slot, Some, [], and_parts, arith, byte_value}
+use Rattle.schedule_text.proofs.Names.{bytes_eq, bytes_value, codes, cond, digits_fault, end_value, false, first_digits_fault, first_host_fault, has_shape}
+use Rattle.schedule_text.proofs.Names.{has_third, host_fault, is_some, is_well_formed, le-leb, length, list_all, list_any, not, number_in, option_map}
+use Rattle.schedule_text.proofs.Names.{option_or, refl, rising, row_in, slots, sym, true, words_fault, ℕ, ◌&&◌, ◌+◌, ◌<◌, ◌==◌, ◌||◌, ◌∷◌, ◌≡◌, ◌≤◌}
 use Rattle.schedule_text.specs.declared.fault.LineFault.TheVariants as fault
-use Rattle.schedule_text.specs.declared.forms.Kind.{Kind}
 use Rattle.schedule_text.specs.declared.forms.Kind.TheVariants as kind
-use Rattle.schedule_text.specs.Values.{byte_value, bytes_value, number_in, end_value}
-use Rattle.schedule_text.specs.Forms.{FormRow, has_third, row_in}
-use Rattle.schedule_text.specs.Rules.{Slot, slots, has_shape, rising, no_node, digits_fault, host_fault, is_well_formed, first_digits_fault, first_host_fault}
-use Rattle.schedule_text.specs.Rules.{words_fault}
+use Rattle.schedule_text.specs.Rules.{no_node}
 
 pub or_none : {A : Type 0} (a b : Option A) → option_or a b ≡ None → (a ≡ None) × (b ≡ None)
 or_none a b h = grind arith

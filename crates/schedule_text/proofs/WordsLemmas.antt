@@ -1,15 +1,13 @@
 -- How the words of a line are found from its front.
-use Rattle.std.proofs.Common.{◌≡◌, ◌==◌, ℕ, zero, suc, ◌+◌, ◌<◌, ◌≤◌, Bool, true, false, not, cond, nat_lt, List, [], ◌∷◌, length, get_or, take, drop, refl}
-use Rattle.std.proofs.Common.{sym, ◌∙◌, ap, subst, arith, Some, None, unwrap_or, position, filter, drop-cons, add-one, add-zero, length-drop}
-use Rattle.std.proofs.lemmas.Bool.{eqb-true, ltb-false, ltb-true, not-false}
-use Rattle.std.proofs.lemmas.List.{drop_all, take_all, get_or-drop}
-use Rattle.std.proofs.lemmas.Grind.{common_steps}
-use Rattle.std.proofs.lemmas.Bool.Decides.{nat_tests}
-use Rattle.std.specs.List.{position_or_len, slice_split}
+use Rattle.std.proofs.Common.{add-zero, length-drop}
+use Rattle.std.proofs.lemmas.Bool.{ltb-false, ltb-true, not-false}
+use Rattle.std.proofs.lemmas.List.{drop_all, get_or-drop}
 use Rattle.std.proofs.lemmas.List.Sums.{fails_before_first, passes_at_first, prefix_len-le-length}
 use Rattle.std.proofs.lemmas.List.Splits.{slice_split_first, slice_split_none}
 use Rattle.std.proofs.lemmas.Option.{cond_some}
-use Rattle.schedule_text.specs.Words.{words}
+use Rattle.schedule_text.proofs.Names.{Bool, List, None, Some, [], add-one, ap, arith, common_steps, cond, drop, drop-cons, eqb-true, false, filter, get_or}
+use Rattle.schedule_text.proofs.Names.{length, nat_lt, nat_tests, not, position, position_or_len, refl, slice_split, subst, suc, sym, take, take_all, true}
+use Rattle.schedule_text.proofs.Names.{unwrap_or, words, zero, ℕ, ◌+◌, ◌<◌, ◌==◌, ◌∙◌, ◌∷◌, ◌≡◌, ◌≤◌}
 
 abbrev pub is_space : ℕ → Bool
 is_space b = b == 32

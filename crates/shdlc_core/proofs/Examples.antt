@@ -1,13 +1,9 @@
 -- The machine computes the worked examples: inputs of one end, and what it sends after each of them.
-use Rattle.std.proofs.Common.{◌≡◌, refl, ℕ, suc, zero, List, [], ◌∷◌, Some, None, true, false}
-use Rattle.swp_base.specs.declared.control_frames.Control.{Control}
-use Rattle.swp_base.specs.declared.control_frames.Control.TheVariants.{I, S, Rset, Ua}
-use Rattle.swp_base.specs.declared.control_frames.Kind.TheVariants.{Rr, Rej, Rnr, Srej}
+use Rattle.shdlc_core.proofs.Words.{Control, Down, EndInput, EndState, I, List, None, Offer, Rej, Reset, Rnr, Rr, Rset, S, SetReady, Some, Srej, Take, Tick, Ua}
+use Rattle.shdlc_core.proofs.Words.{Up, [], begun, end_step, false, new_end, refl, suc, take_answer, tick_answer, true, zero, ℕ, ◌∷◌, ◌≡◌}
 use Rattle.swp_base.specs.declared.link_terms.Cause.TheVariants.{NoAnswer, Peer}
-use Rattle.shdlc_core.specs.declared.answers.LinkState.TheVariants.{Down, Up}
 use Rattle.shdlc_core.specs.declared.answers.OfferRefused.TheVariants.{NotUp, QueueFull}
-use Rattle.shdlc_core.specs.Machine.{EndState, EndInput, new_end, begun, end_step, all_frames, all_fetched, offer_refusal, take_answer, tick_answer}
-use Rattle.shdlc_core.specs.Machine.EndInput.{Offer, Take, Tick, Reset, SetReady}
+use Rattle.shdlc_core.specs.Machine.{all_fetched, all_frames, offer_refusal}
 
 -- what is sent after each of these inputs
 abbrev play : EndState → List EndInput → List (List Control)

@@ -1,10 +1,6 @@
 -- What the frame that is sent now carries.
-use Rattle.std.proofs.Common.{ℕ, ◌≡◌, ◌%◌, List, [], Option, Some, refl, arith}
-use Rattle.swp_base.specs.declared.control_frames.Control.{Control}
-use Rattle.swp_base.specs.declared.control_frames.Control.TheVariants.{I}
-use Rattle.shdlc_core.specs.declared.answers.Due.{Due}
-use Rattle.shdlc_core.specs.Machine.{EndState, Fragment, frame_due, fragment_due, expected}
-use Rattle.shdlc_core.specs.Histories.{CarriesNr}
+use Rattle.shdlc_core.proofs.Words.{CarriesNr, Control, Due, EndState, Fragment, I, List, Option, Some, [], arith, fragment_due, frame_due, refl, ℕ, ◌%◌, ◌≡◌}
+use Rattle.shdlc_core.specs.Machine.{expected}
 
 frame-nr_by : (e : EndState) (c : Control) (ds : List Due) (o : Option Fragment) → e.due ≡ ds → fragment_due e.session ≡ o →
     frame_due e ≡ Some c → CarriesNr (expected e.session) c

@@ -1,26 +1,19 @@
 -- What is true of an end and of the history of its session, whatever comes to it.
-use Rattle.std.proofs.Common.{ℕ, ◌+◌, ◌-◌, ◌<◌, ◌≤◌, ◌≡◌, ◌≢◌, ◌↔◌, Bool, true, false, List, [], ◌∷◌, ◌++◌, length, Option, Some, None, refl, sym, ap, subst}
-use Rattle.std.proofs.Common.{◌∙◌, arith, max, min, option_to_list, nat_lt, length-append, slice_get, ◌⊎◌, inl, inr, ◌%◌}
-use Rattle.std.specs.Prelude.{Contains, ◌==◌}
+use Rattle.std.proofs.Common.{option_to_list, ◌↔◌, ◌≢◌}
+use Rattle.std.specs.Prelude.{Contains}
 use Rattle.std.proofs.lemmas.Bool.{cases_lt}
 use Rattle.std.proofs.lemmas.Option.{slice_get_within}
 use Rattle.std.proofs.lemmas.List.Elements.{Contains-append_cases, Contains-append_left, Contains-append_right}
-use Rattle.std.proofs.lemmas.List.{append-nil, append_assoc}
-use Rattle.std.proofs.lemmas.Grind.{common_steps}
-use Rattle.swp_base.specs.declared.control_frames.Control.{Control}
-use Rattle.swp_base.specs.declared.control_frames.Control.TheVariants.{I, S, Rset, Ua, Act, Clt}
-use Rattle.swp_base.specs.declared.control_frames.Kind.{Kind}
-use Rattle.swp_base.specs.declared.control_frames.Kind.TheVariants.{Rr, Rej, Rnr, Srej}
-use Rattle.shdlc_core.specs.declared.answers.LinkState.{LinkState}
-use Rattle.shdlc_core.specs.declared.answers.LinkState.TheVariants.{Down, Waiting, Up}
-use Rattle.shdlc_core.specs.declared.answers.Due.{Due}
+use Rattle.shdlc_core.proofs.Words.{Act, Begin, Bool, Clt, Control, Down, Due, EndInput, EndState, Fragment, I, Kind, LinkState, List, NextOut, None, Offer}
+use Rattle.shdlc_core.proofs.Words.{Option, Rej, Reset, Rnr, Rr, Rset, S, Session, SessionHistory, SetReady, Some, Srej, Stop, Take, Tick, Timed, Ua, Up}
+use Rattle.shdlc_core.proofs.Words.{Waiting, [], acknowledged, ap, append-nil, append_assoc, arith, begun, common_steps, end_step, false, fragment_accepted}
+use Rattle.shdlc_core.proofs.Words.{fragment_due, inl, inr, length, length-append, made_busy, max, min, nat_lt, new_end, new_session, no_history, no_session}
+use Rattle.shdlc_core.proofs.Words.{place_of, ready_again, received, refl, rejected, runs_timer, shdlc_after_inputs, slice_get, stopped, subst, sym, timed}
+use Rattle.shdlc_core.proofs.Words.{true, up_with, waiting_from, ℕ, ◌%◌, ◌++◌, ◌+◌, ◌-◌, ◌<◌, ◌==◌, ◌∙◌, ◌∷◌, ◌≡◌, ◌≤◌, ◌⊎◌}
 use Rattle.shdlc_core.specs.declared.answers.Due.TheVariants.{Rr as Due_rr, Rej as Due_rej, Rnr as Due_rnr, Rset as Due_rset, Ua as Due_ua}
-use Rattle.shdlc_core.specs.Machine.{begun, stopped, shdlc_after_inputs, fragment_due, sent_next, Timed, timed, runs_timer, up_with, waiting_from, given_up}
-use Rattle.shdlc_core.specs.Machine.{sent_again, EndState, EndInput, EndOutput, Fragment, Session, end_step, new_session, no_session, new_end, place_of}
-use Rattle.shdlc_core.specs.Machine.{received, acknowledged, fragment_accepted, ready_again, rejected, made_busy}
+use Rattle.shdlc_core.specs.Machine.{EndOutput, given_up, sent_again, sent_next}
 use Rattle.shdlc_core.specs.Machine.Timed.{Runs, Over, Spent}
-use Rattle.shdlc_core.specs.Machine.EndInput.{Begin, Offer, Take, Tick, Reset, Stop, SetReady, NextOut}
-use Rattle.shdlc_core.specs.Histories.{SessionHistory, no_history, with_answer, history_after, IsNextFragment, IsOneSession, Begins, accepted_at}
+use Rattle.shdlc_core.specs.Histories.{Begins, IsNextFragment, IsOneSession, accepted_at, history_after, with_answer}
 
 -- an end that isn't Up has nothing of a session
 abbrev pub IsIdle : LinkState → Session → Type 0

@@ -1,10 +1,8 @@
 -- An end at which nothing is under way: a tick is nothing to it, and it sends no frame.
-use Rattle.std.proofs.Common.{◌≡◌, ℕ, zero, suc, ◌+◌, Bool, [], length, refl, ap, ◌∙◌, arith}
-use Rattle.std.specs.Prelude.{None, not, ◌||◌, ◌&&◌, nat_lt, if◌then◌else◌, slice_get}
 use Rattle.std.proofs.lemmas.Option.{slice_get_past}
-use Rattle.shdlc_core.specs.declared.answers.LinkState.TheVariants.{Up}
-use Rattle.shdlc_core.specs.Machine.{EndState, Session, ticked, tick_answer, nothing_ticked, frame_due, fragment_due, fetched, frames_of, after_frames}
-use Rattle.shdlc_core.specs.Kept.{KeptEnd, ShdlcStandsFor}
+use Rattle.shdlc_core.proofs.Words.{Bool, EndState, KeptEnd, None, Session, ShdlcStandsFor, Up, [], ap, arith, fetched, fragment_due, frame_due, if◌then◌else◌}
+use Rattle.shdlc_core.proofs.Words.{length, nat_lt, not, refl, slice_get, suc, tick_answer, ticked, zero, ℕ, ◌&&◌, ◌+◌, ◌||◌, ◌∙◌, ◌≡◌}
+use Rattle.shdlc_core.specs.Machine.{after_frames, frames_of, nothing_ticked}
 
 -- it is Up, and all that was offered is acknowledged
 pub record IsIdle (e : EndState) : Type 0 where

@@ -1,3 +1,4 @@
+mod Words
 mod Examples
 pub mod Steps
 pub mod Histories

@@ -1,18 +1,10 @@
 -- What taking a frame does where only some fragments were offered is what it does with all of them.
-use Rattle.std.proofs.Common.{◌≡◌, ℕ, ◌+◌, ◌≤◌, ◌==◌, Bool, true, false, List, [], ◌∷◌, ◌++◌, refl, sym, ◌∙◌, arith, min}
-use Rattle.std.specs.Prelude.{Option, Some, None, ◌&&◌, nat_lt, if◌then◌else◌}
-use Rattle.std.proofs.lemmas.List.{append-nil}
-use Rattle.swp_base.specs.declared.control_frames.Control.{Control}
-use Rattle.swp_base.specs.declared.control_frames.Control.TheVariants.{I, S, Rset, Ua, Act, Clt}
-use Rattle.swp_base.specs.declared.control_frames.Kind.{Kind}
-use Rattle.swp_base.specs.declared.control_frames.Kind.TheVariants.{Rr, Rej, Rnr, Srej}
-use Rattle.shdlc_core.specs.declared.answers.LinkState.{LinkState}
-use Rattle.shdlc_core.specs.declared.answers.LinkState.TheVariants.{Down, Waiting, Up}
+use Rattle.shdlc_core.proofs.Words.{Act, Bool, Clt, Control, Down, EndState, Fragment, HasSession, I, IsNarrow, Kind, LinkState, List, None, Option, Rej, Rnr}
+use Rattle.shdlc_core.proofs.Words.{Rr, Rset, S, Some, Srej, Ua, Up, Waiting, [], accepted, acknowledged, append-nil, arith, false, fragment_accepted}
+use Rattle.shdlc_core.proofs.Words.{if◌then◌else◌, left_waiting, made_busy, min, nat_lt, option_to_list, place_of, ready_again, received, refl, rejected, sym}
+use Rattle.shdlc_core.proofs.Words.{take_answer, taken, true, up_with, with_out, ℕ, ◌&&◌, ◌++◌, ◌+◌, ◌==◌, ◌∙◌, ◌∷◌, ◌≡◌, ◌≤◌}
 use Rattle.shdlc_core.specs.declared.answers.Due.TheVariants.{Rej as Rej_due}
-use Rattle.shdlc_core.specs.Machine.{EndState, Fragment, taken, take_answer, place_of, ahead, accepted, repeated, discarded, acknowledged, ready_again}
-use Rattle.shdlc_core.specs.Machine.{rejected, made_busy, received, fragment_accepted, up_with}
-use Rattle.shdlc_core.specs.Offering.{with_out, left_waiting, IsNarrow, HasSession}
-use Rattle.std.specs.Option.{option_to_list}
+use Rattle.shdlc_core.specs.Machine.{ahead, discarded, repeated}
 use Rattle.shdlc_core.proofs.Histories.{in_phase, place_of-within}
 
 -- ## Taking a frame

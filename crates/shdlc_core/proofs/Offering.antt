@@ -1,21 +1,15 @@
 -- What the machine does where it was offered only some of its fragments is what it does with all of them.
-use Rattle.std.proofs.Common.{◌≡◌, ℕ, ◌+◌, ◌<◌, ◌≤◌, ◌==◌, ◌⊎◌, inl, inr, Bool, true, false, List, [], ◌∷◌, ◌++◌, length, refl, sym, ap, ◌∙◌, arith, subst}
-use Rattle.std.proofs.Common.{length-append}
-use Rattle.std.specs.Prelude.{Option, Some, None, not, ◌&&◌, ◌||◌, slice_get, is_some, nat_lt, if◌then◌else◌}
+use Rattle.std.specs.Prelude.{is_some}
 use Rattle.std.proofs.lemmas.Option.{slice_get-get_or}
-use Rattle.std.proofs.lemmas.List.{get_or_append_left, append-nil, append_assoc}
+use Rattle.std.proofs.lemmas.List.{get_or_append_left}
 use Rattle.std.proofs.lemmas.Bool.{ltb-true, ltb-false, lt-ltb}
-use Rattle.swp_base.specs.declared.control_frames.Control.{Control}
-use Rattle.swp_base.specs.declared.control_frames.Control.TheVariants.{Rset}
-use Rattle.shdlc_core.specs.declared.answers.LinkState.{LinkState}
-use Rattle.shdlc_core.specs.declared.answers.LinkState.TheVariants.{Down, Waiting, Up}
-use Rattle.shdlc_core.specs.declared.answers.Taken.{Taken}
-use Rattle.shdlc_core.specs.declared.answers.Due.{Due}
-use Rattle.shdlc_core.specs.Machine.{EndState, Session, Fragment, runs_timer, taken, take_answer, ticked, tick_answer, reset_with, with_ready, fetched}
-use Rattle.shdlc_core.specs.Machine.{frame_due, fragment_due, accepted, is_waiting, offered, put_out, stopped, no_session}
-use Rattle.shdlc_core.specs.Kept.{KeptEnd, ShdlcStandsFor}
-use Rattle.shdlc_core.specs.Offering.{with_out, left_waiting, IsNarrow, HasSession, StandsBefore, StandsWith}
-use Rattle.std.specs.Option.{option_to_list}
+use Rattle.shdlc_core.proofs.Words.{Bool, Control, Down, Due, EndState, Fragment, HasSession, IsNarrow, KeptEnd, LinkState, List, None, Option, Rset, Session}
+use Rattle.shdlc_core.proofs.Words.{ShdlcStandsFor, Some, Taken, Up, Waiting, [], accepted, ap, append-nil, append_assoc, arith, false, fetched, fragment_due}
+use Rattle.shdlc_core.proofs.Words.{frame_due, if◌then◌else◌, inl, inr, is_waiting, left_waiting, length, length-append, nat_lt, no_session, not}
+use Rattle.shdlc_core.proofs.Words.{option_to_list, refl, reset_with, runs_timer, slice_get, stopped, subst, sym, take_answer, taken, tick_answer, ticked, true}
+use Rattle.shdlc_core.proofs.Words.{with_out, ℕ, ◌&&◌, ◌++◌, ◌+◌, ◌<◌, ◌==◌, ◌||◌, ◌∙◌, ◌∷◌, ◌≡◌, ◌≤◌, ◌⊎◌}
+use Rattle.shdlc_core.specs.Machine.{offered, put_out, with_ready}
+use Rattle.shdlc_core.specs.Offering.{StandsBefore, StandsWith}
 use Rattle.shdlc_core.proofs.Histories.{in_phase}
 use Rattle.shdlc_core.proofs.OfferedFrames.{alike_in, taken_alike}
 

@@ -1,14 +1,10 @@
 -- What the machine does with a frame whose number is valid.
-use Rattle.std.proofs.Common.{ℕ, ◌≡◌, ◌-◌, Option, Some, None, false, arith}
-use Rattle.swp_base.specs.declared.control_frames.Control.TheVariants.{I, S}
-use Rattle.swp_base.specs.declared.control_frames.Kind.TheVariants.{Rr, Rej, Rnr}
+use Rattle.shdlc_core.proofs.Words.{EndState, Fragment, I, LinkState, None, Option, Rej, Rnr, Rr, S, Some, Taken, Up, Waiting, acknowledged, arith, false}
+use Rattle.shdlc_core.proofs.Words.{fragment_accepted, is_waiting, made_busy, place_of, ready_again, received, rejected, reset_with, take_answer, taken}
+use Rattle.shdlc_core.proofs.Words.{waiting_from, ℕ, ◌-◌, ◌≡◌}
 use denote.Enum.Bare.{sameb}
 use Rattle.shdlc_core.specs.contracts.answers.LinkState.{the_type}
-use Rattle.shdlc_core.specs.declared.answers.LinkState.{LinkState}
-use Rattle.shdlc_core.specs.declared.answers.LinkState.TheVariants.{Waiting, Up}
-use Rattle.shdlc_core.specs.declared.answers.Taken.{Taken}
-use Rattle.shdlc_core.specs.Machine.{is_waiting, reset_with, waiting_from, EndState, Fragment, place_of, taken, take_answer, received, acknowledged}
-use Rattle.shdlc_core.specs.Machine.{ready_again, rejected, made_busy, nothing_taken, fragment_accepted}
+use Rattle.shdlc_core.specs.Machine.{nothing_taken}
 
 pub taken-fragment : (e : EndState) (ns nr : ℕ) (info : Fragment) (x : ℕ) → e.phase ≡ Up → place_of e.session nr ≡ Some x →
     taken e (I ns nr info) ≡ received (acknowledged e x) ns info

@@ -1,18 +1,9 @@
 -- The timer, the tries and the windows of an end, whatever comes to it.
-use Rattle.std.proofs.Common.{ℕ, ◌+◌, ◌<◌, ◌≤◌, ◌≡◌, Bool, true, false, List, [], ◌∷◌, ◌++◌, length, Option, Some, None, refl, sym, subst, ◌∙◌, arith, max, min}
-use Rattle.std.proofs.Common.{nat_lt, cond}
-use Rattle.std.specs.Prelude.{◌==◌}
-use Rattle.std.proofs.lemmas.Grind.{common_steps}
-use Rattle.swp_base.specs.declared.control_frames.Control.{Control}
-use Rattle.swp_base.specs.declared.control_frames.Control.TheVariants.{I, S, Rset, Ua, Act, Clt}
-use Rattle.swp_base.specs.declared.control_frames.Kind.{Kind}
-use Rattle.shdlc_core.specs.declared.answers.LinkState.{LinkState}
-use Rattle.shdlc_core.specs.declared.answers.LinkState.TheVariants.{Down, Waiting, Up}
-use Rattle.shdlc_core.specs.declared.answers.Due.{Due}
-use Rattle.shdlc_core.specs.Machine.{Timed, timed, runs_timer, EndState, EndInput, Fragment, Session, end_step, new_session, new_end, place_of, received}
-use Rattle.shdlc_core.specs.Machine.{acknowledged, shdlc_after_inputs}
-use Rattle.shdlc_core.specs.Machine.EndInput.{Begin, Offer, Take, Tick, Reset, Stop, SetReady, NextOut}
-use Rattle.shdlc_core.specs.Histories.{SessionHistory, AskForWindows, no_history}
+use Rattle.shdlc_core.proofs.Words.{Act, Begin, Bool, Clt, Control, Down, Due, EndInput, EndState, Fragment, I, Kind, LinkState, List, NextOut, None, Offer}
+use Rattle.shdlc_core.proofs.Words.{Option, Reset, Rset, S, Session, SessionHistory, SetReady, Some, Stop, Take, Tick, Timed, Ua, Up, Waiting, [], acknowledged}
+use Rattle.shdlc_core.proofs.Words.{arith, common_steps, cond, end_step, false, length, max, min, nat_lt, new_end, new_session, no_history, place_of, received}
+use Rattle.shdlc_core.proofs.Words.{refl, runs_timer, shdlc_after_inputs, subst, sym, timed, true, ℕ, ◌++◌, ◌+◌, ◌<◌, ◌==◌, ◌∙◌, ◌∷◌, ◌≡◌, ◌≤◌}
+use Rattle.shdlc_core.specs.Histories.{AskForWindows}
 use Rattle.shdlc_core.proofs.Histories.{IsOrdered, Holds, new-Holds, step-Holds, place_of-within, in_phase, received-phase, received-sending}
 
 abbrev pub IsWindow : ℕ → Type 0

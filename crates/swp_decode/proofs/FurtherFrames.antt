@@ -1,31 +1,24 @@
 -- Bits, lines and frames that come further, and the bits of many periods.
-use Rattle.std.proofs.Common.{◌≡◌, ℕ, suc, zero, ◌+◌, ◌-◌, ◌*◌, ◌/◌, ◌%◌, ◌^◌, ◌<◌, ◌≤◌, Bool, true, false, List, [], ◌∷◌, ◌++◌, Option, Some, unwrap_or}
-use Rattle.std.proofs.Common.{length, take, drop, replicate, refl, sym, ap, ap₂, ◌∙◌, subst, arith, take-add, get_or, reverse, append_assoc, append-nil}
-use Rattle.std.proofs.Common.{length-append}
-use Rattle.std.proofs.lemmas.List.{length-take-le, take_more, reverse-append, length-reverse}
-use Rattle.std.proofs.lemmas.Nat.{mod-pow-add, shr-shr, field_of, shl-shr}
-use Rattle.std.specs.Prelude.{Option}
-use Rattle.swp_base.specs.Bits.{bit}
-use Rattle.swp_crc.specs.Division.{spelled_number}
-use Rattle.swp_frame.specs.Signal.{Symbol, symbol_of, run_of, no_mark, mark_of, since_start, read_on, HasNoMark, break}
-use Rattle.swp_frame.specs.Words.{low_bits, places_of_marks, run_after, word_bits, IsWordBehind}
-use Rattle.swp_frame.specs.declared.word.Word.{Word}
+use Rattle.std.proofs.Common.{zero}
+use Rattle.std.proofs.lemmas.Nat.{mod-pow-add, shl-shr, shr-shr}
+use Rattle.swp_decode.proofs.Names.{AreBits, Bits, Bool, DecoderStandsFor, HasNoMark, List, NoMarkEnds, Option, Period, ReadSymbol, ReadsSignal, S1, S2, Some}
+use Rattle.swp_decode.proofs.Names.{Symbol, Wire, Word, [], ap, append-nil, append_assoc, ap₂, arith, bit, break, drop, false, field_of, frame_given}
+use Rattle.swp_decode.proofs.Names.{frames_with, front_of, get_or, length, length-append, length-low_bits, length-reverse, length-take-le, line_at, line_with}
+use Rattle.swp_decode.proofs.Names.{lines_with, low_bits-at, mark_of, mod-cut, no_mark, period_at, readings_on, refl, replicate, reverse, reverse-append}
+use Rattle.swp_decode.proofs.Names.{run_of, signal, spelled_number, start_after, start_of, subst, suc, sym, symbol_of, symbol_on, symbols, take, take-add}
+use Rattle.swp_decode.proofs.Names.{take_more, true, unwrap_or, with_reading, word_bits, ℕ, ◌%◌, ◌*◌, ◌++◌, ◌+◌, ◌-◌, ◌/◌, ◌<◌, ◌^◌, ◌∙◌, ◌∷◌, ◌≡◌, ◌≤◌}
+use Rattle.swp_frame.specs.Signal.{read_on, since_start}
+use Rattle.swp_frame.specs.Words.{IsWordBehind, low_bits, places_of_marks, run_after}
 use Rattle.swp_frame.specs.Verdicts.{verdict_after}
 use Rattle.swp_frame.specs.declared.fed.Fed.TheVariants.{Nothing}
-use Rattle.swp_frame.proofs.Places.{length-low_bits, low_bits-at, drop-low_bits, low_bits-add, low_bits-same, take-low_bits, mod-cut, EndsIn, all_ones}
+use Rattle.swp_frame.proofs.Places.{EndsIn, all_ones, drop-low_bits, low_bits-add, low_bits-same, take-low_bits}
 use Rattle.swp_frame.proofs.Places.{last_zero, run_at_end, marks_between, no_marks}
 use Rattle.swp_frame.proofs.FurtherBits.{run_of-read_on}
-use Rattle.swp_decode.specs.declared.line.Wire.{Wire}
-use Rattle.swp_decode.specs.Readings.{ReadSymbol, with_reading, readings_on, symbols, front_after, front_of, start_after, start_of, symbol_on, AreBits, signal}
+use Rattle.swp_decode.specs.Readings.{front_after}
 use Rattle.swp_decode.specs.Texts.{verdict_line}
-use Rattle.swp_decode.specs.Decoded.{line_with, lines_on, line_at, lines_with, transcript, record_lines}
-use Rattle.swp_decode.specs.Kept.{NoMarkEnds, ReadsSignal, DecoderStandsFor}
-use Rattle.swp_decode.specs.declared.line.Wire.TheVariants.{S1, S2}
+use Rattle.swp_decode.specs.Decoded.{lines_on, record_lines, transcript}
 use Rattle.swp_decode.specs.declared.decoder.Decoder.{Decoder}
-use Rattle.swp_decode.specs.Frames.{frame_with, frame_given, frames_told, frames_with, record_frames}
-use Rattle.swp_line.specs.declared.period.Period.{Period}
-use Rattle.swp_line.specs.declared.period.Period.TheVariants.{Bits}
-use Rattle.swp_line.specs.Periods.{period_at}
+use Rattle.swp_decode.specs.Frames.{frame_with, frames_told, record_frames}
 
 pub symbols-readings_on : (place : ℕ) (bits : List Bool) (older : List ReadSymbol) → symbols (readings_on place bits older) ≡ read_on (symbols older) bits
 symbols-readings_on place [] older = refl

@@ -1,3 +1,4 @@
+mod Names
 pub mod Numerals
 pub mod FurtherFrames
 pub mod Sixteen

@@ -1,13 +1,11 @@
 -- The next place at which a mark ends on one of two wires.
-use Rattle.std.proofs.Common.{◌≡◌, refl, ℕ, suc, ◌+◌, ◌-◌, ◌*◌, ◌/◌, ◌%◌, ◌^◌, ◌<◌, ◌≤◌, sym, ap, ap₂, ◌∙◌, subst, arith}
+use Rattle.swp_decode.proofs.Names.{ap, ap₂, arith, bit_or, field_of, mod-cut, pow-suc, refl, subst, suc, sym, ℕ, ◌%◌, ◌*◌, ◌+◌, ◌-◌, ◌/◌, ◌<◌, ◌^◌, ◌∙◌, ◌≡◌}
+use Rattle.swp_decode.proofs.Names.{◌≤◌}
 use mathlib.Core.Logic.{inl, inr}
-use Rattle.std.specs.Int.RustNames.{bit_or}
-use Rattle.std.proofs.Math.Nat.{pow-suc}
 use Rattle.std.proofs.Math.Pow.{pow_mono}
 use Rattle.std.proofs.lemmas.Bool.{cases_lt}
-use Rattle.std.proofs.lemmas.Nat.{leading_length, or_mod, le_or_l, le_or_r, field_of, shr_below, one_shl, mod_below, pow_pos}
+use Rattle.std.proofs.lemmas.Nat.{le_or_l, le_or_r, leading_length, mod_below, one_shl, or_mod, pow_pos, shr_below}
 use lib.Count.{count_leading_zeros}
-use Rattle.swp_frame.proofs.Places.{mod-cut}
 
 -- the first place of a 1 among the bits behind a place, or all sixty-four
 pub record IsNext (n read to : ℕ) : Type 0 where

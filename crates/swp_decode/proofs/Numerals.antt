@@ -1,12 +1,11 @@
 -- Decimal and hexadecimal digits.
-use Rattle.std.proofs.Common.{◌≡◌, ℕ, ◌+◌, ◌*◌, ◌/◌, ◌%◌, ◌^◌, ◌<◌, ◌≤◌, List, [], ◌∷◌, ◌++◌, true, eqb, eqb-true, get_or, refl, ap, ap₂, ◌∙◌, arith}
-use Rattle.std.proofs.Common.{append_assoc, ◌&&◌, ltb, ltb-true, length, take, sym, length-append, length-take}
-use Rattle.std.specs.Prelude.{decimal}
-use Rattle.std.proofs.lemmas.Bool.{agree_below, agree_below_at, and_parts}
-use Rattle.std.proofs.lemmas.Fmt.{decimal_step, decimal_digit}
+use Rattle.std.proofs.Common.{length-take, ltb, ltb-true}
+use Rattle.std.proofs.lemmas.Bool.{and_parts}
+use Rattle.std.proofs.lemmas.Fmt.{decimal_step}
 use Rattle.std.specs.Fmt.{digit_glyph}
+use Rattle.swp_decode.proofs.Names.{List, [], agree_below, agree_below_at, ap, append_assoc, ap₂, arith, decimal, decimal_digit, eqb, eqb-true, get_or, hex_of}
+use Rattle.swp_decode.proofs.Names.{length, length-append, refl, sym, take, true, ℕ, ◌%◌, ◌&&◌, ◌*◌, ◌++◌, ◌+◌, ◌/◌, ◌<◌, ◌^◌, ◌∙◌, ◌∷◌, ◌≡◌, ◌≤◌}
 use Rattle.swp_decode.specs.declared.words.TheConstants.{DECIMAL_PAIRS, PAIRS}
-use Rattle.swp_decode.specs.Texts.{hex_of}
 
 pair_checks : agree_below (λ n. eqb (get_or DECIMAL_PAIRS n 0) (48 + n / 10 + 256 * (48 + n % 10))) (λ n. true) 100 ≡ true
 pair_checks = refl

@@ -1,21 +1,14 @@
 -- Which of sixteen bytes are periods with bits, and what bits they are.
-use Rattle.std.proofs.Common.{◌≡◌, ℕ, suc, ◌+◌, ◌%◌, ◌^◌, ◌<◌, Bool, true, false, ◌&&◌, ◌||◌, cond, eqb, List, [], ◌∷◌, ◌++◌, Option, Some, None, map, length}
-use Rattle.std.proofs.Common.{reverse, replicate, get_or, refl, sym, ap, ap₂, ◌∙◌, subst, arith, w8}
-use Rattle.std.proofs.Math.Nat.{pow-suc}
-use Rattle.std.proofs.lemmas.List.{reverse-append, length-reverse, length-map, map-append}
-use Rattle.std.proofs.lemmas.Bool.{agree_below, agree_below_at}
+use Rattle.std.proofs.Common.{map, w8, ◌||◌}
+use Rattle.std.proofs.lemmas.List.{length-map, map-append}
 use Rattle.std.proofs.lemmas.Simd.{bitmask_splat}
 use Rattle.std.specs.Simd.Lanes.{mask_l, zip2, top}
-use Rattle.swp_line.specs.declared.period.Period.{Period}
-use Rattle.swp_line.specs.declared.period.Period.TheVariants.{Bits, Suspended, ResumeAsked, Deactivated}
-use Rattle.swp_line.specs.Periods.{period_at}
-use Rattle.swp_crc.specs.Division.{spelled_number}
+use Rattle.swp_decode.proofs.Names.{AreBits, Bits, Bool, Deactivated, List, None, Option, Period, S1, S2, Some, [], agree_below, agree_below_at, ap, ap₂, arith}
+use Rattle.swp_decode.proofs.Names.{cond, eqb, false, get_or, length, length-reverse, low_bits, period_at, pow-suc, refl, replicate, reverse, reverse-append}
+use Rattle.swp_decode.proofs.Names.{spelled_number, subst, suc, sym, symbol_of, symbol_on, true, ℕ, ◌%◌, ◌&&◌, ◌++◌, ◌+◌, ◌<◌, ◌^◌, ◌∙◌, ◌∷◌, ◌≡◌}
+use Rattle.swp_line.specs.declared.period.Period.TheVariants.{ResumeAsked, Suspended}
 use Rattle.swp_crc.proofs.Numbers.{number_of-lt}
-use Rattle.swp_frame.specs.Signal.{symbol_of}
-use Rattle.swp_frame.specs.Words.{low_bits}
 use Rattle.swp_frame.proofs.Places.{low_bits-number_of}
-use Rattle.swp_decode.specs.declared.line.Wire.TheVariants.{S1, S2}
-use Rattle.swp_decode.specs.Readings.{symbol_on, AreBits}
 use Rattle.swp_decode.proofs.FurtherFrames.{bits_there}
 
 -- ---- the mask of the lanes in reverse is the number of the bits

@@ -1,23 +1,21 @@
 -- Bits kept as whole bytes and a rest.
-use Rattle.std.proofs.Common.{◌≡◌, ℕ, zero, suc, ◌+◌, ◌-◌, ◌*◌, ◌/◌, ◌%◌, ◌^◌, ◌≤◌, ◌<◌, Bool, List, [], ◌∷◌, ◌++◌, length, take, drop, get_or, refl, sym, ap}
-use Rattle.std.proofs.Common.{ap₂, w64, ◌∙◌, subst, arith, length-append, length-take, length-drop, append_assoc, take-append-drop}
+use Rattle.std.proofs.Common.{length-drop}
+use Rattle.swp_frame.proofs.Words.{Bool, Frame, List, [], ap, append_assoc, ap₂, arith, bits_of, crc_of, drop, get_or, judged, judged_bytes, length}
+use Rattle.swp_frame.proofs.Words.{length-append, length-bits_of, length-take, length-take-le, refl, run_bits, shl-shr, spelled_number, subst, suc, sym, take}
+use Rattle.swp_frame.proofs.Words.{take-append-drop, to_be_bytes, w64, zero, ℕ, ◌%◌, ◌*◌, ◌++◌, ◌+◌, ◌-◌, ◌/◌, ◌<◌, ◌^◌, ◌∙◌, ◌∷◌, ◌≡◌, ◌≤◌}
 use mir.Val.{bool_byte}
 use Rattle.std.proofs.Math.Seq.{take-append_seam}
-use Rattle.std.proofs.lemmas.List.{length-take-le}
-use Rattle.std.proofs.lemmas.Nat.{div-mul-add, mod-mul-add, shl-shr}
-use Rattle.swp_base.specs.Bits.{bits_of, bits_of_byte}
-use Rattle.swp_crc.specs.Division.{spelled_number}
+use Rattle.std.proofs.lemmas.Nat.{div-mul-add, mod-mul-add}
+use Rattle.swp_base.specs.Bits.{bits_of_byte}
 use Rattle.swp_crc.proofs.Numbers.{number_of-append, number_of-lt}
 use Rattle.swp_crc.proofs.Entries.{number_of_byte}
-use Rattle.swp_base.proofs.BitLemmas.{bits_of-append, length-bits_of}
+use Rattle.swp_base.proofs.BitLemmas.{bits_of-append}
 use Rattle.swp_frame.specs.Words.{low_bits}
 use Rattle.swp_frame.proofs.Places.{byte_bits, low_bits-same, low_bits-add, low_bits-number_of, no_wrap, upper_joined, lower_joined}
-use Rattle.std.specs.Int.{to_be_bytes}
-use Rattle.swp_crc.specs.Crc.{crc_of}
 use Rattle.swp_base.specs.declared.link_terms.FrameFault.TheVariants.{Crc}
-use Rattle.swp_frame.specs.declared.fed.Fed.TheVariants.{Frame, Refused}
-use Rattle.swp_frame.specs.Content.{bytes_from, bytes_of_bits, judged_bytes, judged}
-use Rattle.swp_frame.specs.Kept.{AreBytes, KeepsBits, run_bits}
+use Rattle.swp_frame.specs.declared.fed.Fed.TheVariants.{Refused}
+use Rattle.swp_frame.specs.Content.{bytes_from, bytes_of_bits}
+use Rattle.swp_frame.specs.Kept.{AreBytes, KeepsBits}
 
 AreBytes-push : (bytes : List ℕ) (b : ℕ) → AreBytes bytes → b < 256 → AreBytes (bytes ++ b ∷ [])
 AreBytes-push [] b h s = (s, tt)

@@ -1,8 +1,7 @@
 -- Bits behind what was read.
-use Rattle.std.proofs.Common.{◌≡◌, ◌≢◌, Bool, true, false, List, [], ◌∷◌, Option, refl, ap, ◌∙◌, arith}
-use Rattle.std.specs.Prelude.{option_map}
-use Rattle.swp_frame.specs.Signal.{Symbol, bit_0, bit_1, symbol_of, run_of, mark_of, no_mark, since_start, read_on, HasNoMark}
-use Rattle.swp_frame.specs.Words.{run_after}
+use Rattle.swp_frame.proofs.Words.{Bool, HasNoMark, List, Option, Symbol, [], ap, arith, bit_0, bit_1, false, no_mark, option_map, read_on, refl, run_after}
+use Rattle.swp_frame.proofs.Words.{run_of, since_start, symbol_of, true, ◌∙◌, ◌∷◌, ◌≡◌, ◌≢◌}
+use Rattle.swp_frame.specs.Signal.{mark_of}
 
 -- where no mark ends, a frame that is open stays open, and one that isn't doesn't open
 pub quiet_since : (seen : List Symbol) (bits : List Bool) → HasNoMark seen bits

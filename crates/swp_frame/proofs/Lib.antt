@@ -1,3 +1,4 @@
+mod Words
 pub mod Places
 pub mod ContentLemmas
 pub mod WritingLemmas

@@ -1,22 +1,21 @@
 -- Bits of words: their low bits, shifts and runs, and the places of marks.
-use Rattle.std.proofs.Common.{◌≡◌, ℕ, suc, zero, ◌+◌, ◌-◌, ◌*◌, ◌/◌, ◌%◌, ◌^◌, ◌<◌, ◌≤◌, Bool, false, List, ◌∷◌, ◌++◌, length, get_or, take, drop, eqb, refl}
-use Rattle.std.proofs.Common.{sym, ap, ap₂, ◌∙◌, subst, arith, ◌≢◌, true, not, cond, [], replicate, reverse, Option, Some, None, append_assoc, append-nil, min}
-use Rattle.std.proofs.Common.{w64}
-use Rattle.std.specs.Int.{bit_at, trailing_zeros, trailing_ones}
-use Rattle.std.proofs.Math.Nat.{mod-eq_of_lt, mul-le-mul_right, pow-suc}
-use Rattle.std.proofs.lemmas.Nat.{mod-pow-add, shr-shr, field_of, shl_below, mod_low, shr_split, mod_below, pow_pos, pow-add, shl-shr, shr_high, shr_below}
-use Rattle.std.proofs.Math.Pow.{pow_mono}
-use Rattle.std.proofs.lemmas.Bool.{eq-eqb, cases_lt}
-use Rattle.std.proofs.lemmas.List.{reverse-append}
+use Rattle.std.proofs.Common.{replicate}
+use Rattle.std.proofs.Math.Nat.{mul-le-mul_right, pow-suc}
+use Rattle.std.proofs.lemmas.Nat.{field_of, mod-pow-add, mod_low, pow-add, shl_below, shr-shr, shr_below, shr_high, shr_split}
+use Rattle.std.proofs.lemmas.Bool.{cases_lt}
 use Rattle.std.proofs.Math.ListN.{length-replicate}
 use Rattle.std.proofs.lemmas.Nat.Bits.{bit_at-trailing_zeros, bit_at-trailing_ones, bit_at_above, bit_at-zero, bit_at_ones}
-use Rattle.swp_base.specs.Bits.{bit, bits_of_byte}
-use Rattle.swp_crc.specs.Division.{spelled_number}
+use Rattle.swp_frame.proofs.Words.{Bool, CountsLastZero, HasNoMark, List, None, Option, Some, Symbol, [], ap, append-nil, append_assoc, ap₂, arith, before_run}
+use Rattle.swp_frame.proofs.Words.{bit, bit_0, bit_1, bit_at, cond, drop, eq-eqb, eqb, false, get_or, length, min, mod-eq_of_lt, mod_below, no_mark, not}
+use Rattle.swp_frame.proofs.Words.{places_of_marks, places_put_in, pow_mono, pow_pos, read_on, refl, reverse, reverse-append, run_after, run_bits, run_of}
+use Rattle.swp_frame.proofs.Words.{shl-shr, since_start, spelled_number, subst, suc, sym, take, trailing_ones, trailing_zeros, true, unstuffed, w64, zero, ℕ}
+use Rattle.swp_frame.proofs.Words.{◌%◌, ◌*◌, ◌++◌, ◌+◌, ◌-◌, ◌/◌, ◌<◌, ◌^◌, ◌∙◌, ◌∷◌, ◌≡◌, ◌≢◌, ◌≤◌}
+use Rattle.swp_base.specs.Bits.{bits_of_byte}
 use Rattle.swp_crc.proofs.Numbers.{number_of-injective, number_of-lt, number_of-append}
-use Rattle.swp_frame.specs.Words.{low_bits, places_of_marks, places_put_in, run_after}
+use Rattle.swp_frame.specs.Words.{low_bits}
 use Rattle.swp_frame.specs.declared.content.Content.{Content}
-use Rattle.swp_frame.specs.Signal.{Symbol, bit_0, bit_1, break, run_of, start_mark, end_mark, no_mark, since_mark, since_start, unstuffed, read_on, HasNoMark}
-use Rattle.swp_frame.specs.Kept.{before_run, run_bits, with_zero, CountsLastZero, KeepsSince, KeepsOpen}
+use Rattle.swp_frame.specs.Signal.{break, end_mark, since_mark, start_mark}
+use Rattle.swp_frame.specs.Kept.{KeepsOpen, KeepsSince, with_zero}
 use mir.Val.{bool_byte}
 use mathlib.Core.Logic.{inl, inr}
 use lib.Count.{count_trailing_zeros}

@@ -1,20 +1,17 @@
 -- A byte among whose bits nothing is put in.
-use Rattle.std.proofs.Common.{◌≡◌, ℕ, suc, zero, ◌+◌, ◌-◌, ◌*◌, ◌/◌, ◌%◌, ◌^◌, ◌≤◌, ◌<◌, Bool, true, false, not, cond, eqb, ◌&&◌, List, [], ◌∷◌, ◌++◌, refl}
-use Rattle.std.proofs.Common.{sym, ap, ap₂, ◌≢◌, ◌∙◌, arith, w32, bit_and, Option, Some, None, length, map, length-append, append_assoc, take, get_or, subst}
-use Rattle.std.proofs.Common.{append-nil}
-use Rattle.std.specs.Int.{trailing_ones, bit_at}
-use Rattle.std.proofs.lemmas.List.{map-append, length-map, take_more}
+use Rattle.std.proofs.lemmas.List.{map-append}
 use Rattle.std.proofs.lemmas.Bool.{agree_below, agree_below_at}
 use Rattle.std.proofs.lemmas.Nat.Bits.{shr_and_one}
+use Rattle.swp_frame.proofs.Words.{Bool, List, None, Option, Some, WritesOn, [], ap, append-nil, append_assoc, ap₂, arith, bit, bit_and, bit_at, bits_of}
+use Rattle.swp_frame.proofs.Words.{byte_of_bit, cond, crc_of, end_of_frame, eqb, false, get_or, length, length-append, length-bits_of, length-bits_of_byte}
+use Rattle.swp_frame.proofs.Words.{length-map, map, not, refl, start_of_frame, stuffed, subst, suc, sym, take, take_more, trailing_ones, true, w32, zero, ℕ}
+use Rattle.swp_frame.proofs.Words.{◌%◌, ◌&&◌, ◌*◌, ◌++◌, ◌+◌, ◌-◌, ◌/◌, ◌<◌, ◌^◌, ◌∙◌, ◌∷◌, ◌≡◌, ◌≢◌, ◌≤◌}
 use lib.Count.{count_trailing_zeros}
-use Rattle.swp_base.specs.Bits.{bit, bits_of_byte, bits_of}
-use Rattle.swp_base.proofs.BitLemmas.{length-bits_of, length-bits_of_byte}
-use Rattle.swp_frame.specs.Stuffing.{stuffed_after, run_below_five, start_of_frame, end_of_frame, stuffed, with_crc}
-use Rattle.swp_frame.specs.Writing.{byte_of_bit, WritesOn}
+use Rattle.swp_base.specs.Bits.{bits_of_byte}
+use Rattle.swp_frame.specs.Stuffing.{run_below_five, stuffed_after, with_crc}
 use Rattle.swp_frame.specs.declared.frame_bits.BitBytes.{BitBytes}
 use lib.Bits.{bit_and}
 use Rattle.swp_crc.proofs.Steps.{bits_of-push}
-use Rattle.swp_crc.specs.Crc.{crc_of}
 
 -- they are spelled as they are
 pub plain_behind : (ones : ℕ) (bits more : List Bool) (run : ℕ) → run_below_five ones bits ≡ Some run

@@ -1,21 +1,14 @@
 -- What a replay that ends has written.
-use Rattle.std.proofs.Common.{arith}
-use Rattle.std.proofs.Common.{◌≡◌, ℕ, ◌+◌, ◌≤◌, Bool, true, false, IsTrue, List, [], ◌++◌, length, take, map, refl, sym, ap, ◌∙◌, append_assoc, subst, inl, inr}
-use Rattle.std.specs.Prelude.{Option, Result, Ok, Err, OnOk, OnErr, IfOk, IfErr, is_err}
-use Rattle.std.specs.Str.Lines.{lines, strip_carriage_return}
-use Rattle.std.proofs.lemmas.List.{append-nil}
-use Rattle.trace_model.specs.declared.line.Header.{Header}
-use Rattle.trace_model.specs.declared.line.Line.{Line}
-use Rattle.swp_tool.specs.declared.replay.Halt.{Halt}
+use Rattle.std.specs.Prelude.{IfOk, is_err}
+use Rattle.swp_tool.proofs.Words.{AppendsText, AtFault, AtMisread, Bool, Err, Halt, Halts, HaltsAtEnd, HasRead, Header, IfErr, IsDoneText, IsFrontTranscript}
+use Rattle.swp_tool.proofs.Words.{IsReading, IsSomeTranscript, IsTextBelow, IsTranscript, IsTrue, IsUnderWay, Line, List, Ok, OnErr, OnOk, Option, Pieces}
+use Rattle.swp_tool.proofs.Words.{Replayed, Result, Schedule, Stop, StopsWithText, Too_many, [], ap, append-nil, append_assoc, arith, behind, ended, false, inl}
+use Rattle.swp_tool.proofs.Words.{inr, length, lines, map, refl, schedule_read, schedule_so_far, status_of, strip_carriage_return, subst, sym, take, true, ℕ}
+use Rattle.swp_tool.proofs.Words.{◌++◌, ◌+◌, ◌∙◌, ◌≡◌, ◌≤◌}
 use Rattle.swp_tool.specs.declared.replay.Halt.TheVariants as halt
-use Rattle.swp_tool.specs.declared.pieces.Pieces.{Pieces}
-use Rattle.swp_tool.specs.Schedules.{Stop, AtFault, AtMisread, Too_many, Schedule, ended}
-use Rattle.swp_tool.specs.Transcripts.{IsTextBelow, IsTranscript, IsDoneText, StopsWithText}
-use Rattle.swp_tool.specs.Pieces.{IsReading, IsRunning, HasRead, HasFed, IsFrontTranscript, IsWholeTranscript, Halts, HaltsAtEnd}
-use Rattle.swp_tool.specs.Pieces.{schedule_read, schedule_so_far}
-use Rattle.swp_tool.specs.Runs.{status_of, AppendsText, IsSomeTranscript, IsCutShort, Replayed, IsUnderWay}
+use Rattle.swp_tool.specs.Pieces.{HasFed, IsRunning, IsWholeTranscript}
+use Rattle.swp_tool.specs.Runs.{IsCutShort}
 use Rattle.swp_tool.proofs.Reading.{front_so_far, played_transcript}
-use Rattle.swp_words.proofs.Taken.{behind}
 
 -- the end of a schedule adds no line
 ended_same : (s : Schedule) → ((ended s).header ≡ s.header) × ((ended s).lines ≡ s.lines)

@@ -1,46 +1,31 @@
 -- A schedule of bytes has one history, below either header: its lines are in their ranges, and none of them damages a frame so that another
 -- one is read.
-use Rattle.std.proofs.Common.{◌≡◌, ◌==◌, ℕ, zero, suc, ◌+◌, ◌≤◌, ◌<◌, Bool, true, false, cond, List, [], ◌∷◌, ◌++◌, length, refl, sym, ap, ◌∙◌, length-append}
-use Rattle.std.proofs.Common.{append-nil, append_assoc, arith, subst, ap₂}
-use Rattle.std.specs.Prelude.{Option, Some, None, Result, Ok, Err, replicate}
-use Rattle.std.specs.List.{AllByRecursion, fold}
-use Rattle.std.specs.Str.Lines.{lines}
-use Rattle.std.proofs.lemmas.Grind.{common_steps}
+use Rattle.std.proofs.Common.{ap₂}
+use Rattle.swp_tool.proofs.Words.{AllByRecursion, AreNodeLinesOf, Bool, Entry, Err, Header, IsInGrammar, IsNodeHeader, IsPlayed, IsPlayedText, Line, Link, List}
+use Rattle.swp_tool.proofs.Words.{MayFollow, None, NoneIsMisread, OfLink, OfNodes, Ok, Option, Play, Result, Round, Said, Schedule, Some, Stop, Too_many, []}
+use Rattle.swp_tool.proofs.Words.{and_line, and_lines, and_said, ap, append-nil, append_assoc, arith, asking_few, bare_link, bare_link_behind, common_steps}
+use Rattle.swp_tool.proofs.Words.{cond, ended, entry_lines, false, fold, history_below, in_range, is_settling, length, length-append, line_of, lines}
+use Rattle.swp_tool.proofs.Words.{lines_of_play, lines_played, lines_played_of, lines_said, link_history, link_steps_from, misread_below, new_world}
+use Rattle.swp_tool.proofs.Words.{nodes_behind, nodes_history, nothing_read, played_legal, plays_of, plays_of_line, refl, replicate, round_behind}
+use Rattle.swp_tool.proofs.Words.{rounds_to_rest, schedule_in, schedule_told, subst, suc, sym, true, zero, ℕ, ◌++◌, ◌+◌, ◌<◌, ◌==◌, ◌∙◌, ◌∷◌, ◌≡◌, ◌≤◌}
 use Rattle.block_pool.proofs.HoldingLemmas.{all_pushed}
-use Rattle.trace_model.specs.declared.entry.Entry.{Entry}
-use Rattle.trace_model.specs.declared.line.Header.{Header}
-use Rattle.trace_model.specs.declared.line.Line.{Line}
 use Rattle.trace_model.specs.declared.line.Line.TheVariants as saying
-use Rattle.trace_model.specs.Lines.{IsHeader, IsNodeHeader, IsLineOf, MayBegin, MayFollow}
+use Rattle.trace_model.specs.Lines.{IsHeader, IsLineOf, MayBegin}
 use Rattle.schedule_text.specs.declared.fault.LineFault.{LineFault}
 use Rattle.schedule_text.specs.declared.read.Read.{Read}
 use Rattle.schedule_text.specs.declared.read.Read.TheVariants as read
-use Rattle.schedule_text.specs.Answers.{IsInGrammar}
-use Rattle.schedule_text.specs.Entries.{entry_lines}
-use Rattle.schedule_text.specs.Lines.{line_of}
 use Rattle.schedule_text.proofs.LinesLemmas.{line_fits}
-use Rattle.link_laws.specs.messages.Links.{Link}
 use Rattle.history.specs.Histories.{Step, History, Outcome}
-use Rattle.history.specs.Steps.{bare_link}
 use Rattle.history.specs.Follows.{Follows, StepsFollow, host_of, opening_of, link_after_line, outcome_of}
-use Rattle.node_machine.specs.world.World.{new_world}
-use Rattle.node_machine.specs.world.NodeHistories.{NoneIsMisread}
-use Rattle.node_laws.specs.schedules.Ranges.{AreNodeLinesOf, asking, lines_asking}
-use Rattle.node_laws.proofs.schedules.Ranges.{in_range}
-use Rattle.node_laws.proofs.bounds.Paying.{asking-append, asking_few}
-use Rattle.node_laws.proofs.worlds.Schedules.{played_legal}
-use Rattle.node_laws.specs.answers.Headline.{PlayedHistory, IsPlayed}
-use Rattle.node_laws.specs.answers.Headline.PlayedHistory.{OfLink, OfNodes}
-use Rattle.lines_told.specs.lines.Below.{IsPlayedLine, is_settling, bare_link_behind, misread_below, nodes_behind}
-use Rattle.lines_told.specs.lines.Plays.{Play, lines_of_play, lines_played, lines_played_of, lines_said, plays_of, plays_of_line, round_behind, rounds_to_rest}
-use Rattle.lines_told.specs.lines.Plays.{schedule_told}
-use Rattle.lines_told.specs.lines.Plays.Play.{Said, Round}
+use Rattle.node_laws.specs.schedules.Ranges.{asking, lines_asking}
+use Rattle.node_laws.proofs.bounds.Paying.{asking-append}
+use Rattle.node_laws.specs.answers.Headline.{PlayedHistory}
+use Rattle.lines_told.specs.lines.Below.{IsPlayedLine}
 use Rattle.lines_told.specs.lines.RoundLines.{IsRoundLine}
 use Rattle.lines_told.proofs.lines.Told.{after-append, few_said, lines-append, lines_may_be_played, played_more, plays_for, plays_more, round_first}
 use Rattle.lines_told.proofs.lines.Told.{round_known, sure_below}
 use Rattle.told_laws.proofs.told.BarePlays.{keeps_hosts}
-use Rattle.swp_tool.specs.Schedules.{Stop, Too_many, Schedule, nothing_read, with_played, ended, misread_there, and_said, and_line, and_lines, schedule_in}
-use Rattle.swp_tool.specs.Transcripts.{link_steps_from, link_history, nodes_history, history_below, IsPlayedText}
+use Rattle.swp_tool.specs.Schedules.{misread_there, with_played}
 use Rattle.swp_tool.proofs.Happened.{tells_history}
 
 -- ## Lines in their ranges

@@ -1,21 +1,14 @@
 -- What is told of a schedule with one line more, and that what it tells to have happened is noted of the history of what it comes to.
-use Rattle.std.proofs.Common.{◌≡◌, ℕ, zero, suc, false, not, List, [], ◌∷◌, ◌++◌, sym, ap, ◌∙◌, append_assoc, append-nil, arith}
-use Rattle.std.specs.Prelude.{replicate}
-use Rattle.std.specs.List.{fold}
-use Rattle.std.proofs.lemmas.List.Elements.{filter-append}
-use Rattle.std.proofs.lemmas.List.Concat.{flat_map-append}
-use Rattle.trace_model.specs.declared.entry.Entry.{Entry}
+use Rattle.std.proofs.Common.{not}
+use Rattle.swp_tool.proofs.Words.{Entry, Header, Line, List, Play, Round, Said, [], ap, append-nil, append_assoc, arith, entry_line, entry_lines, false}
+use Rattle.swp_tool.proofs.Words.{filter-append, flat_map-append, fold, history_below, is_settling, lines_played, lines_played_of, opening_told, played_told}
+use Rattle.swp_tool.proofs.Words.{plays_of, plays_of_line, replicate, round_behind, rounds_to_rest, schedule_told, suc, sym, told_below, told_of_line}
+use Rattle.swp_tool.proofs.Words.{told_of_play, told_of_rounds, what_happened, zero, ℕ, ◌++◌, ◌∙◌, ◌∷◌, ◌≡◌}
 use Rattle.trace_model.specs.declared.entry.Entry.TheVariants as entry
-use Rattle.trace_model.specs.declared.line.Header.{Header}
-use Rattle.trace_model.specs.declared.line.Line.{Line}
 use Rattle.trace_model.specs.declared.line.Line.TheVariants as saying
-use Rattle.schedule_text.specs.Entries.{entry_line, entry_lines}
-use Rattle.lines_told.specs.lines.Below.{is_settling, opening_told, told_below}
-use Rattle.lines_told.specs.lines.Plays.{Play, lines_played, lines_played_of, plays_of, plays_of_line, round_behind, rounds_to_rest, schedule_told, told_behind}
-use Rattle.lines_told.specs.lines.Plays.{told_of_line, told_of_lines, told_of_play, told_of_rounds}
-use Rattle.lines_told.specs.lines.Plays.Play.{Said, Round}
+use Rattle.lines_told.specs.lines.Plays.{told_behind, told_of_lines}
 use Rattle.lines_told.proofs.lines.Told.{played_more, plays_more, round_first}
-use Rattle.swp_tool.specs.Transcripts.{history_below, played_told, is_of_schedule, what_happened}
+use Rattle.swp_tool.specs.Transcripts.{is_of_schedule}
 use Rattle.swp_tool.proofs.Texts.{told_more}
 
 -- ## One line more

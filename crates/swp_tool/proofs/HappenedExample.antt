@@ -1,11 +1,8 @@
 -- What a transcript tells to have happened, computed for one schedule: with a refusal, told tables, and a line that lets the links settle.
-use Rattle.std.proofs.Common.{◌≡◌, refl, List, [], ◌∷◌, None}
-use Rattle.std.specs.Prelude.{true}
-use Rattle.trace_model.specs.declared.entry.Entry.{Entry}
+use Rattle.swp_tool.proofs.Words.{Entry, Header, Line, List, None, [], history_below, lines_played_of, played_told, refl, schedule_told, true, what_happened}
+use Rattle.swp_tool.proofs.Words.{◌∷◌, ◌≡◌}
 use Rattle.trace_model.specs.declared.entry.Entry.TheVariants as entry
 use Rattle.trace_model.specs.declared.entry.NoCause.TheVariants as no
-use Rattle.trace_model.specs.declared.line.Header.{Header}
-use Rattle.trace_model.specs.declared.line.Line.{Line}
 use Rattle.trace_model.specs.declared.line.Line.TheVariants as line
 use Rattle.hci_tables.specs.declared.command.Command.TheVariants as command
 use Rattle.hci_tables.specs.Tables.{no_tables}
@@ -14,8 +11,6 @@ use Rattle.gate_admin.specs.View.{hosts_where}
 use Rattle.pipe_table.specs.PipeRows.{lowest_free}
 use Rattle.swp_base.specs.Bits.{bits_of_byte}
 use Rattle.node_machine.specs.world.World.{end_c, end_h}
-use Rattle.lines_told.specs.lines.Plays.{lines_played_of, schedule_told}
-use Rattle.swp_tool.specs.Transcripts.{history_below, played_told, what_happened}
 
 abbrev header : Header
 header = record { hci = true; hosts = record { items = 2 ∷ [] } }

@@ -1,20 +1,13 @@
 -- The text of a replay that is done tells what became of its schedule.
-use Rattle.std.proofs.Common.{◌≡◌, ℕ, ◌++◌, Bool, List, [], ◌∷◌, refl, sym, ap, ◌∙◌, arith, subst, codes, All}
-use Rattle.std.specs.Prelude.{Option, Some, None}
-use Rattle.std.specs.Fmt.{decimal}
-use Rattle.std.specs.Str.Lines.{lines}
-use Rattle.trace_model.specs.declared.entry.Entry.{Entry}
-use Rattle.trace_model.specs.declared.line.Header.{Header}
+use Rattle.std.proofs.Common.{All}
+use Rattle.swp_tool.proofs.Words.{AppendsText, Bool, Entry, Header, IsDoneText, IsPlayedText, IsTextBelow, List, None, Option, Replayed, Schedule, Some, Status}
+use Rattle.swp_tool.proofs.Words.{Stop, TellsPlayed, [], and_lines, ap, arith, codes, decimal, done_line, ended, entry_lines, lines, nothing_read, refl}
+use Rattle.swp_tool.proofs.Words.{schedule_in, schedule_told, subst, sym, ℕ, ◌++◌, ◌∙◌, ◌∷◌, ◌≡◌}
 use Rattle.told_laws.specs.texts.Ranges.{IsNumber, IsEntry}
 use Rattle.told_laws.proofs.texts.ShownLemmas.{IsCleanLine, number_clean, same_ended}
-use Rattle.schedule_text.specs.Entries.{entry_lines}
-use Rattle.lines_told.specs.lines.Plays.{schedule_told}
 use Rattle.told_laws.proofs.told.Whole.{schedule_told_in}
-use Rattle.swp_words.specs.declared.status.Status.{Status}
 use Rattle.swp_words.specs.declared.status.Status.TheVariants as status
-use Rattle.swp_tool.specs.Schedules.{Stop, Schedule, nothing_read, and_lines, ended, schedule_in}
-use Rattle.swp_tool.specs.Transcripts.{done_line, whole_text, IsPlayedText, IsTextBelow, IsDoneText, TellsEntries, TellsPlayed}
-use Rattle.swp_tool.specs.Runs.{AppendsText, Replayed}
+use Rattle.swp_tool.specs.Transcripts.{TellsEntries, whole_text}
 use Rattle.swp_tool.proofs.Fitting.{AreFit, AreRight, Fits, whole_fits, text_played}
 
 -- a schedule that doesn't stop has a header

@@ -1,3 +1,4 @@
+mod Words
 pub mod Cutting
 pub mod Texts
 pub mod Fitting

@@ -1,19 +1,14 @@
 -- Schedules of nodes as bytes, computed: their transcripts, and where they stop.
+use Rattle.swp_tool.proofs.Words.{AtFault, AtMisread, Header, List, None, Option, Schedule, Some, [], codes, done_line, entry_lines, flat_map, refl}
+use Rattle.swp_tool.proofs.Words.{schedule_in, schedule_told, ℕ, ◌++◌, ◌∷◌, ◌≡◌}
 use Prim.Native.String.{String}
-use Rattle.std.proofs.Common.{◌≡◌, refl, ℕ, List, [], ◌∷◌, ◌++◌, codes, Option, Some, None}
-use Rattle.std.specs.List.{flat_map}
-use Rattle.trace_model.specs.declared.line.Header.{Header}
 use Rattle.journal_laws.specs.Records.{found_from}
 use Rattle.gate_admin.specs.View.{hosts_where}
 use Rattle.hex.specs.Hex.{decode_pairs, encode_with}
 use Rattle.std.specs.Fmt.{digits}
 use Rattle.swp_base.specs.Bits.{bits_of_byte}
 use Rattle.pipe_table.specs.PipeRows.{lowest_free}
-use Rattle.schedule_text.specs.Entries.{entry_lines}
 use Rattle.schedule_text.specs.declared.fault.LineFault.TheVariants as fault
-use Rattle.lines_told.specs.lines.Plays.{schedule_told}
-use Rattle.swp_tool.specs.Schedules.{Schedule, AtFault, AtMisread, schedule_in}
-use Rattle.swp_tool.specs.Transcripts.{done_line}
 
 -- a text that is written in parts
 abbrev text : List String → List ℕ

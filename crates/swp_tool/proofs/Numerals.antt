@@ -1,10 +1,8 @@
 -- How a number is written: by its last digit, and those before it.
-use Rattle.std.proofs.Common.{◌≡◌, ◌⊎◌, inl, inr, ℕ, ◌+◌, ◌/◌, ◌%◌, ◌<◌, ◌≤◌, ◌^◌, List, [], ◌∷◌, ◌++◌, refl, ap, sym, ◌∙◌, arith, length, length-append, Bool}
-use Rattle.std.proofs.Common.{false, IsTrue, subst, ◌==◌, map, get_or}
-use Rattle.std.specs.Prelude.{Result, Ok, codes}
-use Rattle.std.specs.Fmt.{decimal}
+use Rattle.std.proofs.Common.{◌%◌, ◌/◌}
 use Rattle.std.proofs.lemmas.Fmt.{decimal_digit, decimal_step, decimal_injective}
-use Rattle.swp_tool.specs.Generated.{IsGen}
+use Rattle.swp_tool.proofs.Words.{Bool, IsGen, IsTrue, List, Ok, Result, [], ap, arith, codes, decimal, false, get_or, inl, inr, length, length-append, map}
+use Rattle.swp_tool.proofs.Words.{refl, subst, sym, ℕ, ◌++◌, ◌+◌, ◌<◌, ◌==◌, ◌^◌, ◌∙◌, ◌∷◌, ◌≡◌, ◌≤◌, ◌⊎◌}
 
 -- two lists with a last element are the same part by part
 last_same : (xs ys : List ℕ) (x y : ℕ) → xs ++ x ∷ [] ≡ ys ++ y ∷ [] → (x ≡ y) × (xs ≡ ys)

@@ -1,28 +1,18 @@
 -- What a line adds to a replay.
-use Rattle.std.proofs.Common.{◌≡◌, ◌==◌, ℕ, ◌+◌, ◌≤◌, ◌<◌, Bool, true, false, cond, List, [], ◌∷◌, ◌++◌, refl, sym, ap, ◌∙◌, append_assoc, arith, subst}
-use Rattle.std.specs.Prelude.{Option, Some, None, Ok, IsSomeAnd}
 use Rattle.std.specs.Option.{ForSome}
-use Rattle.std.proofs.lemmas.Bool.{eqb-true}
-use Rattle.trace_model.specs.declared.line.Header.{Header}
-use Rattle.trace_model.specs.declared.line.Line.{Line}
+use Rattle.swp_tool.proofs.Words.{Bool, Halt, HaltsBefore, HaltsOn, HasFew, HasPlayed, HasRoomForLine, HasRoundsLeft, Header, IsAt, IsInGrammar, IsSomeAnd}
+use Rattle.swp_tool.proofs.Words.{IsWorldAt, Line, List, MayFollow, None, Ok, Option, Play, Replay, Runs, Schedule, Some, Too_many, WasStepped, World, []}
+use Rattle.swp_tool.proofs.Words.{and_line, and_said, ap, append_assoc, arith, cond, entry_lines, eqb-true, false, halt_of, is_settling, line_of, lines_played}
+use Rattle.swp_tool.proofs.Words.{misread_below, plays_of_line, refl, rounds_to_rest, schedule_told, subst, sym, true, world_header, ℕ, ◌++◌, ◌+◌, ◌<◌, ◌==◌}
+use Rattle.swp_tool.proofs.Words.{◌∙◌, ◌∷◌, ◌≡◌, ◌≤◌}
 use Rattle.trace_model.specs.declared.line.Line.TheVariants as saying
-use Rattle.trace_model.specs.Lines.{MayFollow}
-use Rattle.schedule_text.specs.Entries.{entry_lines}
-use Rattle.lines_told.specs.lines.Below.{is_settling, misread_below}
-use Rattle.lines_told.specs.lines.Plays.{Play, lines_played, plays_of_line, rounds_to_rest, schedule_told}
 use Rattle.lines_told.proofs.lines.Told.{at_most, none_said, played-append, said-append, so_many_rounds}
-use Rattle.world.specs.declared.world_steps.World.{World}
 use Rattle.world.specs.declared.fault.WorldFault.{WorldFault}
 use Rattle.world.specs.declared.fault.WorldFault.TheVariants as fault
-use Rattle.world.specs.Worlds.{IsWorldAt, HasRoomForLine, IsFaultThere, world_header}
-use Rattle.schedule_text.specs.Answers.{IsInGrammar}
-use Rattle.schedule_text.specs.Lines.{line_of}
+use Rattle.world.specs.Worlds.{IsFaultThere}
 use Rattle.schedule_text.specs.declared.read.Read.TheVariants as read
-use Rattle.swp_tool.specs.declared.replay.Replay.{Replay}
-use Rattle.swp_tool.specs.declared.replay.Halt.{Halt}
 use Rattle.swp_tool.specs.declared.replay.Halt.TheVariants as halt
-use Rattle.swp_tool.specs.Schedules.{Schedule, Too_many, most_lines, and_said, and_line}
-use Rattle.swp_tool.specs.Replays.{Runs, IsAt, WasStepped, HasRoundsLeft, HasPlayed, HasFew, halt_of, HaltsOn, HaltsBefore}
+use Rattle.swp_tool.specs.Schedules.{most_lines}
 
 -- it stands so below its own header
 pub under_own_header : (w : World) (header : Header) (plays : List Play) → IsWorldAt w header plays → IsWorldAt w (world_header w) plays

@@ -1,23 +1,20 @@
 -- The facts of each word, from what its command says.
-use Rattle.std.proofs.Common.{◌≡◌, ◌⊎◌, [], ◌∷◌, ◌+◌, ◌<◌, ◌≤◌, ℕ, Bool, true, false, IsTrue, List, length, get_or, ◌++◌, append_assoc, refl, ap, ◌∙◌, subst}
-use Rattle.std.proofs.Common.{arith}
-use Rattle.std.specs.Prelude.{◌≢◌, ◌↔◌, Some, None}
+use Rattle.std.specs.Prelude.{◌↔◌, ◌≢◌}
+use Rattle.swp_tool.proofs.Words.{AppendsText, Bool, IsGen, IsTrue, List, None, Replayed, Some, Status, TellsPlayed, [], ap, append_assoc, arith, false, get_or}
+use Rattle.swp_tool.proofs.Words.{length, refl, schedule_in, subst, true, ℕ, ◌++◌, ◌+◌, ◌<◌, ◌∙◌, ◌∷◌, ◌≡◌, ◌≤◌, ◌⊎◌}
 use Rattle.swp_base.specs.Outside.{Rose}
 use Rattle.nv_journal.specs.declared.JournalFault.{JournalFault}
 use Rattle.hci_store.specs.Image.{image_fault}
 use Rattle.hci_store.specs.Refusals.{IsOnlyRead}
 use Rattle.swp_words.specs.Ends.{EndForm, IsTakenMemory, AnsweredSo, EndedSo, IsOfEndWord, HasNextGeneration, IsRefusedFor, IsEndCommand}
-use Rattle.swp_words.specs.declared.status.Status.{Status}
 use Rattle.swp_words.specs.declared.status.Status.TheVariants as status
-use Rattle.swp_tool.specs.Schedules.{schedule_in}
-use Rattle.swp_tool.specs.Transcripts.{TellsPlayed}
 use Rattle.swp_tool.specs.Pieces.{IsReadAhead}
 use Rattle.swp_words.specs.Records.{most_bytes, RecordedBy, IsOfRecord}
 use Rattle.swp_words.specs.Decodings.{DecodedBy}
 use Rattle.swp_words.specs.Taps.{TappedBy, IsOfTap, tap_lines}
 use Rattle.swp_words.specs.Images.{Told, IsOfTables}
-use Rattle.swp_tool.specs.Generated.{IsGen, Generated, IsOfGen}
-use Rattle.swp_tool.specs.Runs.{AppendsText, Replayed, IsOfReplay, IsReplay, IsDecode, IsTap, IsTables}
+use Rattle.swp_tool.specs.Generated.{Generated, IsOfGen}
+use Rattle.swp_tool.specs.Runs.{IsDecode, IsOfReplay, IsReplay, IsTables, IsTap}
 use Rattle.swp_tool.specs.Words.{RunSource, RunSink, RunMemory, IsReplayRun, IsDecodeRun, IsTapRun, IsTablesRun, IsGenRun, IsEndRun}
 use Rattle.swp_words.proofs.Outcomes.{more_came}
 use Rattle.swp_words.proofs.Tapped.{known_reports}

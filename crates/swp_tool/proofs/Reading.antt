@@ -1,24 +1,14 @@
 -- What a piece of a schedule adds to what was read before it.
-use Rattle.std.proofs.Common.{◌≡◌, ℕ, ◌+◌, ◌<◌, false, eqb, List, [], ◌∷◌, ◌++◌, length, map, refl, sym, ap, ◌∙◌, append_assoc, arith, subst, ◌⊎◌, ⊎_elim}
-use Rattle.std.specs.Prelude.{Option, Some, None, Err}
-use Rattle.std.specs.List.{flat_map}
-use Rattle.std.specs.Str.Lines.{lines, strip_carriage_return}
-use Rattle.std.proofs.lemmas.List.{append-nil}
-use Rattle.std.proofs.lemmas.Grind.{common_steps, fold-append}
-use Rattle.trace_model.specs.declared.line.Header.{Header}
-use Rattle.world.specs.declared.world_steps.World.{World}
+use Rattle.std.proofs.Common.{⊎_elim}
+use Rattle.std.proofs.lemmas.Grind.{fold-append}
+use Rattle.swp_tool.proofs.Words.{AllLackLineFeed, AtFault, AtMisread, Err, Halt, Halts, HaltsAt, HaltsAtEnd, HasPlayed, HasRead, Header, IsAt, IsDoneText}
+use Rattle.swp_tool.proofs.Words.{IsFrontTranscript, IsReading, IsTextBelow, IsTranscript, LacksLineFeed, List, None, Option, Pieces, Replay, Schedule, Some}
+use Rattle.swp_tool.proofs.Words.{Stop, StopsWithText, Too_many, World, [], and_line, and_lines, ap, append-nil, append_assoc, arith, common_steps, done_line}
+use Rattle.swp_tool.proofs.Words.{ended, ended_line, eqb, false, flat_map, length, line_of, lines, map, nothing_read, refl, schedule_in, schedule_read}
+use Rattle.swp_tool.proofs.Words.{schedule_so_far, strip_carriage_return, subst, sym, ℕ, ◌++◌, ◌+◌, ◌<◌, ◌∙◌, ◌∷◌, ◌≡◌, ◌⊎◌}
 use Rattle.schedule_text.specs.declared.fault.LineFault.TheVariants as fault
 use Rattle.schedule_text.specs.declared.read.Read.TheVariants as read
-use Rattle.schedule_text.specs.Lines.{line_of}
-use Rattle.swp_tool.specs.declared.replay.Replay.{Replay}
-use Rattle.swp_tool.specs.declared.replay.Halt.{Halt}
 use Rattle.swp_tool.specs.declared.replay.Halt.TheVariants as halt
-use Rattle.swp_tool.specs.declared.pieces.Pieces.{Pieces}
-use Rattle.swp_tool.specs.Schedules.{Stop, AtFault, AtMisread, Too_many, Schedule, nothing_read, and_line, and_lines, ended, schedule_in}
-use Rattle.swp_tool.specs.Transcripts.{IsTextBelow, IsTranscript, IsDoneText, StopsWithText, done_line}
-use Rattle.swp_tool.specs.Replays.{IsAt, HasPlayed, HaltsAt}
-use Rattle.swp_tool.specs.Pieces.{LacksLineFeed, ended_line, AllLackLineFeed, schedule_so_far, HasRead, IsReading, IsFrontTranscript, Halts}
-use Rattle.swp_tool.specs.Pieces.{HaltsAtEnd, schedule_read}
 use Rattle.swp_tool.proofs.Fitting.{read_fits, text_played}
 use Rattle.swp_tool.proofs.Cutting.{lines-ended, lines-all_ended, long_line, some_line, lacks_append, lines-lacks}
 

@@ -1,20 +1,14 @@
 -- Rounds that are played one after another until all links are at rest.
-use Rattle.std.proofs.Common.{◌≡◌, ℕ, zero, suc, ◌+◌, ◌-◌, ◌<◌, Bool, true, false, List, [], ◌∷◌, ◌++◌, sym, ap, ◌∙◌, append_assoc, append-nil, arith, subst}
-use Rattle.std.specs.Prelude.{Result, OnOk, OnErr, IfErr, IsErrAnd, replicate}
-use Rattle.std.proofs.lemmas.List.Concat.{flat_map-append}
-use Rattle.trace_model.specs.declared.entry.Entry.{Entry}
+use Rattle.std.specs.Prelude.{IsErrAnd}
+use Rattle.swp_tool.proofs.Words.{Bool, Entry, HasGoneThrough, HasRoundsLeft, Header, IfErr, IsWorldAt, Line, List, OnErr, OnOk, Play, Result, Round, Runs}
+use Rattle.swp_tool.proofs.Words.{World, [], ap, append-nil, append_assoc, arith, entry_line, entry_lines, false, flat_map-append, lines_played, plays_of}
+use Rattle.swp_tool.proofs.Words.{plays_of_line, replicate, rounds_to_rest, subst, suc, sym, told_of_line, told_of_play, told_of_rounds, true, world_header}
+use Rattle.swp_tool.proofs.Words.{zero, ℕ, ◌++◌, ◌+◌, ◌-◌, ◌<◌, ◌∙◌, ◌∷◌, ◌≡◌}
 use Rattle.trace_model.specs.declared.entry.Entry.TheVariants.{Echo, Settled}
-use Rattle.trace_model.specs.declared.line.Header.{Header}
-use Rattle.trace_model.specs.declared.line.Line.{Line}
 use Rattle.trace_model.specs.declared.line.Line.TheVariants as saying
-use Rattle.schedule_text.specs.Entries.{entry_line, entry_lines}
-use Rattle.lines_told.specs.lines.Plays.{Play, lines_played, plays_of, plays_of_line, rests_behind, rounds_to_rest}
-use Rattle.lines_told.specs.lines.Plays.{told_of_line, told_of_play, told_of_rounds}
-use Rattle.lines_told.specs.lines.Plays.Play.{Round}
+use Rattle.lines_told.specs.lines.Plays.{rests_behind}
 use Rattle.lines_told.proofs.lines.Told.{played-append, plays_more, round_first, round_last, so_many_rounds}
-use Rattle.world.specs.declared.world_steps.World.{World}
-use Rattle.world.specs.Worlds.{IsWorldAt, HasRoomToSettle, StandsBehind, world_header}
-use Rattle.swp_tool.specs.Replays.{Runs, HasGoneThrough, HasRoundsLeft}
+use Rattle.world.specs.Worlds.{HasRoomToSettle, StandsBehind}
 use Rattle.swp_tool.proofs.Happened.{schedule_text-push}
 
 -- ## Texts

@@ -1,38 +1,23 @@
 -- The schedule that is drawn from a number has a legal history, and what is told of it is counted line by line.
-use Rattle.std.proofs.Common.{◌≡◌, ℕ, zero, suc, ◌+◌, ◌-◌, ◌^◌, ◌<◌, ◌≤◌, Bool, true, false, cond, List, [], ◌∷◌, ◌++◌, append-nil, append_assoc, take}
-use Rattle.std.proofs.Common.{refl, ap, sym, subst, ◌∙◌, arith, length-append, length-take, take_all, get_or, None}
-use Rattle.std.proofs.lemmas.List.Elements.{filter-append}
-use Rattle.std.specs.Prelude.{length, map, min}
-use Rattle.std.specs.List.{AllByRecursion, filter, fold}
+use Rattle.std.specs.Prelude.{min}
+use Rattle.std.specs.List.{filter}
+use Rattle.swp_tool.proofs.Words.{AllByRecursion, AreCountsOf, AreNodeLinesOf, Bool, Entry, HasCounted, HasRoomForLine, IsNodeHeader, IsPlayed, Line, List}
+use Rattle.swp_tool.proofs.Words.{NodeWorld, None, NoneIsMisread, OfNodes, Play, Said, [], ap, append-nil, append_assoc, arith, asking_few, cond, false}
+use Rattle.swp_tool.proofs.Words.{filter-append, fold, get_or, in_range, is_settling, length, length-append, length-take, line_step, lines_of_play}
+use Rattle.swp_tool.proofs.Words.{lines_played, lines_said, map, new_world, nodes_history, nodes_told, played_legal, refl, subst, suc, sym, take, take_all}
+use Rattle.swp_tool.proofs.Words.{the_header, told_below, true, zero, ℕ, ◌++◌, ◌+◌, ◌-◌, ◌<◌, ◌^◌, ◌∙◌, ◌∷◌, ◌≡◌, ◌≤◌}
 use Rattle.hci_tables.specs.declared.command.Command.{Command}
-use Rattle.trace_model.specs.declared.entry.Entry.{Entry}
 use Rattle.trace_model.specs.declared.entry.Entry.TheVariants as entry
 use Rattle.trace_model.specs.declared.line.End.{End}
-use Rattle.trace_model.specs.declared.line.Line.{Line}
 use Rattle.trace_model.specs.declared.line.Line.TheVariants as saying
-use Rattle.trace_model.specs.Lines.{IsNodeHeader}
-use Rattle.node_machine.specs.world.World.{NodeWorld, new_world}
-use Rattle.node_machine.specs.world.Lines.{misread_in, line_step}
-use Rattle.node_machine.specs.world.NodeHistories.{NoneIsMisread}
-use Rattle.node_laws.specs.schedules.Ranges.{AreNodeLinesOf}
-use Rattle.node_laws.proofs.bounds.Paying.{asking_few}
-use Rattle.node_laws.proofs.schedules.Ranges.{in_range}
-use Rattle.node_laws.proofs.worlds.Schedules.{played_legal}
-use Rattle.node_laws.specs.answers.Headline.{IsPlayed}
-use Rattle.node_laws.specs.answers.Headline.PlayedHistory.{OfNodes}
-use Rattle.drawn_schedule.specs.Schedule.{the_header, drawn_lines, is_harmless, IsHarmless}
+use Rattle.node_machine.specs.world.Lines.{misread_in}
+use Rattle.drawn_schedule.specs.Schedule.{IsHarmless, drawn_lines, is_harmless}
 use Rattle.drawn_schedule.proofs.HarmlessLemmas.{lines_may_be_played}
 use Rattle.drawn_schedule.proofs.ReadLemmas.{lines_count}
-use Rattle.told_laws.specs.told.NodesTold.{nodes_told}
-use Rattle.lines_told.specs.lines.Below.{is_settling, told_below}
-use Rattle.lines_told.specs.lines.Plays.{Play, lines_of_play, lines_played, lines_said}
-use Rattle.lines_told.specs.lines.Plays.Play.{Said}
-use Rattle.world.specs.Worlds.{HasRoomForLine}
 use Rattle.swp_tool.specs.declared.counts.Counts.{Counts}
-use Rattle.swp_tool.specs.Transcripts.{nodes_history}
-use Rattle.swp_tool.specs.Generated.{count_of_kind, AreCountsOf, is_noted_sent, is_noted_got, is_noted_acked, is_noted_up, is_noted_command}
+use Rattle.swp_tool.specs.Generated.{count_of_kind, is_noted_acked, is_noted_command, is_noted_got, is_noted_sent, is_noted_up}
 use Rattle.swp_tool.specs.declared.generating.Generating.{Generating}
-use Rattle.swp_tool.specs.Generated.{HasCounted, told_line, summary_line, IsSummary}
+use Rattle.swp_tool.specs.Generated.{IsSummary, summary_line, told_line}
 use Rattle.swp_tool.proofs.Playing.{under_own_header}
 use Rattle.swp_tool.proofs.Texts.{nodes_told-push}
 

@@ -1,25 +1,14 @@
 -- Text that is gathered behind text.
-use Rattle.std.proofs.lemmas.Grind.{common_steps}
-use Rattle.std.proofs.Common.{◌≡◌, ◌<◌, ℕ, Bool, true, false, cond, eqb, length, arith, List, [], ◌∷◌, ◌++◌, refl, sym, ap, ◌∙◌, append_assoc}
-use Rattle.std.specs.List.{flat_map}
-use Rattle.std.proofs.lemmas.List.{append-nil}
-use Rattle.std.proofs.lemmas.List.Concat.{flat_map-append}
-use Rattle.trace_model.specs.declared.entry.Entry.{Entry}
+use Rattle.swp_tool.proofs.Words.{Bool, Entry, Header, Line, Link, List, NodeWorld, OfLink, OfNodes, [], ap, append-nil, append_assoc, arith, bare_link}
+use Rattle.swp_tool.proofs.Words.{bare_link_behind, common_steps, cond, eqb, false, flat_map, flat_map-append, history_below, length, line_step, link_history}
+use Rattle.swp_tool.proofs.Words.{link_steps_from, new_world, nodes_behind, nodes_history, nodes_told, played_told, refl, sym, told_below, true, ℕ, ◌++◌, ◌<◌}
+use Rattle.swp_tool.proofs.Words.{◌∙◌, ◌∷◌, ◌≡◌}
 use Rattle.trace_model.specs.declared.entry.Entry.TheVariants as entry
-use Rattle.trace_model.specs.declared.line.Header.{Header}
-use Rattle.trace_model.specs.declared.line.Line.{Line}
-use Rattle.link_laws.specs.messages.Links.{Link}
 use Rattle.history.specs.Histories.{Step, noted}
-use Rattle.history.specs.Steps.{bare_link}
 use Rattle.history.specs.Follows.{host_of, opening_of, link_after_line, link_after_lines, outcome_of}
-use Rattle.node_machine.specs.world.World.{NodeWorld, new_world}
-use Rattle.node_machine.specs.world.Lines.{line_step}
 use Rattle.node_machine.specs.world.NodeHistories.{LineStep, steps_from, world_after}
-use Rattle.node_laws.specs.answers.Headline.PlayedHistory.{OfLink, OfNodes}
 use Rattle.told_laws.specs.told.Told.{step_told, entries_told}
-use Rattle.told_laws.specs.told.NodesTold.{line_told, nodes_told}
-use Rattle.lines_told.specs.lines.Below.{bare_link_behind, nodes_behind, told_below}
-use Rattle.swp_tool.specs.Transcripts.{link_steps_from, link_history, nodes_history, history_below, played_told}
+use Rattle.told_laws.specs.told.NodesTold.{line_told}
 
 -- ## What a line adds to a history
 

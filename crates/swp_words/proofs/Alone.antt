@@ -1,25 +1,17 @@
 -- How a run of one node ended.
-use Rattle.std.proofs.Common.{◌≡◌, ℕ, ◌+◌, ◌-◌, ◌<◌, ◌≤◌, arith, Bool, true, false, cond, IsTrue, List, [], ◌∷◌, ◌++◌, length, take, drop, get_or, refl}
-use Rattle.std.proofs.Common.{sym, ap, subst, ◌∙◌, inl, inr, append_assoc, append-nil, length-append}
-use Rattle.std.specs.Prelude.{None}
-use Rattle.std.proofs.lemmas.List.{take-append-drop, length-take-le, length-drop}
+use Rattle.std.proofs.Common.{cond}
+use Rattle.swp_words.proofs.Words.{Began, Bool, BootFault, EndForm, EndedAlone, EndedSo, HasHeardAlone, HasNextGeneration, HasRun, HasRunAlone, HasWritten}
+use Rattle.swp_words.proofs.Words.{IsBootRefused, IsCutAlone, IsOfEndWord, IsOfLone, IsTrue, IsWaitingAlone, List, NoMemory, None, OneEnd, RanSo, Rose, Status}
+use Rattle.swp_words.proofs.Words.{[], ap, append-nil, append_assoc, arith, drop, false, form_named, get_or, image_fault, inl, inr, length, length-append}
+use Rattle.swp_words.proofs.Words.{length-drop, length-take-le, most_bytes, ready_writes, refl, status_of_boot, subst, sym, take, take-add, take-append-drop}
+use Rattle.swp_words.proofs.Words.{true, ℕ, ◌++◌, ◌+◌, ◌-◌, ◌<◌, ◌∙◌, ◌∷◌, ◌≡◌, ◌≤◌}
 use Rattle.nv_journal.specs.declared.JournalFault.TheVariants as image
-use Rattle.lone_laws.specs.alone.Ends.{EndForm}
-use Rattle.one_end.specs.declared.one_end.OneEnd.{OneEnd}
-use Rattle.one_end.specs.Standing.{BootFault, HasRun, IsBootRefused, IsRunOfBytes, NoMemory}
-use Rattle.one_end.specs.Writing.{form_named}
+use Rattle.one_end.specs.Standing.{IsRunOfBytes}
 use Rattle.one_end.proofs.Running.{is_run_of}
-use Rattle.swp_words.specs.declared.status.Status.{Status}
 use Rattle.swp_words.specs.declared.status.Status.TheVariants as status
-use Rattle.swp_words.specs.Ends.{Began, IsEndBegun, HasHeardAlone, HasGoneOut, IsWaitingAlone, IsCutAlone, IsWrittenBefore, IsBrokenAlone, IsStoppedAlone}
-use Rattle.swp_words.specs.Ends.{IsTooLongAlone, IsHearing, EndedAlone, HasRunAlone, IsRunBefore, IsRunBrokenOff, IsRunStopped, IsRunCutOff, RanSo, EndedSo}
-use Rattle.swp_words.specs.Ends.{HasNextGeneration, status_of_boot, IsOfLone, IsOfEndWord}
-use Rattle.swp_words.specs.Records.{most_bytes}
-use Rattle.std.proofs.Math.Seq.{take-add}
+use Rattle.swp_words.specs.Ends.{HasGoneOut, IsBrokenAlone, IsEndBegun, IsHearing, IsRunBefore, IsRunBrokenOff, IsRunCutOff, IsRunStopped, IsStoppedAlone}
+use Rattle.swp_words.specs.Ends.{IsTooLongAlone, IsWrittenBefore}
 use Rattle.swp_words.proofs.Taken.{whole_after, whole_piece, left_of, front_of_both}
-use Rattle.hci_store.specs.Image.{image_fault}
-use Rattle.swp_base.specs.Outside.{Rose}
-use Rattle.hci_store.specs.Starting.{ready_writes, HasWritten}
 
 module _ {N : Type 0} (writes : N → ℕ → List ℕ → Bool → N → Type 0) (is_clf : Bool) (o : Began N) (role : o.number ≡ cond is_clf 0 2) where
   pub run_is : (e : OneEnd N) (stopped : Bool) (bytes written : List ℕ) → IsEndBegun o e → HasRun writes o.content o.first e stopped bytes written

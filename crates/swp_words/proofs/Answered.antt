@@ -1,15 +1,11 @@
 -- A run of one node answered every message, and its memory keeps what was committed.
-use Rattle.std.proofs.Common.{◌≡◌, ◌∷◌, ◌++◌, ◌+◌, ℕ, Bool, true, false, List, [], length, refl, sym, ap, ◌∙◌, append_assoc, append-nil, arith, inl, inr}
-use Rattle.std.proofs.lemmas.List.{take_all}
-use Rattle.std.proofs.Math.Seq.{take-append-add}
+use Rattle.swp_words.proofs.Words.{Bool, EndForm, EndedSo, HasRunAlone, HasWritten, List, Status, [], ap, append-nil, append_assoc, arith, false, inl, inr}
+use Rattle.swp_words.proofs.Words.{length, ready_writes, refl, sym, take-append-add, take_all, true, ℕ, ◌++◌, ◌+◌, ◌∙◌, ◌∷◌, ◌≡◌}
 use Rattle.swp_base.specs.Outside.{IsWritten}
-use Rattle.lone_laws.specs.alone.Ends.{EndForm}
 use Rattle.lone_laws.specs.alone.Memories.{IsTakenMemory}
 use Rattle.one_end.proofs.Ran.{ran_answered}
-use Rattle.hci_store.specs.Starting.{ready_writes, HasWritten}
-use Rattle.swp_words.specs.declared.status.Status.{Status}
 use Rattle.swp_words.specs.declared.status.Status.TheVariants as status
-use Rattle.swp_words.specs.Ends.{AnsweredSo, BootedAndRan, EndedSo, HasRunAlone, IsAnsweredEnd}
+use Rattle.swp_words.specs.Ends.{AnsweredSo, BootedAndRan, IsAnsweredEnd}
 
 module _ {N : Type 0} (reads : N → Bool → N → Type 0) (writes : N → ℕ → List ℕ → Bool → N → Type 0) (content : N → List ℕ)
     (told : (old : N) (at : ℕ) (bytes : List ℕ) (ok : Bool) (new : N) → writes old at bytes ok new → IsWritten ok (content old) (content new) at bytes)

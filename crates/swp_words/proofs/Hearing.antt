@@ -1,19 +1,17 @@
 -- What a tap has heard and told.
-use Rattle.std.proofs.Common.{◌≡◌, ℕ, ◌≤◌, Bool, List, [], ◌∷◌, ◌++◌, length, refl, sym, ap, ◌∙◌, append_assoc, arith, subst, length-append}
-use Rattle.std.specs.Prelude.{reverse}
 use Rattle.std.specs.List.{flat_map}
-use Rattle.std.proofs.lemmas.List.{append-nil, length-reverse}
 use Rattle.std.proofs.lemmas.List.Concat.{flat_map-append}
+use Rattle.swp_words.proofs.Words.{Bool, HasHeard, IsFront, List, S1, S2, TapReport, [], ap, append-nil, append_assoc, arith, frame_given, length}
+use Rattle.swp_words.proofs.Words.{length-append, length-reverse, record_frames, refl, report_line, report_lines, reverse, subst, sym, tapped_lpdus, ℕ, ◌++◌}
+use Rattle.swp_words.proofs.Words.{◌∙◌, ◌∷◌, ◌≡◌, ◌≤◌}
 use Rattle.swp_lpdu.specs.Controls.{control_of}
-use Rattle.swp_decode.specs.declared.line.Wire.TheVariants.{S1, S2}
-use Rattle.swp_decode.specs.Frames.{record_frames, frames_told, frame_given}
-use Rattle.tap_reading.specs.Tap.{TapReport, new_tap, tap_after, tapped_from, tapped}
-use Rattle.tap_reading.specs.Lpdus.{frame_read, frames_read, tapped_lpdus}
+use Rattle.swp_decode.specs.Frames.{frames_told}
+use Rattle.tap_reading.specs.Tap.{new_tap, tap_after, tapped, tapped_from}
+use Rattle.tap_reading.specs.Lpdus.{frame_read, frames_read}
 use Rattle.swp_tap.specs.Hearing.{TapValue}
 use Rattle.swp_tap.proofs.Hearing.{tapped-append}
 use Rattle.swp_words.specs.declared.tapping.Tapping.{Tapping}
-use Rattle.swp_words.specs.Records.{IsFront}
-use Rattle.swp_words.specs.Taps.{report_line, report_lines, HasHeard, IsTapping}
+use Rattle.swp_words.specs.Taps.{IsTapping}
 use Rattle.swp_words.proofs.Recording.{newest, front_further}
 
 -- how many bytes were read

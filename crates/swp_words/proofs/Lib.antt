@@ -1,3 +1,4 @@
+mod Words
 pub mod Alone
 pub mod Answered
 pub mod Giving

@@ -1,16 +1,13 @@
 -- What a run of one node comes to, if nothing outside fails.
-use Rattle.std.proofs.Common.{◌≡◌, ◌⊎◌, ◌∷◌, ◌++◌, ◌<◌, ◌≤◌, ℕ, Bool, IsTrue, List, length, length-append, refl, ap, subst, inl, inr, arith}
-use Rattle.std.specs.Prelude.{◌≢◌, ◌↔◌, Some, None}
+use Rattle.std.proofs.Common.{◌⊎◌}
+use Rattle.std.specs.Prelude.{Some, ◌↔◌, ◌≢◌}
+use Rattle.swp_words.proofs.Words.{Bool, BootFault, EndForm, EndedSo, HasNextGeneration, IsBootRefused, IsOfEndWord, IsOfLone, IsOnlyRead, IsTrue, List}
+use Rattle.swp_words.proofs.Words.{NoMemory, None, Status, ap, arith, image_fault, inl, inr, length, length-append, most_bytes, refl, status_of_boot, subst, ℕ}
+use Rattle.swp_words.proofs.Words.{◌++◌, ◌<◌, ◌∷◌, ◌≡◌, ◌≤◌}
 use Rattle.nv_journal.specs.declared.JournalFault.{JournalFault}
 use Rattle.nv_journal.specs.declared.JournalFault.TheVariants as image
-use Rattle.lone_laws.specs.alone.Ends.{EndForm}
-use Rattle.one_end.specs.Standing.{BootFault, IsBootRefused, NoMemory}
-use Rattle.hci_store.specs.Image.{image_fault}
-use Rattle.hci_store.specs.Refusals.{IsOnlyRead}
-use Rattle.swp_words.specs.declared.status.Status.{Status}
 use Rattle.swp_words.specs.declared.status.Status.TheVariants as status
-use Rattle.swp_words.specs.Records.{most_bytes}
-use Rattle.swp_words.specs.Ends.{IsImageRefused, EndedSo, IsOfLone, IsOfEndWord, HasNextGeneration, IsRefusedFor, status_of_boot}
+use Rattle.swp_words.specs.Ends.{IsImageRefused, IsRefusedFor}
 
 -- a run is not refused for its memory, where nothing is wrong with it and no generation is needed that isn't there
 not_refused : {N : Type 0} (reads : N → Bool → N → Type 0) (content : N → List ℕ) (tells : Bool) (old new : N) (fault : JournalFault)

@@ -1,16 +1,15 @@
 -- What a command that reads a line record has written and gathered.
-use Rattle.std.proofs.Common.{◌≡◌, ℕ, ◌+◌, ◌≤◌, arith, Bool, IsTrue, List, [], ◌∷◌, ◌++◌, length, take, min, refl, sym, ap, ◌∙◌, append_assoc, subst}
-use Rattle.std.specs.Prelude.{reverse, Result, OnErr, OnOk}
-use Rattle.std.proofs.lemmas.List.{append-nil, reverse-append, length-reverse, length-append, take-append-le, take_min}
-use Rattle.std.proofs.Math.Seq.{take-append-add}
-use Rattle.swp_decode.specs.Decoded.{record_lines, last_line, line_at, lines_with, transcript}
+use Rattle.std.proofs.Common.{min}
+use Rattle.std.specs.Prelude.{OnErr, OnOk, Result}
+use Rattle.std.proofs.lemmas.List.{take-append-le, take_min}
+use Rattle.swp_words.proofs.Words.{Bool, DecoderStandsFor, EndedIn, IsFront, IsGathered, IsTrue, List, S1, S2, Status, [], ap, append-nil, append_assoc, arith}
+use Rattle.swp_words.proofs.Words.{last_line, length, length-append, length-reverse, record_lines, refl, reverse, reverse-append, subst, sym, take}
+use Rattle.swp_words.proofs.Words.{take-append-add, whole_record, ℕ, ◌++◌, ◌+◌, ◌∙◌, ◌∷◌, ◌≡◌, ◌≤◌}
+use Rattle.swp_decode.specs.Decoded.{line_at, lines_with, transcript}
 use Rattle.swp_decode.proofs.FurtherFrames.{record_lines-append}
 use Rattle.swp_words.specs.declared.decoding.Decoding.{Decoding}
-use Rattle.swp_decode.specs.declared.line.Wire.TheVariants.{S1, S2}
-use Rattle.swp_decode.specs.Kept.{DecoderStandsFor}
-use Rattle.swp_words.specs.declared.status.Status.{Status}
 use Rattle.swp_words.specs.declared.status.Status.TheVariants as status
-use Rattle.swp_words.specs.Records.{piece_of, whole_record, IsGathered, IsFront, EndedIn, RecordedBy, HasRecorded}
+use Rattle.swp_words.specs.Records.{HasRecorded, RecordedBy, piece_of}
 use Rattle.swp_words.specs.Decodings.{IsDecoding}
 use Rattle.swp_words.proofs.Taken.{behind}
 

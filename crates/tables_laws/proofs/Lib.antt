@@ -1,2 +1,3 @@
+mod Words
 pub mod gate
 pub mod tables

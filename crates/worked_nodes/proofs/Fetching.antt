@@ -1,11 +1,12 @@
 -- How many frames wait at an end, and that none waits behind so many fetches.
-use Rattle.std.proofs.Common.{◌≡◌, ◌≢◌, ℕ, zero, suc, ◌+◌, ◌≤◌, Bool, true, false, List, [], ◌∷◌, ◌++◌, map, length, refl, sym, ap, ◌∙◌, subst}
-use Rattle.std.proofs.Common.{arith, eq-eqb, append_assoc, append-nil}
-use Rattle.std.specs.Prelude.{Option, Some, None, option_map, ◌==◌, IsTrue, not}
+use Rattle.std.proofs.Common.{Bool, append-nil, append_assoc, eq-eqb, false, length, map, true, zero, ◌≢◌, ◌≤◌}
+use Rattle.std.specs.Prelude.{IsTrue, Option, Some, not, option_map, ◌==◌}
 use Rattle.std.specs.List.{AllByRecursion}
 use Rattle.std.specs.Option.{option_map_or}
 use Rattle.std.proofs.lemmas.List.{length-map, map-append}
 use Rattle.std.proofs.lemmas.Bool.{eqb-true, eqb-false}
+use Rattle.worked_nodes.proofs.Words.{AreHandedOn, BeginsStep, Brings, Clf, Core, Entry, HasStepped, List, Node, None, Port, RunsAs, Stored, Uicc, Work, [], ap}
+use Rattle.worked_nodes.proofs.Words.{arith, due_as_far_as, frame_at, has_sent, port_at, refl, subst, suc, sym, with_port, ℕ, ◌++◌, ◌+◌, ◌∙◌, ◌∷◌, ◌≡◌}
 use Rattle.swp_base.specs.declared.control_frames.Control.{Control}
 use Rattle.shdlc_core.specs.declared.answers.Due.{Due}
 use Rattle.shdlc_core.specs.Machine.{EndState, Fragment, all_frames, fetched, fragment_due, frame_due}
@@ -13,24 +14,19 @@ use Rattle.shdlc_core.proofs.Histories.{fragment_due-within}
 use Rattle.link_laws.proofs.places.Joined.{fetched_idle, left}
 use Rattle.link_laws.specs.machine.Machine.{LinkEnd as Machine, ActDue, among, next_frame, frame_fetched, nearer, frames_out, sent_all}
 use Rattle.link_laws.specs.machine.Laws.{fetches, after_fetches, most_fetches}
-use Rattle.node_machine.specs.Parts.{Core, Port, Work}
-use Rattle.node_machine.specs.Carrying.{port_at, with_port}
 use Rattle.node_ends.specs.declared.seat.Seat.{Seat}
 use Rattle.block_pool.specs.Pool.{PoolState}
 use Rattle.swp_lpdu.specs.Controls.{lpdu_of}
-use Rattle.node_ends.specs.Ends.{SeatsStandFor, SeatStandsFor, HaveOwnHosts, AreOfHosts, has_sent, frame_at}
-use Rattle.hci_store.specs.Stored.{Stored}
-use Rattle.node_core.specs.declared.node.Node.{Node}
-use Rattle.node_core.specs.Bringing.{Brings, WereMade}
-use Rattle.trace_model.specs.declared.entry.Entry.{Entry}
+use Rattle.node_ends.specs.Ends.{AreOfHosts, HaveOwnHosts, SeatStandsFor, SeatsStandFor}
+use Rattle.node_core.specs.Bringing.{WereMade}
 use Rattle.swp_base.specs.declared.link_terms.Role.{Role as Named}
-use Rattle.swp_base.specs.declared.link_terms.Role.TheVariants.{Clf, Uicc, Bare}
+use Rattle.swp_base.specs.declared.link_terms.Role.TheVariants.{Bare}
 use Rattle.node_ends.specs.Making.{new_port}
-use Rattle.node_core.specs.Running.{RunsAs, MayStep, IsAllSent, BeginsStep, HasStepped, SendsOneByOne, between, ran_so}
+use Rattle.node_core.specs.Running.{IsAllSent, MayStep, SendsOneByOne, between, ran_so}
 use Rattle.node_core.specs.declared.running.Ran.TheVariants.{Done}
 use Rattle.node_core.specs.Giving.{IsAsked}
 use Rattle.node_core.proofs.Between.{few_wait, all_one_by_one}
-use Rattle.worked_nodes.specs.FramesOut.{due_to, due_as_far_as, has_sent_all, AreHandedOn, HasSentTo, HasSentToAll, out_behind, HasHandedOn}
+use Rattle.worked_nodes.specs.FramesOut.{HasHandedOn, HasSentTo, HasSentToAll, due_to, has_sent_all, out_behind}
 
 -- ## One end
 

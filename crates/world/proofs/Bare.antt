@@ -1,28 +1,23 @@
 -- A bare end has no activation, and one input adds at most one control frame to those that are due.
-use Rattle.std.proofs.Common.{◌≡◌, ℕ, suc, ◌≤◌, Bool, true, false, List, [], ◌∷◌, ◌++◌, length, refl, ap, sym, subst, length-append, arith, max, ◌∙◌}
-use Rattle.std.specs.Prelude.{Option, Some, None, is_some, not, IfSome}
-use Rattle.world.proofs.Words.{AreNoted, Control, Due, End, EndState, Entry, Give, GoesOut, HasHappened, Hold, IsMidway, Link, LinkEnd, LinkInput}
-use Rattle.world.proofs.Words.{LinkStandsFor, Message, NoCause, Node, NodeStandsFor, Place, Side, Take, after_input, becomes, ended_by, fetched, frames_out}
-use Rattle.world.proofs.Words.{give_refusal, here_entries, idle, more_noted, new_link_end, put_all, puts_entries, report, side_of, tick_entries}
-use Rattle.world.proofs.Words.{ticks_at_controller, told, turn, whole_acked, with_ended}
+use Rattle.world.proofs.Words.{AreNoted, Bool, Control, Due, End, EndState, Entry, Give, GoesOut, HasHappened, Hold, IfSome, IsMidway, Link, LinkEnd, LinkInput}
+use Rattle.world.proofs.Words.{LinkReport, LinkStandsFor, List, Message, NoCause, NoInput, Node, NodeStandsFor, None, Noted, Option, Place, Reached, Refused}
+use Rattle.world.proofs.Words.{Report, Reset, Side, Some, Step, Take, Tick, [], after_input, after_inputs, ap, arith, as_noted, becomes, ended_by, false}
+use Rattle.world.proofs.Words.{fetched, frame_fetched, frames_out, give_refusal, given, here_entries, idle, is_some, length, length-append, max, more_noted}
+use Rattle.world.proofs.Words.{new_link_end, not, nothing_told, put_all, puts_entries, refl, report, sent_all, side_of, subst, suc, sym, tick_entries}
+use Rattle.world.proofs.Words.{ticks_at_controller, told, took, true, turn, unless, whole_acked, with_controller, with_ended, ℕ, ◌++◌, ◌∙◌, ◌∷◌, ◌≡◌, ◌≤◌}
 use Rattle.swp_act.specs.declared.ActEvent.{ActEvent}
 use Rattle.shdlc_core.specs.declared.answers.Due.TheVariants.{Rr as Rr_due}
 use Rattle.shdlc_core.specs.Machine.{taken, with_ready}
-use Rattle.link_laws.specs.machine.Machine.{Refused, after_inputs, activated, took, given, unless, frame_fetched, ActDue, Report, sent_all}
+use Rattle.link_laws.specs.machine.Machine.{ActDue, activated}
 use Rattle.link_laws.specs.machine.Machine.Role.{Bare}
-use Rattle.link_laws.specs.machine.Machine.LinkInput.{Tick, Reset}
-use Rattle.link_laws.specs.messages.Links.{number_of, with_controller}
-use Rattle.link_laws.specs.entries.Entries.{End as Who, Entry as Noted, told_of, input_entries}
+use Rattle.link_laws.specs.messages.Links.{number_of}
+use Rattle.link_laws.specs.entries.Entries.{End as Who, input_entries, told_of}
 use Rattle.swp_base.specs.declared.link_terms.Cause.{Cause}
-use Rattle.link_end.specs.declared.report.LinkReport.{LinkReport}
-use Rattle.link_end.specs.Reports.{report_told, nothing_told}
+use Rattle.link_end.specs.Reports.{report_told}
 use Rattle.link_end.specs.Idle.{IsIdle}
 use Rattle.trace_model.specs.declared.entry.Entry.TheVariants as entry
-use Rattle.link_laws.specs.messages.Links.Comes.{NoInput}
-use Rattle.link_laws.specs.messages.Links.EndEvent.{Step}
 use Rattle.link_laws.specs.entries.Entries.Entry.{Sent}
-use Rattle.history.specs.Follows.{as_noted}
-use Rattle.world.specs.Nodes.{Reached, HasFewDue}
+use Rattle.world.specs.Nodes.{HasFewDue}
 
 -- ## No activation
 

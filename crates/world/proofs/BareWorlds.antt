@@ -1,24 +1,26 @@
 -- Lines and rounds have a link make few RSETs.
-use Rattle.std.proofs.Common.{◌≡◌, ℕ, zero, suc, ◌+◌, ◌*◌, ◌≤◌, true, false, List, [], ◌∷◌, ◌++◌, length, replicate, sym, subst, arith, ◌<◌, Bool, refl, ap}
-use Rattle.std.proofs.Common.{◌∙◌, true≢false, append-nil, append_assoc}
-use Rattle.std.specs.Prelude.{Option, Some, None, unwrap_or, IsTrue}
-use Rattle.std.specs.List.{AllByRecursion, list_any, fold}
+use Rattle.std.specs.Prelude.{IsTrue}
+use Rattle.std.specs.List.{fold, list_any}
 use Rattle.std.proofs.lemmas.List.Concat.{flat_map-append}
-use Rattle.world.proofs.Words.{BareWorld, Caused, Controller, Does, DoesAll, End, Entry, FewRsets, Given, HaveSent, Header, History, Host, IsLineOf, IsPlayFor}
-use Rattle.world.proofs.Words.{Line, Link, LinkStandsFor, NoCause, OnDemand, Outcome, Play, Readied, Round, Said, Side, SidesStandFor, Taken, Ticked, WasLost}
-use Rattle.world.proofs.Words.{WasReset, WorldStandsFor, bare_link, bare_link_behind, bare_round_lines, causes_in, damage_causes, end_for, end_of, events_at}
-use Rattle.world.proofs.Words.{first_verdict, frames_to, host_of, lines-append, lines_lead, lines_played, lines_said, link_after, link_after_all}
-use Rattle.world.proofs.Words.{link_after_line, link_after_lines, link_at, misread, most_rsets, new_link_end, noted, other_end, outcome_of, refusal}
-use Rattle.world.proofs.Words.{round_behind, round_on, rounds_played, taken_of, taking_on, told_below}
+use Rattle.world.proofs.Words.{AllByRecursion, BareWorld, Bool, Cause, Caused, Controller, Does, DoesAll, End, Entry, Given, HasBareRoom, HasBareRoomToSettle}
+use Rattle.world.proofs.Words.{HaveSent, Header, History, Host, IsLineOf, IsPlayFor, IsPlayedLine, Line, Link, LinkStandsFor, List, NoCause, None, OnDemand}
+use Rattle.world.proofs.Words.{Option, Outcome, Play, Readied, Round, Said, Side, SideStandsFor, SidesStandFor, Some, Taken, Ticked, Verdict, WasLost, WasReset}
+use Rattle.world.proofs.Words.{WorldStandsFor, [], ap, append-nil, append_assoc, arith, bare_entries, bare_link_behind, causes_in, damage_causes, end_for}
+use Rattle.world.proofs.Words.{events_at, false, first_verdict, frames_to, host_of, length, lines-append, lines_lead, lines_played, lines_said, link_after}
+use Rattle.world.proofs.Words.{link_after_all, link_after_line, link_after_lines, link_at, misread, new_link_end, noted, other_end, outcome_of, played_more}
+use Rattle.world.proofs.Words.{refl, refusal, replicate, round_behind, round_on, rounds_played, subst, suc, sym, taken_of, takes_on, taking_on, told_below}
+use Rattle.world.proofs.Words.{told_of_play, told_on, true, true≢false, unwrap_or, with_step, with_steps, zero, ℕ, ◌*◌, ◌++◌, ◌+◌, ◌<◌, ◌∙◌, ◌∷◌, ◌≡◌, ◌≤◌}
+use Rattle.link_laws.specs.messages.Rsets.{FewRsets}
+use Rattle.history.specs.Steps.{bare_link, end_of}
+use Rattle.lines_told.proofs.lines.Told.{bare_round_lines}
+use Rattle.world.specs.BareWorlds.{most_rsets}
 use Rattle.trace_model.specs.declared.line.Line.TheVariants as line
 use Rattle.history.specs.BareRsets.{rsets_by_bare}
-use Rattle.history.specs.Damage.{Verdict}
 use Rattle.history.specs.Damage.Verdict.{Same, LostFor, Undetected}
-use Rattle.history.specs.Histories.{Cause, Step, events_of, causes_of, all_events, all_entries}
+use Rattle.history.specs.Histories.{Step, all_entries, all_events, causes_of, events_of}
 use Rattle.history.specs.Histories.Outcome.{Refused}
 use Rattle.history.proofs.RsetsInBareWorlds.{few_after}
-use Rattle.lines_told.proofs.lines.Told.{no_more_rounds, no_more_said, one_round, one_said, takes_on, bare_known, bare_lines_may_be_played, for_with}
-use Rattle.lines_told.proofs.lines.Told.{played_more, sure_on}
+use Rattle.lines_told.proofs.lines.Told.{bare_known, bare_lines_may_be_played, for_with, no_more_rounds, no_more_said, one_round, one_said, sure_on}
 use Rattle.trace_model.specs.declared.line.Line.TheVariants.{Send, Deliver, Lose, Damage, Tick, Reset, Busy, Ready, Boot, Cut, Activate, Arm, Init, Tables}
 use Rattle.trace_model.specs.declared.line.Line.TheVariants.{Settle}
 use Rattle.trace_model.specs.Lines.{IsHeader}
@@ -26,18 +28,15 @@ use Rattle.link_laws.specs.machine.Machine.Role.{Bare}
 use Rattle.link_laws.specs.messages.Links.{new_numbered_end}
 use Rattle.link_laws.proofs.messages.RsetNumbers.{start_numbered}
 use Rattle.link_laws.specs.messages.Links.IsStart.{IsBare}
-use Rattle.history.specs.Follows.{Follows, StepsFollow, opened, with_step}
+use Rattle.history.specs.Follows.{Follows, StepsFollow, opened}
 use Rattle.history.proofs.Leading.{events_in, after_events}
 use Rattle.history.specs.Legal.{Legal, Complete, Prefix, Settled, is_chain_fault}
 use Rattle.history.proofs.legal.Settled.{only_one}
-use Rattle.lines_told.specs.lines.Below.{IsPlayedLine}
-use Rattle.lines_told.specs.lines.Plays.{told_behind, told_of_play, lines_of_play}
+use Rattle.lines_told.specs.lines.Plays.{lines_of_play, told_behind}
 use Rattle.lines_told.specs.lines.RoundLines.{IsRoundLine}
 use Rattle.link_wires.specs.declared.finding.Misread.{Misread}
 use Rattle.node_world.proofs.WorldsStepped.{few_with_line, few_with_one_round}
-use Rattle.world.specs.Sides.{SideStandsFor}
-use Rattle.world.specs.Lines.{IsMisread, damaged_by, told_on}
-use Rattle.world.specs.BareWorlds.{HasBareRoom, HasBareRoomToSettle, bare_entries, with_steps}
+use Rattle.world.specs.Lines.{IsMisread, damaged_by}
 use Rattle.world.proofs.Given.{causes_of-events, sent_line}
 use Rattle.world.proofs.RoundLemmas.{seen_back, seen_here, sent_round}
 use Rattle.node_world.proofs.CountsStay.{ticks_within as few_ticks}

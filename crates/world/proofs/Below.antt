@@ -1,23 +1,18 @@
 -- The world below a bare header: what it stands for, what is told of a line there, and what can be asked of it.
-use Rattle.std.proofs.Common.{◌≡◌, ℕ, ◌+◌, ◌-◌, ◌<◌, false, List, [], ◌∷◌, ◌++◌, sym, ap, ◌∙◌, subst, arith}
-use Rattle.std.specs.Prelude.{None, Result, OnOk, IfErr}
-use Rattle.std.proofs.lemmas.Result.{on_ok_weaker, IfErr-weaker}
-use Rattle.std.specs.List.{AllByRecursion}
+use Rattle.std.specs.Prelude.{IfErr}
+use Rattle.world.proofs.Words.{AllByRecursion, Bare, BareWorld, Below, End, HasBareRoom, HasBareRoomToSettle, Header, History, IfErr-weaker, IsFaultThere}
+use Rattle.world.proofs.Words.{IsLineOf, IsPlayFor, IsPlayedLine, Line, Link, List, Nodes, None, OnOk, Play, Result, Round, Said, StandsBelow, WorldFault}
+use Rattle.world.proofs.Words.{WorldStandsFor, [], ap, arith, bare_entries, bare_link_behind, false, frames_to, host_of, lines_lead, lines_played, lines_said}
+use Rattle.world.proofs.Words.{link_at, misread, misread_below, noted, on_ok_weaker, outcome_of, round_behind, rounds_played, subst, sym, told_below}
+use Rattle.world.proofs.Words.{told_of_play, with_step, with_steps, ℕ, ◌++◌, ◌+◌, ◌-◌, ◌<◌, ◌∙◌, ◌∷◌, ◌≡◌}
 use Rattle.node_world.specs.Worlds.{AreFewWithParts, IsNodeWorldBehind}
 use Rattle.node_world.specs.declared.worlds.NodeWorld.{NodeWorld}
-use Rattle.world.proofs.Words.{BareWorld, Below, End, Header, History, IsFaultThere, IsLineOf, IsPlayFor, Line, Link, Play, Said, StandsBelow}
-use Rattle.world.proofs.Words.{WorldStandsFor, bare_link_behind}
-use Rattle.world.proofs.Words.{Round, frames_to, host_of, lines_lead, lines_played, link_at, misread, noted, outcome_of, round_behind, told_below}
 use Rattle.link_laws.specs.messages.Rest.{link_rests}
-use Rattle.lines_told.specs.lines.Below.{IsPlayedLine, misread_below}
-use Rattle.lines_told.specs.lines.Plays.{lines_said, rests_behind, rounds_played, told_of_play}
+use Rattle.lines_told.specs.lines.Plays.{rests_behind}
 use Rattle.lines_told.proofs.lines.Told.{bare_rests}
-use Rattle.world.specs.declared.fault.WorldFault.{WorldFault}
 use Rattle.world.specs.declared.fault.WorldFault.TheVariants as fault
-use Rattle.world.specs.declared.world_steps.Below.TheVariants.{Bare, Nodes}
 use Rattle.world.proofs.BareWorlds.{bare_line}
-use Rattle.history.specs.Follows.{with_step}
-use Rattle.world.specs.BareWorlds.{HasBareRoom, HasBareRoomToSettle, IsFaultOf, bare_entries, bare_header, with_steps}
+use Rattle.world.specs.BareWorlds.{IsFaultOf, bare_header}
 use Rattle.lines_told.specs.lines.Below.{frames_below}
 
 -- ## On the link that lines leave

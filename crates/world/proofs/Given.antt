@@ -1,21 +1,15 @@
 -- How many messages the ends of a link were given in their sessions: no cause but a message given adds one.
-use Rattle.std.proofs.Common.{◌≡◌, ℕ, zero, suc, ◌+◌, ◌≤◌, Bool, true, false, List, [], ◌∷◌, length, replicate, refl, ap, length-append, arith}
-use Rattle.std.specs.Prelude.{Option, Some, None, is_some, not, unwrap_or}
-use Rattle.world.proofs.Words.{Caused, Control, End, EndEvent, FetchMessage, Give, Given, GoesOut, HaveSent, Hold, Line, Link, LinkEnd, LinkInput, Message}
-use Rattle.world.proofs.Words.{NoCause, OnDemand, OnWire, Outcome, Readied, Take, Taken, Ticked, WasLost, WasReset, after_input, aged, becomes, causes_in}
-use Rattle.world.proofs.Words.{damage_causes, ended_by, events_at, exchanged, first_verdict, frames_out, frames_to, give_refusal, happens}
-use Rattle.world.proofs.Words.{happens_at_controller, link_after, link_after_all, link_after_line, outcome_of, refusal, taken_of, ticks_at_controller, turn}
-use Rattle.world.proofs.Words.{with_ended}
+use Rattle.world.proofs.Words.{Bool, Cause, Caused, Control, End, EndEvent, FetchMessage, Give, Given, GoesOut, HaveSent, Hold, Line, Link, LinkEnd, LinkInput}
+use Rattle.world.proofs.Words.{List, Lose, Message, NextFrame, NoCause, NoInput, None, OnDemand, OnWire, Option, Outcome, Readied, Refused, Reset, Some, Step}
+use Rattle.world.proofs.Words.{Take, Taken, Tick, Ticked, Verdict, WasLost, WasReset, [], after_input, aged, ap, arith, becomes, causes_in, damage_causes}
+use Rattle.world.proofs.Words.{ended_by, events_at, exchanged, false, first_verdict, frames_out, frames_to, give_refusal, given, happens, happens_at_controller}
+use Rattle.world.proofs.Words.{is_some, length, length-append, link_after, link_after_all, link_after_line, not, outcome_of, refl, refusal, replicate, suc}
+use Rattle.world.proofs.Words.{taken_of, ticks_at_controller, took, took_with, true, turn, unless, unwrap_or, with_ended, zero, ℕ, ◌+◌, ◌∷◌, ◌≡◌, ◌≤◌}
 use Rattle.trace_model.specs.declared.line.Line.TheVariants as line
-use Rattle.link_laws.specs.sessions.Sessions.{took_with}
-use Rattle.link_laws.specs.machine.Machine.{Refused, turned, took, given, unless}
-use Rattle.link_laws.specs.machine.Machine.LinkInput.{Tick, Reset}
+use Rattle.link_laws.specs.machine.Machine.{turned}
 use Rattle.link_laws.specs.messages.Links.{has_input, has_taken}
-use Rattle.link_laws.specs.messages.Links.Comes.{NextFrame, AsksReset, NoInput}
-use Rattle.link_laws.specs.messages.Links.EndEvent.{Step, Lose}
-use Rattle.history.specs.Histories.{Cause}
+use Rattle.link_laws.specs.messages.Links.Comes.{AsksReset}
 use Rattle.history.specs.Histories.Outcome.{Refused as LineRefused}
-use Rattle.history.specs.Damage.{Verdict}
 use Rattle.history.specs.Steps.{at}
 use Rattle.link_laws.proofs.messages.Project.{host_ended as ended_host}
 use Rattle.node_world.proofs.EndsGo.{all_far as all_host}

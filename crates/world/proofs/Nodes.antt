@@ -1,32 +1,30 @@
 -- The node of a bare end, from input to input.
-use Rattle.std.proofs.Common.{◌≡◌, ℕ, ◌<◌, ◌^◌, List, [], ◌∷◌, ◌++◌, length, drop, map, refl, ap, sym, subst, ◌∙◌, append_assoc, arith}
-use Rattle.std.proofs.lemmas.List.{append-nil}
-use Rattle.std.specs.Prelude.{Bool, Option, Some, None, option_map, Ok, Err}
-use Rattle.link_laws.specs.machine.Machine.{after_inputs, Refused, oldest, brought, lpdu_input, frame_fetched, whole_among}
-use Rattle.world.proofs.Words.{AreNoted, Asked, Control, End, Entry, Fetch, FetchMessage, Give, Hold, LinkEnd, LinkInput, Message, Node, NodeStandsFor, Place}
-use Rattle.world.proofs.Words.{Take, after_input, control_of, end_is, entries_for, fetched, give_refusal, if_up, new_link_end, report, reset_refusal, side_of}
-use Rattle.world.proofs.Words.{told, turn, whole_acked}
+use Rattle.std.specs.Prelude.{Err}
+use Rattle.world.proofs.Words.{AreNoted, Bool, Control, End, EndStandsFor, Entry, Fetch, FetchMessage, Give, Got, Hold, Kept, LinkEnd, LinkInput, LinkReport}
+use Rattle.world.proofs.Words.{List, Message, Node, NodeStandsFor, None, Ok, Option, Place, Reached, Refused, Reports, Reset, Some, Sound, Take, Tick, []}
+use Rattle.world.proofs.Words.{acked_on, after_input, after_inputs, ap, append-nil, append_assoc, arith, control_of, drop, end_is, entries_for, fetched}
+use Rattle.world.proofs.Words.{frame_fetched, give_refusal, length, lpdu_input, map, new_link_end, nothing_told, option_map, refl, report, reported, side_of}
+use Rattle.world.proofs.Words.{subst, sym, told, told_of, turn, whole_acked, whole_among, ℕ, ◌++◌, ◌<◌, ◌^◌, ◌∙◌, ◌∷◌, ◌≡◌}
+use Rattle.link_laws.specs.machine.Machine.{brought, oldest}
+use Rattle.swp_base.specs.declared.link_terms.Cause.TheVariants.{Asked}
+use Rattle.link_laws.specs.machine.Machine.{if_up, reset_refusal}
 use Rattle.link_laws.specs.machine.Machine.Role.{Bare}
-use Rattle.link_laws.specs.machine.Machine.LinkInput.{Tick, Reset, FromNode}
+use Rattle.link_laws.specs.machine.Machine.LinkInput.{FromNode}
 use Rattle.link_laws.specs.machine.Laws.{AreSendableInputs}
-use Rattle.link_laws.proofs.machine.Runs.{Sound, sound, parted}
+use Rattle.link_laws.proofs.machine.Runs.{parted, sound}
 use Rattle.trace_model.specs.declared.entry.Entry.TheVariants as entry
 use Rattle.block_pool.specs.declared.chain.Chain.{Chain}
 use Rattle.block_pool.specs.Pool.{PoolState, IsLive, chain_bytes, Gives, KeepsOthers}
 use Rattle.hcp_chain.specs.Holding.{messages_in as messages_of}
 use Rattle.link_messages.specs.Incoming.{got_chains}
-use Rattle.link_end.specs.declared.«end».End.{End as Kept}
 use Rattle.hcp_packet.specs.Packets.{IsSendable, packet_count}
 use Rattle.link_laws.proofs.machine.Sound.{whole_given}
-use Rattle.link_laws.proofs.machine.Reports.{Reports, took_got}
+use Rattle.link_laws.proofs.machine.Reports.{took_got}
 use Rattle.link_end.specs.declared.report.ResetRefused.{ResetRefused}
-use Rattle.link_end.specs.declared.report.LinkReport.{LinkReport}
-use Rattle.link_end.specs.Ends.{EndStandsFor, Accounts, EndLeavesOthers}
-use Rattle.link_end.specs.Reports.{report_told as told_of, nothing_told, reset_told}
+use Rattle.link_end.specs.Ends.{Accounts, EndLeavesOthers}
+use Rattle.link_end.specs.Reports.{reset_told}
 use Rattle.link_end.proofs.AccountLemmas.{account_kept, account_moved, given_own}
-use Rattle.link_laws.specs.entries.Entries.Entry.{Got}
-use Rattle.world.specs.Noting.{acked_on, reported}
-use Rattle.world.specs.Nodes.{Reached, CanFetch, HasInput}
+use Rattle.world.specs.Nodes.{CanFetch, HasInput}
 use Rattle.world.proofs.Noting.{told_at, acked_told}
 
 pub is_sound : (m : LinkEnd) → Reached m → Sound m

@@ -1,16 +1,13 @@
 -- What is noted of an input is what its report tells.
-use Rattle.std.proofs.Common.{◌≡◌, ℕ, ◌+◌, ◌-◌, ◌<◌, ◌≤◌, ◌^◌, Bool, true, false, cond, [], ◌++◌, length, map, refl, ap, sym, subst, arith}
-use Rattle.std.specs.Prelude.{is_some, min}
-use Rattle.world.proofs.Words.{End, LinkEnd, LinkInput, after_input, ended_by, entries_for, report, side_of, told, whole_acked}
+use Rattle.std.proofs.Common.{cond}
+use Rattle.std.specs.Prelude.{min}
+use Rattle.world.proofs.Words.{Bool, End, Got, LinkEnd, LinkInput, Report, Reports, Sound, [], acked_on, after_input, ap, arith, ended_by, entries_for, false}
+use Rattle.world.proofs.Words.{is_some, length, map, refl, report, reported, side_of, subst, sym, told, told_of, true, whole_acked, whole_among, ℕ, ◌++◌, ◌+◌}
+use Rattle.world.proofs.Words.{◌-◌, ◌<◌, ◌^◌, ◌≡◌, ◌≤◌}
 use Rattle.trace_model.specs.declared.entry.Entry.TheVariants as entry
-use Rattle.link_laws.specs.machine.Machine.{Report, began_by, whole_among}
+use Rattle.link_laws.specs.machine.Machine.{began_by}
 use Rattle.link_laws.proofs.machine.Sound.{SentAfter, Shift, whole_few, whole_more}
 use Rattle.link_laws.proofs.machine.Sound.Shift.{Begins, Ends, Renews, Rests, Stays}
-use Rattle.link_laws.proofs.machine.Runs.{Sound}
-use Rattle.link_laws.proofs.machine.Reports.{Reports}
-use Rattle.link_end.specs.Reports.{report_told as told_of}
-use Rattle.link_laws.specs.entries.Entries.Entry.{Got}
-use Rattle.world.specs.Noting.{acked_on, reported}
 
 pub told_at : (at : End) (n k : ℕ) (r : Report) → entries_for at.link (told (side_of at) n r k)
     ≡ reported at n (told_of r) k ++ entries_for at.link (map (Got (side_of at) n) r.got)

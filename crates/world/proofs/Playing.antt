@@ -1,24 +1,19 @@
 -- A world behind one line, one round or one part more, and a line that lets the links settle, opened and closed.
-use Rattle.std.proofs.Common.{◌≡◌, ℕ, ◌+◌, ◌-◌, ◌≤◌, ◌<◌, Bool, true, List, [], ◌∷◌, ◌++◌, length, map, refl, ap, sym, subst, ◌∙◌, arith, append-nil}
-use Rattle.std.proofs.Common.{append_assoc, length-append, true≢false}
-use Rattle.std.specs.Prelude.{Option, Some, None, Result, OnOk, if◌then◌else◌, replicate}
-use Rattle.std.proofs.lemmas.Result.{on_ok_weaker}
-use Rattle.std.specs.List.{AllByRecursion}
-use Rattle.world.proofs.Words.{Below, Header, IsFaultThere, IsPlayFor, Line, Play, Round, Said, StandsBelow, World, lines_played, lines_said, rounds_played}
+use Rattle.world.proofs.Words.{AllByRecursion, Bare, Below, Bool, Header, IsFaultThere, IsPlayFor, Line, List, MayCountBelow, MayOpen, Nodes, None, OnOk}
+use Rattle.world.proofs.Words.{OpenLine, Option, Play, Result, Round, Said, Some, StandsBelow, World, WorldFault, [], ap, append-nil, append_assoc, arith}
+use Rattle.world.proofs.Words.{few_with_round, few_with_said, if◌then◌else◌, length, length-append, lines_played, lines_said, map, memory_behind, misread_below}
+use Rattle.world.proofs.Words.{on_ok_weaker, played_more, refl, replicate, rounds_played, subst, sym, true, true≢false, ℕ, ◌++◌, ◌+◌, ◌-◌, ◌<◌, ◌∙◌, ◌∷◌, ◌≡◌}
+use Rattle.world.proofs.Words.{◌≤◌}
 use Rattle.trace_model.specs.declared.line.Line.TheVariants as saying
 use Rattle.trace_model.specs.Lines.{MayBegin, IsNodeOf}
-use Rattle.lines_told.specs.lines.Below.{misread_below, memory_behind}
 use Rattle.lines_told.specs.lines.Plays.{AreFewPlays, rounds_to_rest}
-use Rattle.lines_told.proofs.lines.Told.{all-append, at_most, few_with_round, few_with_said, none_said, played-append, played_more, rounds_for, said-append}
+use Rattle.lines_told.proofs.lines.Told.{all-append, at_most, none_said, played-append, rounds_for, said-append}
 use Rattle.lines_told.proofs.lines.Told.{so_many_rounds}
 use Rattle.swp_base.specs.InMemory.{Memory}
 use Rattle.node_world.specs.Legal.{HaveLegalHistory, IsKeptBehind}
 use Rattle.node_world.proofs.LegalPlays.{kept_behind, AskFew, AsksNone, bare_legal, nodes_legal, said_ask_few, still_ask_few}
-use Rattle.world.specs.declared.fault.WorldFault.{WorldFault}
 use Rattle.world.specs.declared.fault.WorldFault.TheVariants as fault
-use Rattle.world.specs.declared.world_steps.Below.TheVariants.{Bare, Nodes}
-use Rattle.world.specs.declared.world_steps.OpenLine.{OpenLine}
-use Rattle.world.specs.Worlds.{IsWorldAt, IsWorldWithin, HasRoomForLine, HasRoomForPart, HasRoomToSettle, MayCountBelow, MayOpen, is_part, world_header}
+use Rattle.world.specs.Worlds.{HasRoomForLine, HasRoomForPart, HasRoomToSettle, IsWorldAt, IsWorldWithin, is_part, world_header}
 use Rattle.world.specs.Worlds.{IsPartLine}
 
 -- ## Counts

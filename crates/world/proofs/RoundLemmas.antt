@@ -1,24 +1,22 @@
 -- What a line does on a link, seen from the end that it speaks of.
-use Rattle.std.proofs.Common.{◌≡◌, ℕ, zero, suc, ◌<◌, true, false, eqb, List, [], ◌∷◌, ◌++◌, length, refl, sym, ap, subst, ◌∙◌, append-nil, arith, ◌+◌, ◌*◌}
-use Rattle.std.proofs.Common.{◌≤◌, ◌^◌, replicate, append_assoc}
-use Rattle.std.specs.Prelude.{Option, Some, None, IfSome, not, if◌then◌else◌}
+use Rattle.std.proofs.Common.{eqb}
 use Rattle.std.proofs.lemmas.List.{length-map}
-use Rattle.world.proofs.Words.{AreNoted, Buffer, Caused, Controller, Does, DoesAll, Empty, End, EndEvent, Entry, Flying, GoesOut, HasHappened, HasRepeated}
-use Rattle.world.proofs.Words.{HaveSent, Host, Line, Link, LinkStandsFor, No, NoCause, OnWire, Outcome, Side, SidesStandFor, Taken, Ticked, WireStandsFor}
-use Rattle.world.proofs.Words.{aged, causes_in, entries_for, events_at, exchanged, frames_to, happens, happens_at_controller, here_entries, idle, lines-append}
-use Rattle.world.proofs.Words.{link_after, link_after_all, link_after_line, link_after_lines, more_noted, noted, other_end, outcome_of, refusal, round_on}
-use Rattle.world.proofs.Words.{seen_from, side_of, taken_of, taking_on, tick_entries, ticks_at_controller}
+use Rattle.world.proofs.Words.{AreNoted, Buffer, Cause, Caused, Controller, Does, DoesAll, Empty, End, EndEvent, Entry, Flying, GoesOut, HasHappened}
+use Rattle.world.proofs.Words.{HasRepeated, HaveSent, Host, IfSome, Line, Link, LinkStandsFor, List, No, NoCause, None, Noted, OnWire, Option, Outcome, Side}
+use Rattle.world.proofs.Words.{SidesStandFor, Some, Taken, Ticked, WireStandsFor, [], aged, aged_entries, ap, append-nil, append_assoc, arith, causes_in}
+use Rattle.world.proofs.Words.{entries_for, events_at, exchanged, false, frames_to, happens, happens_at_controller, here_entries, idle, if◌then◌else◌, kept_of}
+use Rattle.world.proofs.Words.{length, lines-append, link_after, link_after_all, link_after_line, link_after_lines, more_noted, not, noted, other_end}
+use Rattle.world.proofs.Words.{outcome_of, refl, refusal, replicate, round_on, seen_from, side_of, subst, suc, sym, taken_of, takes_on, taking_on, tick_entries}
+use Rattle.world.proofs.Words.{ticks_at_controller, told_on, true, zero, ℕ, ◌*◌, ◌++◌, ◌+◌, ◌<◌, ◌^◌, ◌∙◌, ◌∷◌, ◌≡◌, ◌≤◌}
 use lib.Dec.{T, eqb→eq}
-use Rattle.link_laws.specs.entries.Entries.{event_entries, Entry as Noted, aged_entries}
-use Rattle.history.specs.Histories.{Cause, entries_of}
+use Rattle.link_laws.specs.entries.Entries.{event_entries}
+use Rattle.history.specs.Histories.{entries_of}
 use Rattle.history.specs.Histories.Outcome.{Refused}
 use Rattle.history.specs.Steps.{at as happens_at, event_of, event_at}
 use Rattle.history.specs.Follows.{if_empty}
-use Rattle.link_wires.specs.Wires.{kept_of}
 use Rattle.trace_model.specs.declared.line.Line.TheVariants as saying
 use Rattle.link_laws.specs.messages.Rest.{is_clear}
-use Rattle.lines_told.proofs.lines.Told.{takes_on}
-use Rattle.world.specs.Lines.{HasCaused, told_on}
+use Rattle.world.specs.Lines.{HasCaused}
 use Rattle.world.proofs.Given.{causes_of-events, sent_repeated, sent_after}
 
 -- ## Seen from an end

@@ -1,31 +1,26 @@
 -- What happens at one end of a link.
-use Rattle.std.proofs.Common.{◌≡◌, ℕ, List, drop, sym, subst, suc, ◌≤◌, [], ◌∷◌, ◌++◌, length, refl, ap, ◌∙◌, append_assoc, arith, Bool, true, false, max}
-use Rattle.std.proofs.lemmas.List.{append-nil}
-use Rattle.std.specs.Prelude.{Ok, Option, Some, None, IfSome, option_map, is_some}
-use Rattle.world.proofs.Words.{AreNoted, Buffer, Control, Due, End, EndState, Entry, Fetch, FetchMessage, Flying, GoesOut, HasHappened, IsMidway, Link}
-use Rattle.world.proofs.Words.{LinkEnd, LinkStandsFor, Node, NodeStandsFor, OnWire, Place, Side, Take, WireStandsFor, after_input, becomes, control_of, end_is}
-use Rattle.world.proofs.Words.{ended_by, entries_for, fetched, frames_out, happens_at_controller, here_entries, more_noted, put, put_all, puts_entries, report}
-use Rattle.world.proofs.Words.{side_of, told, turn, whole_acked, with_ended}
-use Rattle.link_laws.specs.sessions.Sessions.{aged_wire, is_rset, took_with}
-use Rattle.link_laws.specs.messages.Links.{NumberedEnd, Loss, with_controller}
-use Rattle.link_laws.specs.messages.Links.EndEvent.{Lose, Step}
-use Rattle.link_laws.specs.entries.Entries.{first_lost, Entry as Noted, put_entries, told_of, left_after, taken_entries}
+use Rattle.world.proofs.Words.{AreNoted, Bool, Buffer, Control, Due, End, EndStandsFor, EndState, Entry, Fetch, FetchMessage, Flying, GoesOut, HasHappened}
+use Rattle.world.proofs.Words.{IfSome, IsMidway, IsTakenOff, Kept, Link, LinkEnd, LinkStandsFor, List, Lose, Loss, NextFrame, Node, NodeStandsFor, None, Noted}
+use Rattle.world.proofs.Words.{Ok, OnWire, Option, Place, Side, SideStandsFor, Some, Step, Take, WireStandsFor, [], after_input, aged_wire, ap, append-nil}
+use Rattle.world.proofs.Words.{append_assoc, arith, becomes, control_of, drop, end_is, ended_by, entries_for, false, fetched, frames_out, happens_at_controller}
+use Rattle.world.proofs.Words.{here_entries, is_some, kept_of, left_after, length, max, more_noted, option_map, put_all, puts_entries, refl, report, sent_all}
+use Rattle.world.proofs.Words.{side_of, subst, suc, sym, told, took_with, true, turn, whole_acked, with_controller, with_ended, ℕ, ◌++◌, ◌∙◌, ◌∷◌, ◌≡◌, ◌≤◌}
+use Rattle.link_laws.specs.messages.Links.{put}
+use Rattle.link_laws.specs.sessions.Sessions.{is_rset}
+use Rattle.link_laws.specs.messages.Links.{NumberedEnd}
+use Rattle.link_laws.specs.entries.Entries.{first_lost, put_entries, taken_entries, told_of}
 use Rattle.link_wires.specs.Putting.{GoesOutOf}
 use Rattle.link_wires.proofs.GoingOut.{put_stays}
 use Rattle.swp_lpdu.specs.Controls.{lpdu_of}
 use Rattle.shdlc_core.specs.Machine.{frame_due, frames_of, after_frames}
-use Rattle.link_laws.specs.machine.Machine.{among, next_frame, sent_all, Turn}
-use Rattle.link_end.specs.declared.«end».End.{End as Kept}
-use Rattle.link_end.specs.Ends.{EndStandsFor}
+use Rattle.link_laws.specs.machine.Machine.{Turn, among, next_frame}
 use Rattle.link_laws.proofs.machine.Reports.{fetched_due}
 use Rattle.link_laws.proofs.sessions.Ties.{nothing_sent}
 use Rattle.link_laws.proofs.places.Joined.{after_frames_idle, fetched_idle, no_due}
 use Rattle.trace_model.specs.declared.entry.Entry.TheVariants as entry
-use Rattle.link_laws.specs.messages.Links.Comes.{NextFrame}
 use Rattle.link_laws.specs.entries.Entries.Entry.{Took}
-use Rattle.link_wires.specs.Wires.{IsMade, kept_of}
-use Rattle.link_wires.proofs.Wires.{IsTakenOff, first_is, there_is_one, there_is_none, taken_off}
-use Rattle.world.specs.Sides.{SideStandsFor}
+use Rattle.link_wires.specs.Wires.{IsMade}
+use Rattle.link_wires.proofs.Wires.{first_is, taken_off, there_is_none, there_is_one}
 use Rattle.world.proofs.Bare.{is_bare, plain_fetched}
 use Rattle.world.proofs.Nodes.{fetches_frame}
 

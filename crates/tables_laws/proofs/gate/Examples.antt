@@ -1,14 +1,9 @@
 -- Worked examples, computed: a creation between two hosts by the whitelist of the host that is asked, and a deletion.
-use Rattle.std.proofs.Common.{◌≡◌, ℕ, true, false, List, [], ◌∷◌, refl}
-use Rattle.pipe_table.specs.declared.row.PipeRow.{PipeRow}
+use Rattle.tables_laws.proofs.Words.{Ask, Command, Create, Delete, HciTables, LinkView, List, PipeRow, Set, SetOpened, [], after_commands, decided, false}
+use Rattle.tables_laws.proofs.Words.{no_tables, refl, true, ℕ, ◌∷◌, ◌≡◌}
 use Rattle.pipe_table.specs.PipeRows.{lowest_free}
-use Rattle.hci_tables.specs.declared.command.Command.{Command}
-use Rattle.hci_tables.specs.declared.command.Command.TheVariants.{Create, Delete, SetOpened, Set}
-use Rattle.hci_tables.specs.Tables.{HciTables, no_tables, after_commands}
-use Rattle.gate_admin.specs.declared.view.LinkView.{LinkView}
-use Rattle.gate_admin.specs.declared.decision.Decision.TheVariants.{Answer, Commit, Ask}
+use Rattle.gate_admin.specs.declared.decision.Decision.TheVariants.{Answer, Commit}
 use Rattle.gate_admin.specs.View.{hosts_where}
-use Rattle.gate_admin.specs.Decide.{decided}
 
 abbrev tables : List Command → HciTables
 tables commands = after_commands no_tables (SetOpened 1 1 true ∷ SetOpened 2 1 true ∷ commands)

@@ -1,11 +1,9 @@
 -- The least number of a range that passes a test.
-use Rattle.std.proofs.Common.{◌≡◌, ℕ, zero, suc, ◌+◌, ◌<◌, ◌≤◌, Bool, true, false, List, ap, ◌∙◌, inl, inr, arith}
-use Rattle.std.specs.Prelude.{Option, Some, None, IfSome}
-use Rattle.std.specs.List.{find, range_with_len}
-use Rattle.std.proofs.lemmas.Bool.{cond_both, cases_eq}
-use Rattle.pipe_table.specs.declared.row.PipeRow.{PipeRow}
-use Rattle.pipe_table.specs.PipeRows.{IsDynamic, is_free, lowest_free}
-use Rattle.tables_laws.specs.gate.Rules.{IsLeastFree}
+use Rattle.std.proofs.Common.{suc, zero}
+use Rattle.std.specs.List.{find}
+use Rattle.tables_laws.proofs.Words.{Bool, IfSome, IsLeastFree, List, None, Option, PipeRow, Some, ap, arith, cases_eq, cond_both, false, inl, inr, is_free}
+use Rattle.tables_laws.proofs.Words.{range_with_len, true, ℕ, ◌+◌, ◌<◌, ◌∙◌, ◌≡◌, ◌≤◌}
+use Rattle.pipe_table.specs.PipeRows.{IsDynamic, lowest_free}
 
 record Least (test : ℕ → Bool) (a n p : ℕ) : Type 0 where
   from : a ≤ p

@@ -1,14 +1,7 @@
 -- Where the row of a pipe comes from that stands behind a command.
-use Rattle.std.proofs.Common.{◌≡◌, ℕ, Bool, false, cond, not, eqb, ltb, refl, sym, subst, inl, inr}
-use Rattle.std.specs.Prelude.{Option, Some, None, IfSome}
-use Rattle.std.specs.Option.{option_map, option_and_then}
-use Rattle.std.proofs.lemmas.Bool.{cond_both, eqb-true}
-use Rattle.sorted_rows.proofs.RowLemmas.{row_of-with_row, row_of-without_row}
-use Rattle.pipe_table.specs.declared.row.PipeRow.{PipeRow}
-use Rattle.pipe_table.specs.PipeRows.{pid_of, pipe_at, joins_host, as_opened, with_opened}
-use Rattle.hci_tables.specs.declared.command.Command.{Command}
-use Rattle.hci_tables.specs.declared.command.Command.TheVariants.{Create, Delete, Clear, SetOpened, Set, Sync}
-use Rattle.hci_tables.specs.Tables.{HciTables, AreTables, apply, with_static}
+use Rattle.tables_laws.proofs.Words.{AreTables, Bool, Clear, Command, Create, Delete, HciTables, IfSome, None, Option, PipeRow, Set, SetOpened, Some, Sync}
+use Rattle.tables_laws.proofs.Words.{apply, as_opened, cond, cond_both, eqb, eqb-true, false, inl, inr, joins_host, ltb, not, option_and_then, option_map}
+use Rattle.tables_laws.proofs.Words.{pid_of, pipe_at, refl, row_of-with_row, row_of-without_row, subst, sym, with_opened, with_static, ℕ, ◌≡◌}
 use Rattle.tables_laws.specs.tables.Changes.{SameEnds, WasThere, ComesFrom}
 use Rattle.tables_laws.proofs.tables.LookUps.{row_of-map, row_of-filter, if_passes}
 

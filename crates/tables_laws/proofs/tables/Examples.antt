@@ -1,9 +1,6 @@
 -- Worked examples, computed: a pipe to the controller, opened; the same behind a closing of all pipes; a second identifier.
-use Rattle.std.proofs.Common.{◌≡◌, true, false, List, [], ◌∷◌, refl}
-use Rattle.pipe_table.specs.declared.row.PipeRow.{PipeRow}
-use Rattle.hci_tables.specs.declared.command.Command.{Command}
-use Rattle.hci_tables.specs.declared.command.Command.TheVariants.{Create, Clear, SetOpened, Set, Sync}
-use Rattle.hci_tables.specs.Tables.{no_tables, after_commands, close}
+use Rattle.tables_laws.proofs.Words.{Clear, Command, Create, List, PipeRow, Set, SetOpened, Sync, [], after_commands, close, false, no_tables, refl, true, ◌∷◌}
+use Rattle.tables_laws.proofs.Words.{◌≡◌}
 
 abbrev pipe : PipeRow
 pipe = record { pid = 2; creator = 2; creator_gate = 32; dest = 0; dest_gate = 4; opened = false }

@@ -1,10 +1,7 @@
 -- Looking up by a key behind a change of the rows.
-use Rattle.std.proofs.Common.{◌≡◌, ℕ, ◌+◌, ◌<◌, Bool, true, cond, ◌&&◌, eqb, List, [], ◌∷◌, map, refl, sym, subst, ap, ◌∙◌, inl, inr, arith}
-use Rattle.std.specs.Prelude.{Option, Some, None}
-use Rattle.std.specs.List.{filter, list_all, AllByRecursion}
-use Rattle.std.specs.Option.{option_map, option_and_then}
-use Rattle.std.proofs.lemmas.Bool.{cond_both, cond-true, cond-false, cases_eq, eq-eqb, ne_eqb, eqb-true}
-use Rattle.sorted_rows.specs.Rows.{AreRows, row_of}
+use Rattle.tables_laws.proofs.Words.{AllByRecursion, AreRows, Bool, List, None, Option, Some, [], ap, arith, cases_eq, cond, cond-false, cond-true, cond_both}
+use Rattle.tables_laws.proofs.Words.{eq-eqb, eqb, eqb-true, filter, inl, inr, list_all, map, ne_eqb, option_and_then, option_map, refl, row_of, subst, sym}
+use Rattle.tables_laws.proofs.Words.{true, ℕ, ◌&&◌, ◌+◌, ◌<◌, ◌∙◌, ◌∷◌, ◌≡◌}
 
 pub row_of-map : {X : Type 0} (key : X → ℕ) (change : X → X) (k : ℕ) (rows : List X) → ((row : X) → key (change row) ≡ key row)
     → row_of key k (map change rows) ≡ option_map change (row_of key k rows)

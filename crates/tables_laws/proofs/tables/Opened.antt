@@ -1,19 +1,13 @@
 -- What is opened behind a command was opened before, or the command opened it.
-use Rattle.std.proofs.Common.{◌≡◌, ℕ, ◌≤◌, Bool, true, false, cond, not, eqb, ltb, ◌&&◌, ◌||◌, List, [], ◌∷◌, refl, sym, subst, ◌∙◌, inl, inr}
-use Rattle.std.specs.Prelude.{Option, Some, None, IsTrue, ◌⊎◌}
-use Rattle.std.specs.List.{AllByRecursion, list_any, filter}
+use Rattle.std.specs.List.{list_any}
 use Rattle.std.proofs.lemmas.List.Folds.{list_any-append}
-use Rattle.std.specs.Option.{option_map, option_map_or, option_and_then}
-use Rattle.std.proofs.lemmas.Bool.{cond_both, cond-true, cond-false, eqb-true, eq-eqb, ltb-false, le-ltb, or_left, or_right, or_cases, and_parts, and_from}
-use Rattle.std.proofs.lemmas.Bool.{cases_Bool, false≢true, not_from_false}
-use Rattle.sorted_rows.specs.Rows.{row_of, rows_before, rows_behind}
-use Rattle.sorted_rows.proofs.RowLemmas.{row_of-with_row, row_of-without_row}
-use Rattle.pipe_table.specs.declared.row.PipeRow.{PipeRow}
-use Rattle.pipe_table.specs.PipeRows.{pid_of, pipe_at, joins_host, as_opened, with_opened, all_closed}
-use Rattle.hci_tables.specs.declared.command.Command.{Command}
-use Rattle.hci_tables.specs.declared.command.Command.TheVariants.{Create, Delete, Clear, SetOpened, Set, Sync}
-use Rattle.hci_tables.specs.Commands.{IsCommand}
-use Rattle.hci_tables.specs.Tables.{HciTables, AreTables, apply, after_commands, close, static_place, is_opened, with_static}
+use Rattle.std.proofs.lemmas.Bool.{cases_Bool, le-ltb, ltb-false, or_left, or_right}
+use Rattle.tables_laws.proofs.Words.{AllByRecursion, AreTables, Bool, Clear, Command, Create, Delete, HciTables, IsCommand, IsTrue, List, None, Option, PipeRow}
+use Rattle.tables_laws.proofs.Words.{Set, SetOpened, Some, Sync, [], after_commands, all_closed, and_from, and_parts, apply, as_opened, close, cond, cond-false}
+use Rattle.tables_laws.proofs.Words.{cond-true, cond_both, eq-eqb, eqb, eqb-true, false, false≢true, filter, inl, inr, is_opened, joins_host, ltb, not}
+use Rattle.tables_laws.proofs.Words.{not_from_false, option_and_then, option_map, option_map_or, or_cases, pid_of, pipe_at, refl, row_of, row_of-with_row}
+use Rattle.tables_laws.proofs.Words.{row_of-without_row, rows_before, rows_behind, static_place, subst, sym, true, with_opened, with_static, ℕ, ◌&&◌, ◌||◌, ◌∙◌}
+use Rattle.tables_laws.proofs.Words.{◌∷◌, ◌≡◌, ◌≤◌, ◌⊎◌}
 use Rattle.tables_laws.specs.tables.Changes.{opens}
 use Rattle.tables_laws.proofs.tables.LookUps.{row_of-map, row_of-filter, found_is, if_passes}
 use Rattle.tables_laws.proofs.tables.SortedTables.{AreTables-apply, AreTables-close}

@@ -1,19 +1,15 @@
 -- Each part of the tables stays sorted, whatever commands come.
-use Rattle.std.proofs.Common.{ℕ, ◌<◌, ◌≤◌, Bool, false, not, eqb, leb, ltb, ◌&&◌, List, [], ◌∷◌, arith}
-use Rattle.std.specs.Prelude.{IsTrue}
-use Rattle.std.specs.List.{AllByRecursion}
-use Rattle.std.proofs.lemmas.Bool.{cond_both, and_parts, and_from, leb-true, ltb-true, not_from_false}
-use Rattle.sorted_rows.specs.Rows.{AreRows, with_row, without_row}
+use Rattle.std.proofs.lemmas.Bool.{leb-true, ltb-true}
+use Rattle.tables_laws.proofs.Words.{AllByRecursion, AreRows, AreTables, Bool, Clear, Command, Create, Delete, HciTables, IsCommand, IsTrue, List, RegValue}
+use Rattle.tables_laws.proofs.Words.{Set, SetOpened, Sync, [], after_commands, and_from, and_parts, apply, arith, close, cond_both, eqb, false, is_dynamic}
+use Rattle.tables_laws.proofs.Words.{is_host, leb, ltb, no_tables, not, not_from_false, static_place, with_row, with_static, without_row, ℕ, ◌&&◌, ◌<◌, ◌∷◌}
+use Rattle.tables_laws.proofs.Words.{◌≤◌}
 use Rattle.sorted_rows.proofs.RowLemmas.{AreRows-filter, AreRows-with_row}
 use Rattle.pipe_table.specs.PipeRows as pipes
 use Rattle.pipe_table.proofs.TableLemmas.{ArePipeRows-with_opened, ArePipeRows-all_closed}
-use Rattle.registry.specs.declared.value.RegValue.{RegValue}
 use Rattle.registry.specs.Values as registry
 use Rattle.registry.proofs.ValueLemmas.{AreValues-filter, AreValues-with_row}
-use Rattle.hci_tables.specs.declared.command.Command.{Command}
-use Rattle.hci_tables.specs.declared.command.Command.TheVariants.{Create, Delete, Clear, SetOpened, Set, Sync}
-use Rattle.hci_tables.specs.Commands.{is_dynamic, is_host, IsCommand}
-use Rattle.hci_tables.specs.Tables.{HciTables, AreTables, no_tables, apply, after_commands, close, static_place, sync_host, with_static}
+use Rattle.hci_tables.specs.Tables.{sync_host}
 
 pub AreValues-with_value : (values : List RegValue) (host gate param : ℕ) (value : List ℕ) → IsTrue (registry.is_kept host gate param)
     → registry.AreValues values → registry.AreValues (registry.with_value values host gate param value)

@@ -1,14 +1,9 @@
 -- Each pipe joins two different hosts, whatever commands come.
-use Rattle.std.proofs.Common.{◌≡◌, ℕ, Bool, true, false, cond, not, eqb, ltb, ◌&&◌, List, [], ◌∷◌, ◌++◌, map, refl, ◌∙◌}
-use Rattle.std.specs.List.{AllByRecursion, filter, list_all}
-use Rattle.std.proofs.lemmas.Bool.{cond_both, and_from, and_parts}
-use Rattle.sorted_rows.specs.Rows.{rows_before, rows_behind}
-use Rattle.pipe_table.specs.declared.row.PipeRow.{PipeRow}
-use Rattle.pipe_table.specs.PipeRows.{pid_of, joins_host, as_opened, with_opened, all_closed}
-use Rattle.hci_tables.specs.declared.command.Command.{Command}
-use Rattle.hci_tables.specs.declared.command.Command.TheVariants.{Create, Delete, Clear, SetOpened, Set, Sync}
-use Rattle.hci_tables.specs.Commands.{is_dynamic, is_host, IsCommand}
-use Rattle.hci_tables.specs.Tables.{HciTables, apply, after_commands, with_static}
+use Rattle.std.proofs.Common.{◌++◌}
+use Rattle.tables_laws.proofs.Words.{AllByRecursion, Bool, Clear, Command, Create, Delete, HciTables, IsCommand, List, PipeRow, Set, SetOpened, Sync, []}
+use Rattle.tables_laws.proofs.Words.{after_commands, all_closed, and_from, and_parts, apply, as_opened, cond, cond_both, eqb, false, filter, is_dynamic}
+use Rattle.tables_laws.proofs.Words.{is_host, joins_host, list_all, ltb, map, not, pid_of, refl, rows_before, rows_behind, true, with_opened, with_static, ℕ}
+use Rattle.tables_laws.proofs.Words.{◌&&◌, ◌∙◌, ◌∷◌, ◌≡◌}
 use Rattle.tables_laws.specs.tables.Changes.{JoinTwo}
 
 joins_two : PipeRow → Bool

@@ -1,21 +1,14 @@
 -- What a parameter reads as behind a command.
-use Rattle.std.proofs.Common.{◌≡◌, ℕ, Bool, true, false, cond, not, eqb, ltb, leb, ◌&&◌, ◌||◌, List, [], ◌∷◌, length, replicate, refl, sym, ap, ◌∙◌, inl, inr}
-use Rattle.std.proofs.Common.{arith}
-use Rattle.std.specs.Prelude.{Option, Some, None, IsTrue, ◌⊎◌}
-use Rattle.std.specs.List.{list_all}
-use Rattle.std.specs.Option.{option_map_or, option_and_then}
-use Rattle.std.proofs.lemmas.Bool.{cond_both, cond-true, cond-false, eqb-true, eq-eqb, ne_eqb, or_cases, and_from, and_parts, and_left, and_right, cases_eq}
-use Rattle.std.proofs.lemmas.Bool.{not_from_false, not_from_true}
+use Rattle.std.proofs.Common.{length, replicate}
+use Rattle.std.proofs.lemmas.Bool.{and_left, and_right, not_from_true}
 use Rattle.std.proofs.lemmas.List.{nil_from_length}
-use Rattle.sorted_rows.specs.Rows.{row_of, with_row, without_row}
-use Rattle.sorted_rows.proofs.RowLemmas.{row_of-with_row, row_of-without_row}
-use Rattle.registry.specs.declared.value.RegValue.{RegValue}
-use Rattle.registry.specs.Values.{AreValues, IsPresent, is_kept, is_default, default_of, value_place, place_of_value, value_at, with_value, values_without_host}
-use Rattle.hci_tables.specs.declared.command.Command.{Command}
-use Rattle.hci_tables.specs.declared.command.Command.TheVariants.{Create, Delete, Clear, SetOpened, Set, Sync}
-use Rattle.hci_tables.specs.Commands.{IsCommand}
-use Rattle.hci_tables.specs.Tables.{HciTables, AreTables, apply, with_static, is_kept_sync}
-use Rattle.pipe_table.specs.PipeRows.{with_opened}
+use Rattle.tables_laws.proofs.Words.{AreTables, Bool, Clear, Command, Create, Delete, HciTables, IsCommand, IsTrue, List, None, Option, RegValue, Set}
+use Rattle.tables_laws.proofs.Words.{SetOpened, Some, Sync, [], and_from, and_parts, ap, apply, arith, cases_eq, cond, cond-false, cond-true, cond_both}
+use Rattle.tables_laws.proofs.Words.{default_of, eq-eqb, eqb, eqb-true, false, inl, inr, leb, list_all, ltb, ne_eqb, not, not_from_false, option_and_then}
+use Rattle.tables_laws.proofs.Words.{option_map_or, or_cases, refl, row_of, row_of-with_row, row_of-without_row, sym, true, value_at, with_opened, with_row}
+use Rattle.tables_laws.proofs.Words.{with_static, without_row, ℕ, ◌&&◌, ◌||◌, ◌∙◌, ◌∷◌, ◌≡◌, ◌⊎◌}
+use Rattle.registry.specs.Values.{AreValues, IsPresent, is_default, is_kept, place_of_value, value_place, values_without_host, with_value}
+use Rattle.hci_tables.specs.Tables.{is_kept_sync}
 use Rattle.tables_laws.specs.tables.Changes.{told_value}
 use Rattle.tables_laws.proofs.tables.LookUps.{row_of-filter, found_is, if_passes}
 

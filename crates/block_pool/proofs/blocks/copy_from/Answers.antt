@@ -1,5 +1,4 @@
-use Rattle.std.proofs.Common.{◌≡◌, ℕ, ◌+◌, ◌-◌, ◌*◌, ◌/◌, ◌%◌, ◌<◌, ◌≤◌, sym, ap, ◌∙◌, arith, subst, length, get_or}
-use Rattle.block_pool.specs.Links.{block_at, linked_byte}
+use Rattle.block_pool.proofs.Words.{ap, arith, block_at, get_or, length, linked_byte, subst, sym, ℕ, ◌%◌, ◌*◌, ◌+◌, ◌-◌, ◌/◌, ◌<◌, ◌∙◌, ◌≡◌, ◌≤◌}
 use Rattle.block_pool.proofs.WalkLemmas.{block_at-more, made_from}
 use Rattle.block_pool.proofs.CopyLemmas.{copied-length, copied-bytes}
 use Rattle.block_pool.proofs.blocks.copy_from.Goals as goal

@@ -1,5 +1,4 @@
-use Rattle.std.proofs.Common.{◌≡◌, ℕ, ◌+◌, ◌-◌, ◌/◌, ◌<◌, ◌≤◌, length, get_or}
-use Rattle.block_pool.specs.Links.{block_at, linked_byte}
+use Rattle.block_pool.proofs.Words.{block_at, get_or, length, linked_byte, ℕ, ◌+◌, ◌-◌, ◌/◌, ◌<◌, ◌≡◌, ◌≤◌}
 use Rattle.block_pool.proofs.blocks.copy_from.Given as goal
 
 abbrev pub invariant-pieces : goal.invariant-pieces

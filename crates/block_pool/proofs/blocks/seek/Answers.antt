@@ -1,5 +1,4 @@
-use Rattle.std.proofs.Common.{◌≡◌, ◌+◌, ◌-◌, ◌<◌, ℕ, length, get_or, sym, ap, ◌∙◌, subst, arith}
-use Rattle.block_pool.specs.Links.{block_at}
+use Rattle.block_pool.proofs.Words.{ap, arith, block_at, get_or, length, subst, sym, ℕ, ◌+◌, ◌-◌, ◌<◌, ◌∙◌, ◌≡◌}
 use Rattle.block_pool.proofs.WalkLemmas.{block_at-more}
 use Rattle.block_pool.proofs.blocks.seek.Goals as goal
 use Rattle.block_pool.proofs.blocks.seek.Goals.{then-passed-steps, else-passed-steps}

@@ -1,5 +1,4 @@
-use Rattle.std.proofs.Common.{◌≡◌, ◌+◌, ◌-◌, ◌≤◌}
-use Rattle.block_pool.specs.Links.{block_at}
+use Rattle.block_pool.proofs.Words.{block_at, ◌+◌, ◌-◌, ◌≡◌, ◌≤◌}
 use Rattle.block_pool.proofs.blocks.seek.Given as goal
 
 abbrev pub invariant-loop-step : goal.invariant-loop-step

@@ -1,7 +1,4 @@
-use Rattle.std.proofs.Common.{◌≡◌, ℕ, List, take, sym, ap, ◌∙◌, take-append-drop}
-use Rattle.std.specs.Prelude.{Option, ◌++◌}
-use Rattle.block_pool.specs.Slots.{Held, with_chain, held_bytes, owner_of}
-use Rattle.block_pool.specs.Names.{named_bytes}
+use Rattle.block_pool.proofs.Words.{Held, List, Option, ap, held_bytes, named_bytes, owner_of, sym, take, take-append-drop, with_chain, ℕ, ◌++◌, ◌∙◌, ◌≡◌}
 use Rattle.block_pool.proofs.SlotLemmas.{bytes_of-put, owner_of-put, put-put}
 use Rattle.block_pool.proofs.pool.append.Goals as goal
 

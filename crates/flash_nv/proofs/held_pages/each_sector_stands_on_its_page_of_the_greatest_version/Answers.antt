@@ -1,10 +1,8 @@
-use Rattle.std.proofs.Common.{◌≡◌, ◌⊎◌, inl, inr, ℕ, ◌+◌, ◌-◌, ◌*◌, ◌/◌, ◌%◌, ◌<◌, ◌≤◌, true, ◌&&◌, ◌==◌, List, Some, None, Option, slice_index, sym, refl, ap}
-use Rattle.std.proofs.Common.{ap₂, ◌∙◌, subst, arith}
-use Rattle.std.proofs.lemmas.Bool.{cases_lt, eq-eqb, eqb-true, false≢true}
-use Rattle.std.proofs.lemmas.List.{ext_get_or}
-use Rattle.flash_nv.specs.Content.{length-content_front}
+use Rattle.flash_nv.proofs.Words.{List, None, Option, Some, ap, ap₂, arith, cases_lt, data_byte, eq-eqb, eqb-true, ext_get_or, false≢true, header_at, inl, inr}
+use Rattle.flash_nv.proofs.Words.{is_page_of, is_valid, length-content_front, page_of, refl, sector_of, slice_index, subst, sym, true, version_of, ℕ, ◌%◌, ◌&&◌}
+use Rattle.flash_nv.proofs.Words.{◌*◌, ◌+◌, ◌-◌, ◌/◌, ◌<◌, ◌==◌, ◌∙◌, ◌≡◌, ◌≤◌, ◌⊎◌}
 use Rattle.flash_nv.specs.Held.{HoldsSector, HasGreatestVersion, IsContentOf}
-use Rattle.flash_nv.specs.Pages.{header_at, is_valid, sector_of, version_of, is_page_of, page_of, data_byte, flash_content}
+use Rattle.flash_nv.specs.Pages.{flash_content}
 use Rattle.flash_nv.proofs.ContentLemmas.{and_second, content_front-at, in_sector}
 use Rattle.flash_nv.proofs.PutLemmas.{header-byte, valid_at, valid_from}
 use Rattle.flash_nv.proofs.MapLemmas.{some_is}

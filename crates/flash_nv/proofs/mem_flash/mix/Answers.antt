@@ -1,5 +1,4 @@
-use Rattle.std.proofs.Common.{◌≡◌, ◌⊎◌, ◌+◌, ◌-◌, ◌<◌, ◌≤◌, ◌%◌, length, slice_index, ap, ◌∙◌, subst, sym, arith}
-use Rattle.flash_nv.specs.MemCells.{mixed}
+use Rattle.flash_nv.proofs.Words.{ap, arith, length, mixed, slice_index, subst, sym, ◌%◌, ◌+◌, ◌-◌, ◌<◌, ◌∙◌, ◌≡◌, ◌≤◌, ◌⊎◌}
 use Rattle.flash_nv.proofs.PutLemmas.{remade_by_parts}
 use Rattle.flash_nv.proofs.mem_flash.mix.Goals as goal
 

@@ -1,5 +1,4 @@
-use Rattle.std.proofs.Common.{◌≡◌, ◌⊎◌, ℕ, ◌+◌, ◌<◌, ◌≤◌, ◌%◌, length, slice_index}
-use Rattle.flash_nv.specs.MemCells.{mixed}
+use Rattle.flash_nv.proofs.Words.{length, mixed, slice_index, ℕ, ◌%◌, ◌+◌, ◌<◌, ◌≡◌, ◌≤◌, ◌⊎◌}
 use Rattle.flash_nv.proofs.mem_flash.mix.Given as goal
 
 abbrev pub invariant-loop-i : goal.invariant-loop-i

@@ -1,5 +1,4 @@
-use Rattle.std.proofs.Common.{false, refl, arith}
-use Rattle.std.proofs.lemmas.List.{length-replicate}
+use Rattle.flash_nv.proofs.Words.{arith, false, length-replicate, refl}
 use Rattle.flash_nv.proofs.MapLemmas.{none_used, none_counted, mark_used, mark_marked, mark_counted}
 use Rattle.flash_nv.proofs.page_map.used.Goals as goal
 

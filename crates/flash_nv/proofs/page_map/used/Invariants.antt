@@ -1,6 +1,4 @@
-use Rattle.std.proofs.Common.{◌≡◌, ℕ, ◌<◌, ◌≤◌, true, length, slice_index_or, Some, None, IsTrue}
-use Rattle.std.specs.List.{count_by}
-use Rattle.flash_nv.specs.Maps.{IsUsed}
+use Rattle.flash_nv.proofs.Words.{IsTrue, IsUsed, None, Some, count_by, length, slice_index_or, true, ℕ, ◌<◌, ◌≡◌, ◌≤◌}
 use Rattle.flash_nv.proofs.page_map.used.Given as goal
 
 abbrev pub invariant-loop-sector : goal.invariant-loop-sector

@@ -1,5 +1,4 @@
-use Rattle.std.proofs.Common.{false, length, ap, arith}
-use Rattle.std.specs.Result.{is_ok}
+use Rattle.flash_nv.proofs.Words.{ap, arith, false, is_ok, length}
 use Rattle.flash_nv.proofs.PutLemmas.{made_length, not_ok, erase_put, bytes_put, header_put}
 use Rattle.flash_nv.proofs.put.put.Goals as goal
 

@@ -1,5 +1,4 @@
-use Rattle.std.proofs.Common.{◌≡◌, ◌≤◌, IsTrue}
-use Rattle.flash_nv.specs.Scanning.{ArePagesFound}
+use Rattle.flash_nv.proofs.Words.{ArePagesFound, IsTrue, ◌≡◌, ◌≤◌}
 use Rattle.flash_nv.proofs.scan.scan.Given as goal
 
 abbrev pub invariant-loop-page : goal.invariant-loop-page

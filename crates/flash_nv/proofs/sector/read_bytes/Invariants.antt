@@ -1,5 +1,4 @@
-use Rattle.std.proofs.Common.{◌≡◌, ◌+◌, ◌-◌, ◌<◌, ◌≤◌, ℕ, IsTrue, length, slice_index}
-use Rattle.flash_nv.specs.Pages.{ArePages, content_byte}
+use Rattle.flash_nv.proofs.Words.{ArePages, IsTrue, content_byte, length, slice_index, ℕ, ◌+◌, ◌-◌, ◌<◌, ◌≡◌, ◌≤◌}
 use Rattle.flash_nv.proofs.sector.read_bytes.Given as goal
 
 abbrev pub invariant-loop-done : goal.invariant-loop-done

@@ -1,6 +1,4 @@
-use Rattle.std.proofs.Common.{ℕ, drop, slice_index, Option, sym, ap, ◌∙◌}
-use Rattle.std.proofs.lemmas.List.{get_or-take, get_or-drop}
-use Rattle.flash_nv.specs.Pages.{version_of, version_on, data_byte}
+use Rattle.flash_nv.proofs.Words.{Option, ap, data_byte, drop, get_or-drop, get_or-take, slice_index, sym, version_of, version_on, ℕ, ◌∙◌}
 use Rattle.flash_nv.proofs.ContentLemmas.{image_header, image_byte}
 use Rattle.flash_nv.proofs.sector.read_sector.Goals as goal
 

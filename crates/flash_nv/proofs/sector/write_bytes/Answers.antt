@@ -1,6 +1,5 @@
-use Rattle.std.proofs.Common.{◌≡◌, ◌+◌, ◌-◌, ◌/◌, ◌%◌, false, length, min, slice_range, subst, arith}
+use Rattle.flash_nv.proofs.Words.{AreSteps, arith, false, length, min, sectors, slice_range, subst, ◌%◌, ◌+◌, ◌-◌, ◌/◌, ◌≡◌}
 use Rattle.flash_nv.proofs.ContentLemmas.{front_more, front_beside, part-length, edge_more, at_edge, spent_before, steps_more}
-use Rattle.flash_nv.specs.Steps.{AreSteps, sectors}
 use Rattle.flash_nv.proofs.sector.write_bytes.Goals as goal
 
 pub loop-done-preserved : goal.loop-done-preserved

@@ -1,7 +1,4 @@
-use Rattle.std.proofs.Common.{◌≡◌, ◌⊎◌, ◌+◌, ◌-◌, ◌%◌, ◌≤◌, IsTrue, length}
-use Rattle.flash_nv.specs.Pages.{IsClean, ArePages}
-use Rattle.flash_nv.specs.Steps.{AreSteps, sectors}
-use Rattle.flash_nv.specs.Writing.{IsFrontWritten}
+use Rattle.flash_nv.proofs.Words.{ArePages, AreSteps, IsClean, IsFrontWritten, IsTrue, length, sectors, ◌%◌, ◌+◌, ◌-◌, ◌≡◌, ◌≤◌, ◌⊎◌}
 use Rattle.flash_nv.proofs.sector.write_bytes.Given as goal
 
 abbrev pub invariant-loop-done : goal.invariant-loop-done

@@ -1,6 +1,4 @@
-use Rattle.std.proofs.Common.{true, false, sym, subst, arith}
-use Rattle.flash_nv.specs.Maps.{Map}
-use Rattle.flash_nv.specs.Pages.{ArePages}
+use Rattle.flash_nv.proofs.Words.{ArePages, Map, arith, false, subst, sym, true}
 use Rattle.flash_nv.proofs.PutLemmas.{not_ok}
 use Rattle.flash_nv.proofs.ContentLemmas.{piece_written, piece_pages, piece_step}
 use Rattle.flash_nv.proofs.sector.write_piece.Goals as goal

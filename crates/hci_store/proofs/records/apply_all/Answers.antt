@@ -1,7 +1,4 @@
-use Rattle.std.proofs.Common.{◌≡◌, ◌+◌, inr, Some, slice_get, sym, ap, ◌∙◌, subst, arith}
-use Rattle.journal_laws.specs.declared.state.State.{State}
-use Rattle.journal_laws.specs.Journal.{records, gate_at}
-use Rattle.hci_tables.specs.Bodies.{command_of}
+use Rattle.hci_store.proofs.Words.{Some, State, ap, arith, command_of, gate_at, inr, records, slice_get, subst, sym, ◌+◌, ◌∙◌, ◌≡◌}
 use Rattle.hci_store.proofs.Committed.{recordable-apply, AreApplied, applied_more, other_is_told, journal_fault_is_told, carried}
 use Rattle.hci_store.proofs.records.apply_all.Goals as goal
 

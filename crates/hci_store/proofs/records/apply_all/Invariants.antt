@@ -1,7 +1,6 @@
-use Rattle.std.proofs.Common.{◌≡◌, ◌-◌, ◌≤◌, IsTrue}
-use Rattle.journal_laws.specs.Journal.{records}
+use Rattle.std.proofs.Common.{◌-◌}
+use Rattle.hci_store.proofs.Words.{IsRecordable, IsTrue, records, ◌≡◌, ◌≤◌}
 use Rattle.nv_journal.specs.Scanning.{IsReadSoFar}
-use Rattle.hci_store.specs.Recordable.{IsRecordable}
 use Rattle.hci_store.proofs.Committed.{AreApplied}
 use Rattle.hci_store.proofs.records.apply_all.Given as goal
 

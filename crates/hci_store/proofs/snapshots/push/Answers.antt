@@ -1,6 +1,4 @@
-use Rattle.std.proofs.Common.{◌≡◌, ℕ, ◌+◌, [], ◌∷◌, ◌++◌, List, length, ap, ◌∙◌, arith}
-use Rattle.journal_laws.specs.Records.{used}
-use Rattle.hci_tables.specs.Bodies.{body_of}
+use Rattle.hci_store.proofs.Words.{List, [], ap, arith, body_of, length, used, ℕ, ◌++◌, ◌+◌, ◌∙◌, ◌∷◌, ◌≡◌}
 use Rattle.nv_journal.proofs.Snapshotting.{size_in-append}
 use Rattle.hci_store.proofs.snapshots.push.Goals as goal
 

@@ -1,7 +1,4 @@
-use Rattle.std.proofs.Common.{◌≡◌, ◌+◌, ◌*◌, ◌≤◌, ◌++◌, take, map, filter}
-use Rattle.journal_laws.specs.Records.{used}
-use Rattle.hci_tables.specs.Bodies.{body_of}
-use Rattle.hci_store.specs.Snapshots.{open_command}
+use Rattle.hci_store.proofs.Words.{body_of, filter, map, open_command, take, used, ◌*◌, ◌++◌, ◌+◌, ◌≡◌, ◌≤◌}
 use Rattle.hci_store.proofs.snapshots.push_opened.Given as goal
 
 abbrev pub invariant-loop-row : goal.invariant-loop-row

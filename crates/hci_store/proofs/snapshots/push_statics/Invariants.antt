@@ -1,7 +1,4 @@
-use Rattle.std.proofs.Common.{◌≡◌, ◌+◌, ◌*◌, ◌++◌, take, map}
-use Rattle.journal_laws.specs.Records.{used}
-use Rattle.hci_tables.specs.Bodies.{body_of}
-use Rattle.hci_store.specs.Snapshots.{static_command}
+use Rattle.hci_store.proofs.Words.{body_of, map, static_command, take, used, ◌*◌, ◌++◌, ◌+◌, ◌≡◌}
 use Rattle.hci_store.proofs.snapshots.push_statics.Given as goal
 
 abbrev pub invariant-loop-static_pipe : goal.invariant-loop-static_pipe

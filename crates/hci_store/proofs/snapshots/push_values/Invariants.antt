@@ -1,7 +1,4 @@
-use Rattle.std.proofs.Common.{◌≡◌, ◌+◌, ◌*◌, ◌≤◌, ◌++◌, take, map}
-use Rattle.journal_laws.specs.Records.{used}
-use Rattle.hci_tables.specs.Bodies.{body_of}
-use Rattle.hci_store.specs.Snapshots.{set_command}
+use Rattle.hci_store.proofs.Words.{body_of, map, set_command, take, used, ◌*◌, ◌++◌, ◌+◌, ◌≡◌, ◌≤◌}
 use Rattle.hci_store.proofs.snapshots.push_values.Given as goal
 
 abbrev pub invariant-loop-value : goal.invariant-loop-value

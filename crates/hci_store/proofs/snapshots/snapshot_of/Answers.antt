@@ -1,9 +1,5 @@
-use Rattle.std.proofs.Common.{length, ap, arith}
+use Rattle.hci_store.proofs.Words.{ap, arith, length, pid_of, place_of_value, static_place, sync_host, used}
 use Rattle.sorted_rows.proofs.RowLemmas.{length-rows}
-use Rattle.pipe_table.specs.PipeRows.{pid_of}
-use Rattle.registry.specs.Values.{place_of_value}
-use Rattle.journal_laws.specs.Records.{used}
-use Rattle.hci_tables.specs.Tables.{sync_host, static_place}
 use Rattle.hci_store.proofs.Committed.{syncs_may, statics_may, bodies_of_snapshot}
 use Rattle.hci_store.proofs.snapshots.snapshot_of.Goals as goal
 

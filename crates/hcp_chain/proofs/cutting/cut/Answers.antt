@@ -1,7 +1,4 @@
-use Rattle.std.proofs.Common.{sym, ap, ◌∙◌}
-use Rattle.std.specs.Prelude.{Some}
-use Rattle.block_pool.specs.Pool.{chain_bytes}
-use Rattle.hcp_packet.specs.declared.Packet.{Packet}
+use Rattle.hcp_chain.proofs.Words.{Packet, Some, ap, chain_bytes, sym, ◌∙◌}
 use Rattle.hcp_chain.proofs.CutLemmas.{packet_is, packet_stands}
 use Rattle.hcp_chain.proofs.cutting.cut.Goals as goal
 

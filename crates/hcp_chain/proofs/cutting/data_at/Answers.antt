@@ -1,7 +1,5 @@
-use Rattle.std.proofs.Common.{◌≡◌, ◌∙◌, ap, arith, take, drop}
 use Rattle.std.specs.Prelude.{replicate}
-use Rattle.std.proofs.lemmas.Grind.{common_steps}
-use Rattle.block_pool.specs.Pool.{chain_bytes}
+use Rattle.hcp_chain.proofs.Words.{ap, arith, chain_bytes, common_steps, drop, take, ◌∙◌, ◌≡◌}
 use Rattle.hcp_chain.proofs.CutLemmas.{data_is}
 use Rattle.hcp_chain.proofs.cutting.data_at.Goals as goal
 

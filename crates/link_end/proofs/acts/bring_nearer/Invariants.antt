@@ -1,5 +1,4 @@
-use Rattle.std.proofs.Common.{◌≡◌, map, take}
-use Rattle.link_end.specs.Dues.{kept_nearer}
+use Rattle.link_end.proofs.Words.{kept_nearer, map, take, ◌≡◌}
 use Rattle.link_end.proofs.acts.bring_nearer.Given as goal
 
 abbrev pub invariant-loop-act : goal.invariant-loop-act

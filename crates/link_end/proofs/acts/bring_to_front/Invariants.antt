@@ -1,5 +1,4 @@
-use Rattle.std.proofs.Common.{◌≡◌, map, take}
-use Rattle.link_end.specs.Dues.{kept_in_front}
+use Rattle.link_end.proofs.Words.{kept_in_front, map, take, ◌≡◌}
 use Rattle.link_end.proofs.acts.bring_to_front.Given as goal
 
 abbrev pub invariant-loop-act : goal.invariant-loop-act

@@ -1,8 +1,4 @@
-use Rattle.std.proofs.Common.{◌≡◌, List, ℕ, false, [], ◌∷◌, ◌+◌, get_or, drop, map, ap, sym, ◌∙◌}
-use Rattle.std.specs.Prelude.{Some}
-use Rattle.std.specs.Option.{option_or}
-use Rattle.swp_frame.specs.Signal.{symbol_of}
-use Rattle.swp_frame.specs.Verdicts.{answers_after}
+use Rattle.link_wires.proofs.Words.{List, Some, [], answers_after, ap, drop, false, get_or, map, option_or, sym, symbol_of, ℕ, ◌+◌, ◌∙◌, ◌∷◌, ◌≡◌}
 use Rattle.link_wires.proofs.Damages.{told_in, judged_in, read_one}
 use Rattle.link_wires.proofs.damage.first_read.Goals as goal
 use Rattle.link_wires.proofs.damage.first_read.Goals.{in-Nothing, in-Refused}

@@ -1,9 +1,6 @@
-use Rattle.std.proofs.Common.{◌≡◌, ℕ, List, drop, map}
-use Rattle.swp_frame.specs.Signal.{Symbol, symbol_of}
-use Rattle.swp_frame.specs.Verdicts.{verdicts, answers_after}
+use Rattle.link_wires.proofs.Words.{List, Symbol, answers_after, drop, judged_by_first, map, symbol_of, told_as, ℕ, ◌≡◌}
+use Rattle.swp_frame.specs.Verdicts.{verdicts}
 use Rattle.swp_frame.specs.Kept.{DeframerStandsFor}
-use Rattle.history.specs.Damage.{judged_by_first}
-use Rattle.link_wires.specs.Damages.{told_as}
 use Rattle.link_wires.proofs.Damages.{told_in}
 use Rattle.link_wires.proofs.damage.first_read.Given as goal
 

@@ -1,5 +1,4 @@
-use Rattle.std.proofs.Common.{false, sym, ap, ◌∙◌}
-use Rattle.history.specs.Damage.{flipped}
+use Rattle.link_wires.proofs.Words.{ap, false, flipped, sym, ◌∙◌}
 use Rattle.link_wires.proofs.Damages.{flipped_past, flipped_at_place}
 use Rattle.link_wires.proofs.damage.flip.Goals as goal
 

@@ -1,5 +1,4 @@
-use Rattle.std.proofs.Common.{◌≡◌, drop}
-use Rattle.history.specs.Follows.{if_beyond}
+use Rattle.link_wires.proofs.Words.{drop, if_beyond, ◌≡◌}
 use Rattle.link_wires.proofs.damage.past.Given as goal
 
 abbrev pub invariant-loop-place : goal.invariant-loop-place

@@ -1,5 +1,4 @@
-use Rattle.std.proofs.Common.{ap, sym, ◌∙◌, length}
-use Rattle.history.specs.Follows.{if_beyond}
+use Rattle.link_wires.proofs.Words.{ap, if_beyond, length, sym, ◌∙◌}
 use Rattle.link_wires.proofs.FirstFrames.{finds_lost}
 use Rattle.link_wires.proofs.finding.damaged_first.Goals as goal
 

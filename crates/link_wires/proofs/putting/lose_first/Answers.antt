@@ -1,5 +1,4 @@
-use Rattle.std.proofs.Common.{sym, ◌∙◌}
-use Rattle.std.specs.Prelude.{Some}
+use Rattle.link_wires.proofs.Words.{Some, sym, ◌∙◌}
 use Rattle.link_wires.proofs.Wires.{IsTakenOff}
 use Rattle.link_wires.proofs.GoingOut.{lost_first}
 use Rattle.link_wires.proofs.putting.lose_first.Goals as goal

@@ -1,11 +1,6 @@
-use Rattle.std.proofs.Common.{◌≡◌, ℕ, ◌+◌, cond, List, ◌∷◌, [], ◌++◌, sym, ap, ◌∙◌}
-use Rattle.std.specs.Prelude.{Some, None, Ok}
+use Rattle.link_wires.proofs.Words.{Flying, List, None, Ok, OnWire, Some, [], ap, cond, control_of, other_end, sym, ℕ, ◌++◌, ◌+◌, ◌∙◌, ◌∷◌, ◌≡◌}
 use Rattle.swp_base.specs.declared.control_frames.Control.{Control as Frame}
-use Rattle.swp_lpdu.specs.Controls.{control_of}
 use Rattle.trace_model.specs.declared.entry.Entry.TheVariants as entry
-use Rattle.trace_model.specs.Ends.{other_end}
-use Rattle.link_laws.specs.sessions.Sessions.{OnWire}
-use Rattle.link_wires.specs.declared.wire.Flying.{Flying}
 use Rattle.link_wires.proofs.Results.{none_is}
 use Rattle.link_wires.proofs.Wires.{IsPutLast, has_room, was_full, not_full}
 use Rattle.link_wires.proofs.GoingOut.{IsNumbered, put_is, flying_is, made_is}

@@ -1,5 +1,4 @@
-use Rattle.std.proofs.Common.{sym, ◌∙◌}
-use Rattle.std.specs.Prelude.{Some}
+use Rattle.link_wires.proofs.Words.{Some, sym, ◌∙◌}
 use Rattle.link_wires.proofs.Wires.{IsTakenOff, too_old, grows_older}
 use Rattle.link_wires.proofs.wire.age_first.Goals as goal
 

@@ -1,6 +1,4 @@
-use Rattle.std.proofs.Common.{List, ◌-◌}
-use Rattle.link_laws.specs.sessions.Sessions.{OnWire}
-use Rattle.link_wires.specs.Wires.{WireStandsFor}
+use Rattle.link_wires.proofs.Words.{List, OnWire, WireStandsFor, ◌-◌}
 use Rattle.link_wires.proofs.Wires.{Aging}
 use Rattle.link_wires.proofs.wire.grow_older.Given as goal
 

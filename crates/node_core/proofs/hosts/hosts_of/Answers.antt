@@ -1,7 +1,6 @@
-use Rattle.std.proofs.Common.{◌≡◌, ◌∙◌, ◌∷◌, ◌++◌, [], sym, ap, List, ℕ, length, arith}
+use Rattle.node_core.proofs.Words.{List, [], ap, arith, has, hosts_below, length, sym, ℕ, ◌++◌, ◌∙◌, ◌∷◌, ◌≡◌}
 use Rattle.gate_admin.specs.View.{hosts_where}
-use Rattle.node_core.proofs.Words.{has}
-use Rattle.gate_admin.proofs.ViewLemmas.{hosts_below, hosts_below-taken, hosts_below-left}
+use Rattle.gate_admin.proofs.ViewLemmas.{hosts_below-left, hosts_below-taken}
 use Rattle.node_core.proofs.hosts.hosts_of.Goals as goal
 use Rattle.node_core.proofs.hosts.hosts_of.Goals.{then-is_in, else-is_in}
 

@@ -1,6 +1,4 @@
-use Rattle.std.proofs.Common.{◌≡◌, ◌+◌, ◌≤◌, length}
-use Rattle.node_core.proofs.Words.{has}
-use Rattle.gate_admin.proofs.ViewLemmas.{hosts_below}
+use Rattle.node_core.proofs.Words.{has, hosts_below, length, ◌+◌, ◌≡◌, ◌≤◌}
 use Rattle.node_core.proofs.hosts.hosts_of.Given as goal
 
 abbrev pub invariant-loop-host : goal.invariant-loop-host

@@ -1,11 +1,5 @@
-use Rattle.std.proofs.Common.{cond, sym, ap, ap₂, ◌∙◌, subst}
-use Rattle.std.specs.Prelude.{None}
-use Rattle.gate_answers.specs.Answers.{instruction_in, body_in}
-use Rattle.gate_admin.specs.Decide.{decided}
-use Rattle.node_machine.specs.Carrying.{own_view}
-use Rattle.node_machine.specs.Controller.{decision_deeds, goes_through, own_gate, view_for}
-use Rattle.node_deeds.specs.Shown.{ports_shown}
-use Rattle.node_deeds.specs.Cores.{controller_core, handled, IsSoundDecision}
+use Rattle.node_deeds.proofs.Words.{IsSoundDecision, None, ap, ap₂, body_in, cond, controller_core, decided, decision_deeds, goes_through, handled}
+use Rattle.node_deeds.proofs.Words.{instruction_in, own_gate, own_view, ports_shown, subst, sym, view_for, ◌∙◌}
 use Rattle.node_deeds.proofs.Control.{gate_serves, gate_decides}
 use Rattle.node_deeds.proofs.Decisions.{decided_soundly}
 use Rattle.node_deeds.proofs.Views.{errors_shown}

@@ -1,7 +1,6 @@
-use Rattle.std.proofs.Common.{◌≡◌, ◌==◌, true, ap, rules, tests}
-use Rattle.std.proofs.lemmas.Iterator.{YieldsList-from_slice}
+use Rattle.std.proofs.Common.{◌==◌}
 use Rattle.std.proofs.lemmas.Iterator.Search.{any_from_yields_List}
-use Rattle.node_deeds.specs.Shown.{row_waits_for}
+use Rattle.node_deeds.proofs.Words.{YieldsList-from_slice, ap, row_waits_for, rules, tests, true, ◌≡◌}
 use Rattle.node_deeds.proofs.controller.is_waiting.Goals as goal
 
 pub returns-then-pipe-eq-ADMINISTRATION_PIPE : goal.returns-then-pipe-eq-ADMINISTRATION_PIPE

@@ -1,8 +1,5 @@
-use Rattle.std.proofs.Common.{false, eqb, ◌&&◌, sym, ap, ◌∙◌}
-use Rattle.std.specs.Prelude.{Some, None, Ok}
-use Rattle.node_machine.specs.Controller.{relayed_to, deeds_by_relay, event_deeds, view_of}
-use Rattle.node_deeds.specs.Shown.{ports_shown, deeds_shown}
-use Rattle.node_deeds.specs.Cores.{controller_core, handled}
+use Rattle.node_deeds.proofs.Words.{None, Ok, Some, ap, controller_core, deeds_by_relay, deeds_shown, eqb, event_deeds, false, handled, ports_shown, relayed_to}
+use Rattle.node_deeds.proofs.Words.{sym, view_of, ◌&&◌, ◌∙◌}
 use Rattle.node_deeds.proofs.Control.{desk_sound, kind_waits, kind_commands, kind_tells, kind_replies, deeds_of_core, not_relayed, own_done}
 use Rattle.node_deeds.proofs.Views.{link_found, asks_shown, about_found}
 use Rattle.node_deeds.proofs.controller.put_controller_deeds.Goals as goal

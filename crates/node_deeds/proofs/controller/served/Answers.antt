@@ -1,7 +1,4 @@
-use Rattle.std.proofs.Common.{◌∙◌, sym, ap}
-use Rattle.gate_answers.specs.Answers.{instruction_in, body_in}
-use Rattle.node_machine.specs.Controller.{gate_deeds}
-use Rattle.node_deeds.specs.Cores.{handled}
+use Rattle.node_deeds.proofs.Words.{ap, body_in, gate_deeds, handled, instruction_in, sym, ◌∙◌}
 use Rattle.node_deeds.proofs.controller.served.Goals as goal
 
 pub returns-in-6-clause-deeds : goal.returns-in-6-clause-deeds

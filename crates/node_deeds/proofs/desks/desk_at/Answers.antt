@@ -1,7 +1,6 @@
 -- The desk that is found is the first of its host.
-use Rattle.std.proofs.Common.{eqb, rules, tests}
-use Rattle.std.proofs.lemmas.Iterator.{YieldsList-from_slice}
 use Rattle.std.proofs.lemmas.Iterator.Search.{find_from_yields_List}
+use Rattle.node_deeds.proofs.Words.{YieldsList-from_slice, eqb, rules, tests}
 use Rattle.node_deeds.specs.declared.desks.Desk.{Desk}
 use Rattle.node_deeds.proofs.desks.desk_at.Goals as goal
 

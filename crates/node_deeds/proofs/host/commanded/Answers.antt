@@ -1,10 +1,7 @@
-use Rattle.std.proofs.Common.{sym, ap, ◌∙◌}
-use Rattle.gate_answers.specs.Answers.{instruction_in, body_in}
+use Rattle.node_deeds.proofs.Words.{ap, body_in, handled_by, host_core, instruction_in, own_view, sym, ◌∙◌}
 use Rattle.gate_link.specs.Link.{link_served}
-use Rattle.node_machine.specs.Carrying.{own_view}
 use Rattle.node_machine.specs.Controller.{link_deeds}
 use Rattle.node_machine.specs.HostReplies.{ordered_deeds}
-use Rattle.node_deeds.specs.Hosts.{host_core, handled_by}
 use Rattle.node_deeds.proofs.host.commanded.Goals as goal
 
 pub returns-then-pipe-eq-ADMINISTRATION_PIPE-clause-deeds : goal.returns-then-pipe-eq-ADMINISTRATION_PIPE-clause-deeds

@@ -1,12 +1,6 @@
-use Rattle.std.proofs.Common.{◌&&◌, ◌∷◌, [], cond, eq-eqb, sym, ap, ◌∙◌}
-use Rattle.std.specs.Prelude.{Ok}
-use Rattle.pipe_table.specs.PipeRows.{pipe_at}
-use Rattle.gate_answers.specs.Answers.{body_in}
+use Rattle.node_deeds.proofs.Words.{Ok, Sends, [], ap, body_in, cond, eq-eqb, gate_in, heard_deeds, host_core, host_kind_deeds, init_running, is_gate, pipe_at}
+use Rattle.node_deeds.proofs.Words.{sym, ◌&&◌, ◌∙◌, ◌∷◌}
 use Rattle.gate_loopback.specs.Loopback.{posts_back}
-use Rattle.node_machine.specs.Parts.Deed.{Sends}
-use Rattle.node_machine.specs.HostReplies.{is_gate}
-use Rattle.node_deeds.specs.Pipes.{gate_in}
-use Rattle.node_deeds.specs.Hosts.{host_core, init_running, heard_deeds, host_kind_deeds}
 use Rattle.node_deeds.proofs.host.heard_of.Goals as goal
 
 pub returns-in-Ok-Event-default-clause-deeds : goal.returns-in-Ok-Event-default-clause-deeds

@@ -1,5 +1,4 @@
-use Rattle.std.proofs.Common.{subst, ◌∙◌}
-use Rattle.node_deeds.specs.Hosts.{IsHostAt}
+use Rattle.node_deeds.proofs.Words.{IsHostAt, subst, ◌∙◌}
 use Rattle.node_deeds.proofs.HostWalks.{host_of_core}
 use Rattle.node_deeds.proofs.host.put_host_deeds.Goals as goal
 

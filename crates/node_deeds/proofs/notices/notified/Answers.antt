@@ -1,8 +1,5 @@
-use Rattle.std.proofs.Common.{sym, ap, ◌∙◌}
-use Rattle.gate_answers.specs.Answers.{body_in}
-use Rattle.node_machine.specs.Carrying.{own_view}
-use Rattle.node_machine.specs.HostReplies.{pipe_created, pipe_deleted, pipes_cleared, notified_deeds}
-use Rattle.node_deeds.specs.Hosts.{host_core}
+use Rattle.node_deeds.proofs.Words.{ap, body_in, host_core, own_view, pipe_created, pipe_deleted, pipes_cleared, sym, ◌∙◌}
+use Rattle.node_machine.specs.HostReplies.{notified_deeds}
 use Rattle.node_deeds.proofs.notices.notified.Goals as goal
 
 pub returns-in-18-clause-deeds : goal.returns-in-18-clause-deeds

@@ -1,5 +1,4 @@
-use Rattle.std.proofs.Common.{sym, ◌∙◌}
-use Rattle.node_deeds.specs.Hosts.{host_core}
+use Rattle.node_deeds.proofs.Words.{host_core, sym, ◌∙◌}
 use Rattle.node_deeds.proofs.HostWalks.{created_welcome}
 use Rattle.node_deeds.proofs.notices.pipe_created.Goals as goal
 

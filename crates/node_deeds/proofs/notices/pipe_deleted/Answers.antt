@@ -1,7 +1,4 @@
-use Rattle.std.proofs.Common.{◌≡◌, length, get_or, sym, ap, ◌∙◌, arith}
-use Rattle.std.specs.Prelude.{is_some}
-use Rattle.pipe_table.specs.PipeRows.{pipe_at}
-use Rattle.node_deeds.specs.Hosts.{host_core}
+use Rattle.node_deeds.proofs.Words.{ap, arith, get_or, host_core, is_some, length, pipe_at, sym, ◌∙◌, ◌≡◌}
 use Rattle.node_deeds.proofs.HostWalks.{deleted_kept}
 use Rattle.node_deeds.proofs.notices.pipe_deleted.Goals as goal
 

@@ -1,5 +1,4 @@
-use Rattle.std.proofs.Common.{◌≡◌, length, ◌∙◌, arith}
-use Rattle.node_deeds.specs.Hosts.{host_core}
+use Rattle.node_deeds.proofs.Words.{arith, host_core, length, ◌∙◌, ◌≡◌}
 use Rattle.node_deeds.proofs.HostWalks.{cleared_host}
 use Rattle.node_deeds.proofs.notices.pipes_cleared.Goals as goal
 

@@ -1,9 +1,4 @@
-use Rattle.std.proofs.Common.{◌++◌, ℕ, sym, ap, ◌∙◌}
-use Rattle.std.specs.Prelude.{map}
-use Rattle.gate_admin.specs.View.{has, hosts_where}
-use Rattle.node_machine.specs.Parts.Deed.{Tells}
-use Rattle.node_deeds.specs.Shown.{deeds_shown}
-use Rattle.node_deeds.specs.Cores.{controller_core}
+use Rattle.node_deeds.proofs.Words.{Tells, ap, controller_core, deeds_shown, has, hosts_where, map, sym, ℕ, ◌++◌, ◌∙◌}
 use Rattle.node_deeds.proofs.Control.{decision_commits}
 use Rattle.node_deeds.proofs.replies.put_decision.Goals as goal
 

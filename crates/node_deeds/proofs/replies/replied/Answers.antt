@@ -1,8 +1,5 @@
-use Rattle.std.proofs.Common.{true, false, eqb, eq-eqb, sym, ◌∙◌}
-use Rattle.std.proofs.lemmas.Bool.{and_from, ne_eqb}
-use Rattle.hci_tables.specs.declared.command.Command.TheVariants.{Create}
-use Rattle.node_machine.specs.Carrying.{has_room_for}
-use Rattle.node_deeds.specs.Cores.{controller_core}
+use Rattle.std.proofs.lemmas.Bool.{and_from}
+use Rattle.node_deeds.proofs.Words.{Create, controller_core, eq-eqb, eqb, false, has_room_for, ne_eqb, sym, true, ◌∙◌}
 use Rattle.node_deeds.proofs.Control.{agreed_or_not, first_fails, second_fails}
 use Rattle.node_deeds.proofs.replies.replied.Goals as goal
 use Rattle.node_deeds.proofs.replies.replied.Goals.{else-code-eq0-via-then-code-eq0+else-room, else-code-eq0-via-else-code-eq0}

@@ -1,10 +1,5 @@
-use Rattle.std.proofs.Common.{◌≡◌, ◌<◌, ◌++◌, ℕ, length, sym, ap, ◌∙◌, arith, subst}
-use Rattle.std.specs.Prelude.{map}
-use Rattle.gate_admin.specs.View.{has, hosts_where}
-use Rattle.gate_admin.proofs.ViewLemmas.{hosts_below}
-use Rattle.node_machine.specs.Parts.Deed.{Tells}
-use Rattle.node_deeds.specs.Shown.{deeds_shown}
-use Rattle.node_deeds.specs.Cores.{AreDoable}
+use Rattle.node_deeds.proofs.Words.{AreDoable, Tells, ap, arith, deeds_shown, has, hosts_below, length, map, subst, sym, ℕ, ◌++◌, ◌<◌, ◌∙◌, ◌≡◌}
+use Rattle.gate_admin.specs.View.{hosts_where}
 use Rattle.node_deeds.proofs.Telling.{told_more, told_no_more, many_more, many_no_more, is_said, has_place, doable_more}
 use Rattle.node_deeds.proofs.replies.tell_hosts.Goals as goal
 use Rattle.node_deeds.proofs.replies.tell_hosts.Goals.{then-is_in, else-is_in}

@@ -1,10 +1,4 @@
-use Rattle.std.proofs.Common.{◌≡◌, ℕ, ◌+◌, ◌++◌, length}
-use Rattle.std.specs.Prelude.{map}
-use Rattle.gate_admin.specs.View.{has}
-use Rattle.gate_admin.proofs.ViewLemmas.{hosts_below}
-use Rattle.node_machine.specs.Parts.Deed.{Tells}
-use Rattle.node_deeds.specs.Shown.{Handling, deeds_shown}
-use Rattle.node_deeds.specs.Cores.{AreDoable}
+use Rattle.node_deeds.proofs.Words.{AreDoable, Handling, Tells, deeds_shown, has, hosts_below, length, map, ℕ, ◌++◌, ◌+◌, ◌≡◌}
 use Rattle.node_deeds.proofs.replies.tell_hosts.Given as goal
 
 abbrev pub invariant-loop-host : goal.invariant-loop-host

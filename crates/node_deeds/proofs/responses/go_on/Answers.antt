@@ -1,12 +1,7 @@
-use Rattle.std.proofs.Common.{◌++◌, ◌∷◌, [], sym, ap, ◌∙◌}
-use Rattle.std.specs.Prelude.{Some}
-use Rattle.std.proofs.lemmas.List.{map-append}
-use Rattle.node_machine.specs.Carrying.{own_view}
-use Rattle.node_machine.specs.HostReplies.{is_same}
+use Rattle.node_deeds.proofs.Words.{Some, [], ap, deed_shown, deeds_shown, handled_by, host_core, init_shown, is_same, map-append, own_view, sym, ◌++◌, ◌∙◌}
+use Rattle.node_deeds.proofs.Words.{◌∷◌}
 use Rattle.node_deeds.specs.declared.deeds.InitEnd.TheVariants.{Same}
 use Rattle.node_deeds.specs.declared.deeds.Deed.TheVariants as kept
-use Rattle.node_deeds.specs.Shown.{deed_shown, deeds_shown, init_shown}
-use Rattle.node_deeds.specs.Hosts.{host_core, handled_by}
 use Rattle.node_deeds.proofs.HostWalks.{init_same, init_next}
 use Rattle.node_deeds.proofs.responses.go_on.Goals as goal
 

@@ -1,12 +1,6 @@
-use Rattle.std.proofs.Common.{◌≡◌, [], ◌∷◌, ◌++◌, cond, eqb, sym, subst, ap, ◌∙◌, append-nil}
-use Rattle.std.specs.Prelude.{Option, Some, None}
-use Rattle.node_machine.specs.Carrying.{own_view}
-use Rattle.node_machine.specs.Parts.Deed.{Hears}
-use Rattle.node_machine.specs.HostReplies.{init_deeds}
+use Rattle.node_deeds.proofs.Words.{Hears, KeptInit, None, Option, Some, [], ap, append-nil, cond, deeds_shown, eqb, handled_by, heard_deeds, host_core}
+use Rattle.node_deeds.proofs.Words.{init_deeds, init_running, init_shown, learned_of, own_view, subst, sym, ◌++◌, ◌∙◌, ◌∷◌, ◌≡◌}
 use Rattle.node_deeds.specs.declared.deeds.Deed.TheVariants as deed
-use Rattle.node_deeds.specs.declared.inits.Init.{Init as KeptInit}
-use Rattle.node_deeds.specs.Shown.{deeds_shown, init_shown}
-use Rattle.node_deeds.specs.Hosts.{init_running, host_core, handled_by, learned_of, heard_deeds}
 use Rattle.node_deeds.proofs.responses.heard.Goals as goal
 
 pub returns-in-Some-init-clause-deeds : goal.returns-in-Some-init-clause-deeds

@@ -1,6 +1,4 @@
-use Rattle.std.proofs.Common.{◌++◌, sym, ap, ◌∙◌}
-use Rattle.node_deeds.specs.Shown.{deeds_shown}
-use Rattle.node_deeds.specs.Hosts.{host_core, learned_of}
+use Rattle.node_deeds.proofs.Words.{ap, deeds_shown, host_core, learned_of, sym, ◌++◌, ◌∙◌}
 use Rattle.node_deeds.proofs.HostWalks.{learned_creation}
 use Rattle.node_deeds.proofs.responses.learn.Goals as goal
 

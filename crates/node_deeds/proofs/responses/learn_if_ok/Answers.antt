@@ -1,6 +1,4 @@
-use Rattle.std.proofs.Common.{◌++◌, [], cond, eq-eqb, sym, ap, ◌∙◌}
-use Rattle.node_deeds.specs.Shown.{deeds_shown}
-use Rattle.node_deeds.specs.Hosts.{host_core, learned_of}
+use Rattle.node_deeds.proofs.Words.{[], ap, cond, deeds_shown, eq-eqb, host_core, learned_of, sym, ◌++◌, ◌∙◌}
 use Rattle.node_deeds.proofs.responses.learn_if_ok.Goals as goal
 
 pub returns-then-code-eq0-clause-deeds : goal.returns-then-code-eq0-clause-deeds

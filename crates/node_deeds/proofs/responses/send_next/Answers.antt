@@ -1,8 +1,4 @@
-use Rattle.std.proofs.Common.{◌+◌, slice_get, ap, ◌∙◌}
-use Rattle.std.specs.Prelude.{Some}
-use Rattle.node_machine.specs.HostReplies.{orders_of}
-use Rattle.node_deeds.specs.Shown.{deeds_shown, init_shown}
-use Rattle.node_deeds.specs.Hosts.{handled_by}
+use Rattle.node_deeds.proofs.Words.{Some, ap, deeds_shown, handled_by, init_shown, orders_of, slice_get, ◌+◌, ◌∙◌}
 use Rattle.node_deeds.proofs.HostWalks.{init_made}
 use Rattle.node_deeds.proofs.responses.send_next.Goals as goal
 

@@ -1,10 +1,7 @@
-use Rattle.std.proofs.Common.{◌≡◌, suc, ◌+◌, ◌∷◌, drop, sym, ap, ap₂, ◌∙◌, arith}
-use Rattle.std.specs.Prelude.{slice_index}
 use Rattle.std.proofs.Math.Seq.{drop-cons}
 use Rattle.std.proofs.Math.ListN.{drop_of_length-le}
-use Rattle.node_machine.specs.Carrying.{needs}
-use Rattle.node_deeds.specs.Shown.{deed_shown, deeds_shown}
-use Rattle.node_deeds.specs.Room.{lack_shown, lack_by}
+use Rattle.node_deeds.proofs.Words.{ap, ap₂, arith, deed_shown, deeds_shown, drop, lack_by, needs, slice_index, suc, sym, ◌+◌, ◌∙◌, ◌∷◌, ◌≡◌}
+use Rattle.node_deeds.specs.Room.{lack_shown}
 use Rattle.node_deeds.proofs.RoomLemmas.{lack_there, lack_found}
 use Rattle.node_deeds.proofs.room.lack.Goals as goal
 

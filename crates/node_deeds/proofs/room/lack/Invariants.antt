@@ -1,8 +1,4 @@
-use Rattle.std.proofs.Common.{◌≡◌, ℕ, drop, length}
-use Rattle.std.specs.Prelude.{slice_index}
-use Rattle.node_machine.specs.Carrying.{needs}
-use Rattle.node_deeds.specs.Shown.{Handling, deeds_shown}
-use Rattle.node_deeds.specs.Room.{lack_by}
+use Rattle.node_deeds.proofs.Words.{Handling, deeds_shown, drop, lack_by, length, needs, slice_index, ℕ, ◌≡◌}
 use Rattle.node_deeds.proofs.room.lack.Given as goal
 
 abbrev pub invariant-loop-deed : goal.invariant-loop-deed

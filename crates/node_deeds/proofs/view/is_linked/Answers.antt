@@ -1,5 +1,4 @@
-use Rattle.std.proofs.Common.{◌∙◌}
-use Rattle.std.specs.Prelude.{Some, None}
+use Rattle.node_deeds.proofs.Words.{None, Some, ◌∙◌}
 use Rattle.node_deeds.proofs.Views.{link_found}
 use Rattle.node_deeds.proofs.view.is_linked.Goals as goal
 

@@ -1,5 +1,4 @@
-use Rattle.std.proofs.Common.{◌≡◌, refl, arith}
-use Rattle.node_deeds.specs.Desks.{configured_by, connected_by, noticed_by, asked_by}
+use Rattle.node_deeds.proofs.Words.{arith, asked_by, configured_by, connected_by, noticed_by, refl, ◌≡◌}
 use Rattle.node_deeds.proofs.Views.{mask_grows, view_read}
 use Rattle.node_deeds.proofs.view.view_for.Goals as goal
 

@@ -1,11 +1,8 @@
-use Rattle.std.proofs.Common.{◌≡◌, ℕ, ◌+◌, ◌<◌, List, [], ◌∷◌, ◌++◌, take, length, get_or, false, sym, ap, ◌∙◌, arith, append-nil}
-use Rattle.std.specs.Prelude.{Option, Some, None, option_map}
-use Rattle.std.specs.List.{filter_map, cons_option}
 use Rattle.std.proofs.lemmas.List.{take_more}
 use Rattle.std.proofs.lemmas.List.Elements.{filter_map-append}
-use Rattle.pipe_table.specs.declared.row.PipeRow.{PipeRow}
-use Rattle.node_deeds.specs.declared.desks.Desk.{Desk as KeptDesk}
-use Rattle.node_deeds.specs.Shown.{awaited_row, awaited_pipe}
+use Rattle.node_deeds.proofs.Words.{KeptDesk, List, None, Option, PipeRow, Some, [], ap, append-nil, arith, awaited_pipe, cons_option, false, filter_map}
+use Rattle.node_deeds.proofs.Words.{get_or, length, option_map, sym, take, ℕ, ◌++◌, ◌+◌, ◌<◌, ◌∙◌, ◌∷◌, ◌≡◌}
+use Rattle.node_deeds.specs.Shown.{awaited_row}
 use Rattle.node_deeds.proofs.view.waiting_pipes.Goals as goal
 use Rattle.node_deeds.proofs.view.waiting_pipes.Goals.{in-Some, in_default}
 

@@ -1,6 +1,4 @@
-use Rattle.std.proofs.Common.{◌≡◌, ◌≤◌, take, length}
-use Rattle.std.specs.List.{filter_map}
-use Rattle.node_deeds.specs.Shown.{awaited_pipe}
+use Rattle.node_deeds.proofs.Words.{awaited_pipe, filter_map, length, take, ◌≡◌, ◌≤◌}
 use Rattle.node_deeds.proofs.view.waiting_pipes.Given as goal
 
 abbrev pub invariant-loop-desk : goal.invariant-loop-desk

@@ -1,6 +1,4 @@
-use Rattle.std.proofs.Common.{arith, length, ◌≡◌, ◌∷◌, ◌++◌, [], ℕ, List, sym, subst}
-use Rattle.node_ends.specs.declared.seat.Seat.{Seat}
-use Rattle.node_ends.specs.Making.{AddsNew, IsNewSeat}
+use Rattle.node_ends.proofs.Words.{AddsNew, IsNewSeat, List, Seat, [], arith, length, subst, sym, ℕ, ◌++◌, ◌∷◌, ◌≡◌}
 use Rattle.node_ends.proofs.Making.{one_more, on_ok}
 use Rattle.node_ends.proofs.new_seats.+add_seats.Goals as goal
 

@@ -1,14 +1,5 @@
-use Rattle.std.proofs.Common.{◌≡◌, false, true, inl, inr, sym, ap, ◌∙◌, subst, arith, length-set}
-use Rattle.std.specs.Prelude.{is_none, slice_index_or}
-use Rattle.block_pool.specs.declared.chain.Chain.{Chain}
-use Rattle.block_pool.specs.Pool.{PoolState, IsLive, chain_bytes, Gives, KeepsOthers}
-use Rattle.hcp_packet.specs.Packets.{IsSendable}
-use Rattle.link_end.specs.declared.«end».End.{End}
-use Rattle.link_end.specs.Ends.{EndStandsFor, MayPass}
-use Rattle.link_laws.specs.machine.Machine.{Message, give_refusal}
-use Rattle.node_ends.specs.declared.seat.Seat.{Seat}
-use Rattle.node_ends.specs.Holding.{without_got}
-use Rattle.node_ends.specs.Ends.{takes_at}
+use Rattle.node_ends.proofs.Words.{Chain, End, EndStandsFor, Gives, IsLive, IsSendable, KeepsOthers, MayPass, Message, PoolState, Seat, ap, arith, chain_bytes}
+use Rattle.node_ends.proofs.Words.{false, give_refusal, inl, inr, is_none, length-set, slice_index_or, subst, sym, takes_at, true, without_got, ◌∙◌, ◌≡◌}
 use Rattle.node_ends.proofs.Changing.{within}
 use Rattle.node_ends.proofs.Relaying.{first_read, first_holds, one_waits, message_is, may_be_sent, second, then_side, may_pass, handed}
 use Rattle.node_ends.proofs.Relaying.{none_there_is, takes_still, told_passed, told_back}

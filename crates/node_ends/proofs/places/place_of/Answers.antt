@@ -1,7 +1,5 @@
-use Rattle.std.proofs.Common.{eqb, sym, ◌∙◌, rules, tests}
-use Rattle.std.proofs.lemmas.Iterator.{YieldsList-from_slice}
 use Rattle.std.proofs.lemmas.Iterator.Search.{position_from_yields_List}
-use Rattle.node_ends.specs.declared.seat.Seat.{Seat}
+use Rattle.node_ends.proofs.Words.{Seat, YieldsList-from_slice, eqb, rules, sym, tests, ◌∙◌}
 use Rattle.node_ends.proofs.Placing.{place_is}
 use Rattle.node_ends.proofs.places.place_of.Goals as goal
 

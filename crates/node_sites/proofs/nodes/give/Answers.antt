@@ -1,8 +1,6 @@
-use Rattle.std.proofs.Common.{ℕ}
 use Rattle.std.proofs.lemmas.Result.{on_ok_weaker}
-use Rattle.node_machine.specs.world.World.{beginning, sending}
+use Rattle.node_sites.proofs.Words.{as_told, beginning, sending, ℕ}
 use Rattle.node_sites.proofs.Numbered.{as_noted}
-use Rattle.node_sites.specs.Numbers.{as_told}
 use Rattle.node_sites.proofs.NodesRun.{bare, asked_so, asked_bare, gives_so, beginning_writes, sending_writes}
 use Rattle.node_sites.proofs.nodes.give.Goals as goal
 

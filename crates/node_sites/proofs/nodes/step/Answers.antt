@@ -1,7 +1,6 @@
-use Rattle.std.proofs.Common.{sym, ◌∙◌}
+use Rattle.node_sites.proofs.Words.{as_told, sym, ◌∙◌}
 use Rattle.node_machine.specs.Node.{steps}
 use Rattle.node_core.specs.Inputs.{input_of_node}
-use Rattle.node_sites.specs.Numbers.{as_told}
 use Rattle.node_sites.proofs.NodesRun.{bare, steps_regardless, begins_so, begins_bare, told_so, goes_so, noted_so}
 use Rattle.node_sites.proofs.nodes.step.Goals as goal
 

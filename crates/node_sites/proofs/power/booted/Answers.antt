@@ -1,12 +1,7 @@
-use Rattle.std.proofs.Common.{◌≡◌, ℕ, List, length, map, refl, sym, ap, ◌∙◌, subst}
-use Rattle.swp_base.specs.InMemory.{Memory}
-use Rattle.node_machine.specs.Parts.{Core}
+use Rattle.node_sites.proofs.Words.{Core, IsSoundMemory, List, Memory, On, RunsAs, ap, length, map, refl, subst, sym, ℕ, ◌∙◌, ◌≡◌}
 use Rattle.node_ends.specs.Making.{new_port}
 use Rattle.node_core.specs.Booting.{hosts_linked, role_at}
-use Rattle.node_core.specs.Running.{RunsAs}
-use Rattle.node_sites.specs.Memories.{IsSoundMemory}
 use Rattle.node_sites.specs.WorldBoots.{EndsBoot}
-use Rattle.node_sites.specs.declared.power.Power.TheVariants.{On}
 use Rattle.node_sites.proofs.Powers.{found_as_booted, boots_so, refused_so, size_kept}
 use Rattle.node_sites.proofs.power.booted.Goals as goal
 

@@ -1,24 +1,10 @@
-use Rattle.std.proofs.Common.{◌≡◌, ℕ, ◌-◌, List, refl, sym, subst, ap, ◌∙◌, arith, append-nil}
-use Rattle.std.specs.Prelude.{None, option_map}
-use Rattle.swp_base.specs.InMemory.{Memory}
-use Rattle.swp_lpdu.specs.Controls.{lpdu_of, control_of}
-use Rattle.link_laws.specs.machine.Machine.{next_frame}
-use Rattle.link_laws.specs.machine.Laws.{most_fetches}
-use Rattle.hci_store.specs.Stored.{Stored}
-use Rattle.node_machine.specs.Parts.{Core, Port}
-use Rattle.node_machine.specs.Carrying.{with_port}
+use Rattle.node_sites.proofs.Words.{AreNoted, Control, Core, List, Memory, None, Port, RunsAs, SendsOneByOne, Stored, WiresStandFor, ap, append-nil, arith}
+use Rattle.node_sites.proofs.Words.{control_of, lpdu_of, most_fetches, next_frame, option_map, put_all, puts_entries, refl, seen_from, sent_port, side_of}
+use Rattle.node_sites.proofs.Words.{subst, sym, with_port, ℕ, ◌-◌, ◌∙◌, ◌≡◌}
 use Rattle.node_ends.specs.Ends.{frame_at}
-use Rattle.node_core.specs.Running.{RunsAs, SendsOneByOne}
 use Rattle.node_core.proofs.Between.{all_one_by_one}
 use Rattle.node_sites.proofs.FramesGoOut.{Sending, sending_starts, sending_next, sending_stops, sending_over, at_found, found_with, with_side}
 use Rattle.node_sites.proofs.FramesGoOut.{fetched_is, none_fetched, read_of, same_with, with_none}
-use Rattle.swp_base.specs.declared.control_frames.Control.{Control}
-use Rattle.link_laws.specs.messages.Links.{put_all}
-use Rattle.link_laws.specs.entries.Entries.{puts_entries}
-use Rattle.history.specs.Follows.{seen_from}
-use Rattle.link_wires.specs.Notes.{side_of, AreNoted}
-use Rattle.node_sites.specs.LinksKept.{WiresStandFor}
-use Rattle.node_sites.specs.FramesOut.{sent_port}
 use Rattle.node_sites.proofs.sending.send_frames.Goals as goal
 
 pub has_none_due-requires : goal.has_none_due-requires

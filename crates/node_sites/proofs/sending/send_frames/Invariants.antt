@@ -1,11 +1,4 @@
-use Rattle.std.proofs.Common.{◌≡◌, ◌+◌, ◌-◌, ◌≤◌, List}
-use Rattle.link_laws.specs.machine.Laws.{most_fetches}
-use Rattle.link_laws.specs.messages.Links.{Link}
-use Rattle.history.specs.Follows.{seen_from}
-use Rattle.node_machine.specs.Parts.{Core, Port}
-use Rattle.node_core.specs.Running.{RunsAs}
-use Rattle.node_sites.specs.Powers.{node_memory}
-use Rattle.node_sites.specs.LinksKept.{WiresStandFor}
+use Rattle.node_sites.proofs.Words.{Core, Link, List, Port, RunsAs, WiresStandFor, most_fetches, node_memory, seen_from, ◌+◌, ◌-◌, ◌≡◌, ◌≤◌}
 use Rattle.node_sites.specs.FramesOut.{SendsFrom}
 use Rattle.node_sites.proofs.FramesGoOut.{Sending}
 use Rattle.node_sites.proofs.sending.send_frames.Given as goal

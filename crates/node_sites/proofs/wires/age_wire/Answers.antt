@@ -1,14 +1,7 @@
-use Rattle.std.proofs.Common.{◌≡◌, true, eqb, List, [], ◌∷◌, length, ap, sym, subst, arith}
+use Rattle.std.proofs.Common.{eqb}
+use Rattle.node_sites.proofs.Words.{AreNoted, Buffer, End, Entry, Flying, List, OnWire, WireStandsFor, [], aged_entries, aged_wire, ap, append-nil, arith}
+use Rattle.node_sites.proofs.Words.{length, side_of, subst, sym, true, ◌∷◌, ◌≡◌}
 use lib.Dec.{T, eqb→eq}
-use Rattle.std.proofs.lemmas.List.{append-nil}
-use Rattle.circular_buffer.specs.Buffer.{Buffer}
-use Rattle.trace_model.specs.declared.entry.Entry.{Entry}
-use Rattle.trace_model.specs.declared.line.End.{End}
-use Rattle.link_laws.specs.sessions.Sessions.{OnWire, aged_wire}
-use Rattle.link_laws.specs.entries.Entries.{aged_entries}
-use Rattle.link_wires.specs.declared.wire.Flying.{Flying}
-use Rattle.link_wires.specs.Notes.{side_of, AreNoted}
-use Rattle.link_wires.specs.Wires.{WireStandsFor}
 use Rattle.node_sites.proofs.wires.age_wire.Goals as goal
 
 -- no frame grows older where none is on the way

@@ -1,6 +1,5 @@
-use Rattle.std.proofs.Common.{ℕ, List, refl, sym, ap, subst, ◌∙◌}
-use Rattle.node_world.proofs.Words.{EndsBoot, IsSoundMemory, Memory, On, count_of, kept_is, link_to, memory_kept, on_ok}
-use Rattle.node_laws.specs.telling.Telling.{hosts_in}
+use Rattle.node_world.proofs.Words.{EndsBoot, IsSoundMemory, List, Memory, On, ap, count_of, hosts_in, kept_is, link_to, memory_kept, on_ok, refl, subst, sym}
+use Rattle.node_world.proofs.Words.{ℕ, ◌∙◌}
 use Rattle.node_world.proofs.ControllersHear.{boot_runs, boot_lost}
 use Rattle.node_world.proofs.controller.boot_controller.Goals as goal
 

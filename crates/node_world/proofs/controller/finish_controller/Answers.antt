@@ -1,8 +1,5 @@
-use Rattle.std.proofs.Common.{◌≡◌, ℕ, ◌<◌, ◌≤◌, ◌++◌, Bool, true, List, length, ap, sym, subst, ◌∙◌, refl, arith}
-use Rattle.std.specs.Prelude.{slice_index_or}
-use Rattle.std.specs.List.{flat_map}
-use Rattle.node_world.proofs.Words.{HostSite, Memory, Node, Off, On, Power, RunsAs, SendsTo, Site, Work, frames_emitted, memory_kept, node_memory}
-use Rattle.node_world.specs.Controllers.{EndsStep}
+use Rattle.node_world.proofs.Words.{Bool, EndsStep, HostSite, List, Memory, Node, Off, On, Power, RunsAs, SendsTo, Site, Work, ap, arith, flat_map}
+use Rattle.node_world.proofs.Words.{frames_emitted, length, memory_kept, node_memory, refl, slice_index_or, subst, sym, true, ℕ, ◌++◌, ◌<◌, ◌∙◌, ◌≡◌, ◌≤◌}
 use Rattle.node_world.proofs.SitesKept.{sends_first, sends_next, all_sent, room_left}
 use Rattle.node_world.proofs.controller.finish_controller.Goals as goal
 

@@ -1,5 +1,4 @@
-use Rattle.std.proofs.Common.{◌≡◌, List, drop, false}
-use Rattle.node_world.proofs.Words.{Core, HaveRoom, Port, RunsAs, SendsTo, Site, node_memory}
+use Rattle.node_world.proofs.Words.{Core, HaveRoom, List, Port, RunsAs, SendsTo, Site, drop, false, node_memory, ◌≡◌}
 use Rattle.node_world.proofs.SitesKept.{SendingOn}
 use Rattle.node_world.proofs.controller.finish_controller.Given as goal
 

@@ -1,8 +1,6 @@
-use Rattle.std.proofs.Common.{ℕ, ◌<◌, ◌≤◌, ◌++◌, List, length, refl, ap, arith, ◌∙◌}
-use Rattle.std.specs.Prelude.{slice_index_or}
-use Rattle.node_world.proofs.Words.{Controller, Entry, Host, Site, entries_for}
+use Rattle.node_world.proofs.Words.{Controller, Entry, Host, List, Site, ap, arith, entries_for, length, refl, site_ages, slice_index_or, ℕ, ◌++◌, ◌<◌, ◌∙◌}
+use Rattle.node_world.proofs.Words.{◌≤◌}
 use Rattle.link_laws.specs.entries.Entries.{aged_entries}
-use Rattle.node_world.specs.HostSteps.{site_ages}
 use Rattle.node_world.proofs.SitesKept.{walk_begins, walk_next, walk_ends}
 use Rattle.node_world.proofs.controller_sites.age_all.Goals as goal
 

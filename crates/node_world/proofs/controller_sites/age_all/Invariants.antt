@@ -1,6 +1,4 @@
-use Rattle.std.proofs.Common.{◌≡◌, List}
-use Rattle.node_world.proofs.Words.{Site, SitesAre}
-use Rattle.node_world.specs.HostSteps.{site_ages}
+use Rattle.node_world.proofs.Words.{List, Site, SitesAre, site_ages, ◌≡◌}
 use Rattle.node_world.proofs.SitesKept.{Walked}
 use Rattle.node_world.proofs.controller_sites.age_all.Given as goal
 

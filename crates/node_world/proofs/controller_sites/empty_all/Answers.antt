@@ -1,6 +1,4 @@
-use Rattle.std.proofs.Common.{ℕ, ◌<◌, ◌≤◌, [], length, refl, ap, arith}
-use Rattle.std.specs.Prelude.{slice_index_or}
-use Rattle.node_world.proofs.Words.{with_bare_link}
+use Rattle.node_world.proofs.Words.{[], ap, arith, length, refl, slice_index_or, with_bare_link, ℕ, ◌<◌, ◌≤◌}
 use Rattle.node_world.proofs.SitesKept.{walk_begins, walk_next, walk_ends}
 use Rattle.node_world.proofs.controller_sites.empty_all.Goals as goal
 

@@ -1,5 +1,4 @@
-use Rattle.std.proofs.Common.{List, []}
-use Rattle.node_world.proofs.Words.{Site, SitesAre, with_bare_link}
+use Rattle.node_world.proofs.Words.{List, Site, SitesAre, [], with_bare_link}
 use Rattle.node_world.proofs.SitesKept.{Walked}
 use Rattle.node_world.proofs.controller_sites.empty_all.Given as goal
 

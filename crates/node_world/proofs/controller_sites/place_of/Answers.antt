@@ -1,6 +1,4 @@
-use Rattle.std.proofs.Common.{ap}
-use Rattle.std.specs.Prelude.{slice_index_or}
-use Rattle.std.proofs.lemmas.Bool.{ne_eqb}
+use Rattle.node_world.proofs.Words.{ap, ne_eqb, slice_index_or}
 use Rattle.node_world.proofs.SitesKept.{none_passed, none_there, passes_by, place_found, place_is}
 use Rattle.node_world.proofs.controller_sites.place_of.Goals as goal
 

@@ -1,5 +1,4 @@
-use Rattle.std.proofs.Common.{List}
-use Rattle.node_world.proofs.Words.{Site, SitesAre}
+use Rattle.node_world.proofs.Words.{List, Site, SitesAre}
 use Rattle.node_world.proofs.SitesKept.{PassedBy}
 use Rattle.node_world.proofs.controller_sites.place_of.Given as goal
 

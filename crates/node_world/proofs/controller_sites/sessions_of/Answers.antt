@@ -1,6 +1,5 @@
-use Rattle.std.proofs.Common.{◌≡◌, ℕ, ◌+◌, ◌<◌, ◌≤◌, List, length, refl, ap, arith, sym, subst, ◌∙◌}
-use Rattle.std.specs.Prelude.{slice_set}
 use Rattle.std.proofs.lemmas.List.{length-set}
+use Rattle.node_world.proofs.Words.{List, ap, arith, length, refl, slice_set, subst, sym, ℕ, ◌+◌, ◌<◌, ◌∙◌, ◌≡◌, ◌≤◌}
 use Rattle.node_world.proofs.SitesKept.{NumbersFound, no_numbers, number_found, number_passed, numbers_are}
 use Rattle.node_world.proofs.controller_sites.sessions_of.Goals.{then-host-lt8, else-host-lt8}
 use Rattle.node_world.proofs.controller_sites.sessions_of.Goals as goal

@@ -1,5 +1,4 @@
-use Rattle.std.proofs.Common.{◌≡◌, List, length}
-use Rattle.node_world.proofs.Words.{Site, SitesAre}
+use Rattle.node_world.proofs.Words.{List, Site, SitesAre, length, ◌≡◌}
 use Rattle.node_world.proofs.SitesKept.{NumbersFound}
 use Rattle.node_world.proofs.controller_sites.sessions_of.Given as goal
 

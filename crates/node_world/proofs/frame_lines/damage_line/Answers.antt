@@ -1,9 +1,6 @@
-use Rattle.std.proofs.Common.{◌≡◌, true, false, ap, subst, sym, ◌∙◌}
-use Rattle.std.specs.Prelude.{Some, None}
+use Rattle.node_world.proofs.Words.{Finds, Loses, None, Some, Takes, ap, false, frames_at, is_running, misread_in, node_of, on_err, subst, sym, true, ◌∙◌, ◌≡◌}
 use Rattle.trace_model.specs.declared.entry.NoCause.TheVariants as no
 use Rattle.trace_model.specs.declared.line.Line.TheVariants as line
-use Rattle.nv_journal.proofs.Appending.{on_err}
-use Rattle.node_world.proofs.Words.{Finds, Loses, Takes, frames_at, is_running, misread_in, node_of}
 use Rattle.link_wires.specs.declared.finding.Damaged.TheVariants.{Refused, Same, Lost, Undetected}
 use Rattle.node_world.proofs.HostsHear.{unrefused}
 use Rattle.node_world.proofs.LinesGo.{finds_read, lost_is, misread_not, off_refused, on_refused, same_is, line_goes, line_refused, is_there, within}

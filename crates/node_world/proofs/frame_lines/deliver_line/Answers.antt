@@ -1,8 +1,7 @@
-use Rattle.std.proofs.Common.{◌≡◌, ◌≢◌, ℕ, ◌<◌, ◌≤◌, true, false, length, refl, ap, sym, subst, ◌∙◌, arith}
-use Rattle.std.proofs.lemmas.Result.{on_ok_weaker}
+use Rattle.node_world.proofs.Words.{NextFrame, Takes, ap, arith, false, frames_at, is_running, length, node_of, on_ok_weaker, refl, subst, sym, taken_of, true}
+use Rattle.node_world.proofs.Words.{ℕ, ◌<◌, ◌∙◌, ◌≡◌, ◌≢◌, ◌≤◌}
 use Rattle.trace_model.specs.declared.entry.NoCause.TheVariants as no
 use Rattle.trace_model.specs.declared.line.Line.TheVariants as line
-use Rattle.node_world.proofs.Words.{NextFrame, Takes, frames_at, is_running, node_of, taken_of}
 use Rattle.node_world.proofs.HostsHear.{unrefused}
 use Rattle.node_world.proofs.CountsStay.{taken_within}
 use Rattle.node_world.proofs.LinesGo.{is_there, line_refused, off_takes_none, bare_takes_none, takes_one}

@@ -1,7 +1,5 @@
-use Rattle.std.proofs.Common.{◌≡◌, false}
-use Rattle.node_world.proofs.Words.{Header, MayPlay, Takes, WorldIs}
+use Rattle.node_world.proofs.Words.{Header, MayPlay, NodeWorld, Takes, WorldIs, false, ◌≡◌}
 use Rattle.trace_model.specs.declared.line.Line.TheVariants as line
-use Rattle.node_machine.specs.world.World.{NodeWorld}
 use Rattle.node_world.proofs.RoundsGo.{Again}
 use Rattle.node_world.proofs.frame_lines.deliver_line.Given as goal
 

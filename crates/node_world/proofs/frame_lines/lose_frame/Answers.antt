@@ -1,5 +1,4 @@
-use Rattle.std.specs.Prelude.{slice_index_or}
-use Rattle.node_world.proofs.Words.{StandsAt, entries_for, first_lost, frame_lost, frames_to, side_of, site_loses}
+use Rattle.node_world.proofs.Words.{StandsAt, entries_for, first_lost, frame_lost, frames_to, side_of, site_loses, slice_index_or}
 use Rattle.node_world.proofs.HostsInWorlds.{at_place, nowhere, site_stands, lost_to_controller, loses_in_world, found_becomes, loses_leaves}
 use Rattle.node_world.proofs.HostsDo.{lost_far, lost_near}
 use Rattle.node_world.proofs.frame_lines.lose_frame.Goals as goal

@@ -1,8 +1,6 @@
-use Rattle.std.proofs.Common.{◌≡◌, ◌≢◌, true, false, length, refl, sym, subst, ap, ◌∙◌}
-use Rattle.std.proofs.lemmas.Result.{on_ok_weaker}
+use Rattle.node_world.proofs.Words.{Loses, OnDemand, ap, false, frames_at, is_running, length, node_of, on_ok_weaker, refl, subst, sym, true, ◌∙◌, ◌≡◌, ◌≢◌}
 use Rattle.trace_model.specs.declared.entry.NoCause.TheVariants as no
 use Rattle.trace_model.specs.declared.line.Line.TheVariants as line
-use Rattle.node_world.proofs.Words.{Loses, OnDemand, frames_at, is_running, node_of}
 use Rattle.node_world.proofs.LinesGo.{within, is_there, line_goes, line_refused, off_takes_none, bare_takes_none, takes_one}
 use Rattle.node_world.proofs.frame_lines.lose_line.Goals as goal
 

@@ -1,7 +1,5 @@
-use Rattle.std.proofs.Common.{◌≡◌, ◌<◌, ◌≤◌, refl, ap, sym, subst, ◌∙◌, arith}
-use Rattle.std.specs.Prelude.{unwrap_or}
+use Rattle.node_world.proofs.Words.{AreTimely, Ticks, ap, arith, refl, subst, sym, unwrap_or, ◌<◌, ◌∙◌, ◌≡◌, ◌≤◌}
 use Rattle.trace_model.specs.declared.line.Line.TheVariants as line
-use Rattle.node_world.proofs.Words.{AreTimely, Ticks}
 use Rattle.node_world.proofs.CountsStay.{ticks_within}
 use Rattle.node_world.proofs.RoundsGo.{again_begins, again_ends, again_next, again_plays, so_often, bounds_again, hosts_tick_too}
 use Rattle.node_world.proofs.frame_lines.tick_line.Goals as goal

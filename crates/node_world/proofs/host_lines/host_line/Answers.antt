@@ -1,17 +1,11 @@
-use Rattle.std.proofs.Common.{ℕ, ◌==◌, true, false, [], ◌∷◌, ◌++◌, refl, sym, subst, ◌≡◌, ap, ◌∙◌}
-use Rattle.std.specs.Prelude.{Some, None, replicate, slice_index_or}
-use Rattle.std.proofs.lemmas.Result.{on_ok_weaker}
+use Rattle.node_world.proofs.Words.{Asked, End, IsHostOf, NoInput, NodeWorld, None, RunsAs, Site, Some, StandsAt, Work, [], ap, begins_with, deeds_asked, false}
+use Rattle.node_world.proofs.Words.{host_stepped, line_asked, message_asked, node_memory, none_noted, on_ok_weaker, refl, refusal_in, replicate}
+use Rattle.node_world.proofs.Words.{sending_refused, site_at, slice_index_or, subst, sym, true, world_step, ℕ, ◌++◌, ◌==◌, ◌∙◌, ◌∷◌, ◌≡◌}
 use Rattle.trace_model.specs.declared.entry.Entry.TheVariants as note
 use Rattle.trace_model.specs.declared.entry.NoCause.TheVariants as no
-use Rattle.node_machine.specs.world.World.{NodeWorld}
-use Rattle.node_sites.specs.declared.nodes.Asked.{Asked}
 use Rattle.node_world.proofs.HostsInWorlds.{ChangesSite, at_place, becomes, room_there, site_stands, end_is, nowhere, asked_does, asked_goes, asked_mute}
 use Rattle.node_world.proofs.HostsInWorlds.{asked_there, happening_asked, stays_so, steps_there}
 use Rattle.node_core.specs.Giving.{refusal_noted}
-use Rattle.node_sites.specs.Asking.{deeds_asked, message_asked}
-use Rattle.node_world.specs.Whole.{line_asked}
-use Rattle.node_world.proofs.Words.{End, IsHostOf, NoInput, RunsAs, Site, StandsAt, Work, begins_with, host_stepped, node_memory}
-use Rattle.node_world.proofs.Words.{none_noted, refusal_in, sending_refused, site_at, world_step}
 use Rattle.node_world.proofs.HostsHear.{is_on, is_off, unchanged, begins_at_end, has_end, began, is_done, is_some_host, sending_off, sending_so, still_stands}
 use Rattle.node_world.proofs.LinesGo.{hosts_go, hosts_refused}
 use Rattle.node_world.proofs.host_lines.host_line.Goals as goal

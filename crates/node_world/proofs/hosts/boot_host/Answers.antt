@@ -1,5 +1,4 @@
-use Rattle.std.proofs.Common.{◌≡◌, ℕ, ◌≤◌, sym, ap, subst, ◌∙◌, arith}
-use Rattle.node_world.proofs.Words.{IsSoundMemory, count_of, kept_is, on_ok}
+use Rattle.node_world.proofs.Words.{IsSoundMemory, ap, arith, count_of, kept_is, on_ok, subst, sym, ℕ, ◌∙◌, ◌≡◌, ◌≤◌}
 use Rattle.node_world.proofs.HostsDo.{boots_here, runs_now, lost_power}
 use Rattle.node_world.proofs.hosts.boot_host.Goals as goal
 

@@ -1,6 +1,5 @@
-use Rattle.std.proofs.Common.{◌≡◌, ◌++◌, true, ap, sym, subst, ◌∙◌, refl}
-use Rattle.node_world.proofs.Words.{Host, Off, On, RunsAs, entries_for, exchanged, frames_out, memory_kept, node_memory, port_at, puts_entries}
-use Rattle.node_sites.specs.FramesOut.{SendsFrom}
+use Rattle.node_world.proofs.Words.{Host, Off, On, RunsAs, SendsFrom, ap, entries_for, exchanged, frames_out, memory_kept, node_memory, port_at, puts_entries}
+use Rattle.node_world.proofs.Words.{refl, subst, sym, true, ◌++◌, ◌∙◌, ◌≡◌}
 use Rattle.node_world.proofs.HostsDo.{has_gone_off, has_run_on, only_here}
 use Rattle.node_world.proofs.hosts.finish_host.Goals as goal
 

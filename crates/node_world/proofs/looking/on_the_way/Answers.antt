@@ -1,5 +1,4 @@
-use Rattle.std.proofs.Common.{length, sym, ap, ◌∙◌}
-use Rattle.node_world.proofs.Words.{Link, StandsAt, frames_to, link_is}
+use Rattle.node_world.proofs.Words.{Link, StandsAt, ap, frames_to, length, link_is, sym, ◌∙◌}
 use Rattle.node_world.proofs.HostsInWorlds.{reads, site_stands}
 use Rattle.node_world.proofs.looking.on_the_way.Goals as goal
 

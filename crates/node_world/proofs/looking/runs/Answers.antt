@@ -1,8 +1,4 @@
-use Rattle.std.proofs.Common.{rules, ◌≡◌, ◌==◌, false, get_or, sym, ap, ◌∙◌}
-use Rattle.std.specs.Prelude.{is_some}
-use Rattle.std.proofs.lemmas.Bool.{ne_eqb}
-use Rattle.node_world.proofs.Words.{StandsAt}
-use Rattle.node_sites.specs.Powers.{is_on}
+use Rattle.node_world.proofs.Words.{StandsAt, ap, false, get_or, is_on, is_some, ne_eqb, rules, sym, ◌==◌, ◌∙◌, ◌≡◌}
 use Rattle.node_world.proofs.HostsInWorlds.{reads, runs_alike, site_stands, node_there}
 use Rattle.node_world.proofs.looking.runs.Goals as goal
 

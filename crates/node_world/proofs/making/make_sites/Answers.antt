@@ -1,7 +1,5 @@
-use Rattle.std.proofs.Common.{◌≡◌, ℕ, ◌+◌, List, [], ◌∷◌, ◌++◌, get_or, map, take, ap, ◌∙◌}
-use Rattle.std.specs.Prelude.{replicate}
-use Rattle.std.proofs.lemmas.List.{take_more, take_all, map-append}
-use Rattle.node_world.proofs.Words.{Site, new_site}
+use Rattle.std.proofs.lemmas.List.{take_all, take_more}
+use Rattle.node_world.proofs.Words.{List, Site, [], ap, get_or, map, map-append, new_site, replicate, take, ℕ, ◌++◌, ◌+◌, ◌∙◌, ◌∷◌, ◌≡◌}
 use Rattle.node_world.proofs.SitesKept.{together}
 use Rattle.node_world.proofs.making.make_sites.Goals as goal
 

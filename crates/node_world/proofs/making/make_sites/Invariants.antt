@@ -1,6 +1,4 @@
-use Rattle.std.proofs.Common.{map, take}
-use Rattle.std.specs.Prelude.{replicate}
-use Rattle.node_world.proofs.Words.{SitesAre, new_site}
+use Rattle.node_world.proofs.Words.{SitesAre, map, new_site, replicate, take}
 use Rattle.node_world.proofs.making.make_sites.Given as goal
 
 -- so many hosts are made

@@ -1,8 +1,6 @@
-use Rattle.std.proofs.Common.{◌≡◌, ◌∙◌, sym, ap, ℕ, Bool, ◌==◌, arith}
-use Rattle.std.specs.List.{list_any}
+use Rattle.node_world.proofs.Words.{Bool, ap, arith, hosts_below, list_any, mask_of, sym, ℕ, ◌==◌, ◌∙◌, ◌≡◌}
 use Rattle.gate_admin.specs.View.{hosts_where}
-use Rattle.node_world.proofs.Words.{mask_of}
-use Rattle.gate_admin.proofs.ViewLemmas.{hosts_below, mask_of-taken, hosts_below-left, double}
+use Rattle.gate_admin.proofs.ViewLemmas.{double, hosts_below-left, mask_of-taken}
 use Rattle.node_world.proofs.making.mask_of.Goals as goal
 use Rattle.node_world.proofs.making.mask_of.Goals.{then-contains, else-contains}
 

@@ -1,7 +1,4 @@
-use Rattle.std.proofs.Common.{◌≡◌, ℕ, ◌<◌, ◌^◌, ◌==◌}
-use Rattle.std.specs.List.{list_any}
-use Rattle.node_world.proofs.Words.{mask_of}
-use Rattle.gate_admin.proofs.ViewLemmas.{hosts_below}
+use Rattle.node_world.proofs.Words.{hosts_below, list_any, mask_of, ℕ, ◌<◌, ◌==◌, ◌^◌, ◌≡◌}
 use Rattle.node_world.proofs.making.mask_of.Given as goal
 
 abbrev pub invariant-loop-host : goal.invariant-loop-host

@@ -1,12 +1,8 @@
-use Rattle.std.proofs.Common.{◌≡◌, ◌+◌, ℕ, true, false, List, ◌++◌, refl, ap, sym, subst, ◌∙◌, append_assoc, arith}
-use Rattle.std.specs.Prelude.{Some, None}
-use Rattle.std.specs.List.{AllByRecursion}
-use Rattle.std.proofs.lemmas.Result.{on_ok_weaker}
+use Rattle.node_world.proofs.Words.{Activates, AllByRecursion, Entry, FewBehind, HostSite, IsHost, IsThere, IsWithinBounds, List, MayGoOn, NodeWorld, None}
+use Rattle.node_world.proofs.Words.{Power, Some, Starts, WorldBecomes, activates, ap, append_assoc, arith, comes_at, end_c, end_h, false, if_off, is_running}
+use Rattle.node_world.proofs.Words.{on_ok_weaker, refl, subst, sym, true, ℕ, ◌++◌, ◌+◌, ◌∙◌, ◌≡◌}
 use Rattle.trace_model.specs.declared.entry.NoCause.TheVariants as no
 use Rattle.trace_model.specs.declared.line.Line.TheVariants as line
-use Rattle.node_world.proofs.Words.{Activates, Entry, FewBehind, HostSite, IsHost, IsThere, IsWithinBounds, MayGoOn, Power, Starts, WorldBecomes, comes_at}
-use Rattle.node_world.proofs.Words.{end_c, end_h, if_off, is_running}
-use Rattle.node_machine.specs.world.World.{NodeWorld, activates}
 use Rattle.node_laws.proofs.telling.Events.{comes_goes}
 use Rattle.node_world.proofs.HostsHear.{unrefused}
 use Rattle.node_world.proofs.FewInWorlds.{few_behind_coming, longer}

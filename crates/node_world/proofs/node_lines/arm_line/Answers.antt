@@ -1,12 +1,8 @@
-use Rattle.std.proofs.Common.{rules, ◌≡◌, ◌==◌, ◌<◌, ℕ, false, List, [], length, refl, ap, sym, subst, ◌∙◌, append-nil}
-use Rattle.std.specs.Prelude.{None}
 use Rattle.std.specs.List.{each_same}
-use Rattle.std.proofs.lemmas.Bool.{ne_eqb}
+use Rattle.node_world.proofs.Words.{Arms, ArrayVec, Entry, HostSite, LinePlayed, List, NodeWorld, None, Plan, Power, Site, StandsAt, WorldIs, [], ap}
+use Rattle.node_world.proofs.Words.{append-nil, false, length, line_step, link_to, memory_at, ne_eqb, refl, rules, site_at, subst, sym, with_site, world_step}
+use Rattle.node_world.proofs.Words.{ℕ, ◌<◌, ◌==◌, ◌∙◌, ◌≡◌}
 use Rattle.trace_model.specs.declared.line.Line.TheVariants as line
-use Rattle.node_world.proofs.Words.{Arms, Entry, HostSite, LinePlayed, Plan, Power, Site, StandsAt, WorldIs, line_step, link_to, memory_at, site_at}
-use Rattle.node_world.proofs.Words.{with_site, world_step}
-use Rattle.arrayvec.specs.ArrayVec.{ArrayVec}
-use Rattle.node_machine.specs.world.World.{NodeWorld}
 use Rattle.node_world.proofs.HostsInWorlds.{reads, site_stands, armed_in_world, armed, none_changed, found_becomes}
 use Rattle.node_world.proofs.LinesGo.{line_goes}
 use Rattle.node_world.proofs.node_lines.arm_line.Goals as goal

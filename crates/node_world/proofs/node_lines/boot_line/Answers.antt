@@ -1,11 +1,8 @@
-use Rattle.std.proofs.Common.{rules, ◌≡◌, ◌==◌, ℕ, Bool, true, false, List, length, refl, sym, subst, ◌∙◌}
-use Rattle.std.specs.Prelude.{None}
-use Rattle.std.proofs.lemmas.Bool.{ne_eqb}
-use Rattle.std.proofs.lemmas.Result.{on_ok_weaker}
+use Rattle.node_world.proofs.Words.{Bool, Boots, Entry, IsSoundMemory, List, None, Site, StandsAt, WorldBecomes, after_planned, boot_writes, boots}
+use Rattle.node_world.proofs.Words.{fails_within, false, host_boots, host_cut, is_running, length, ne_eqb, node_at, on_ok_weaker, refl, rules, subst, sym, true}
+use Rattle.node_world.proofs.Words.{ℕ, ◌==◌, ◌∙◌, ◌≡◌}
 use Rattle.trace_model.specs.declared.entry.NoCause.TheVariants as no
 use Rattle.trace_model.specs.declared.line.Line.TheVariants as line
-use Rattle.node_world.proofs.Words.{Boots, Entry, IsSoundMemory, Site, StandsAt, WorldBecomes, after_planned}
-use Rattle.node_world.proofs.Words.{boot_writes, boots, fails_within, host_boots, host_cut, is_running, node_at}
 use Rattle.node_world.proofs.HostsInWorlds.{is_host, nowhere, reads, site_stands, boots_in_world, memory_there, node_there, LeavesNear, cut_leaves}
 use Rattle.node_world.proofs.HostsInWorlds.{found_becomes}
 use Rattle.node_world.proofs.HostsDo.{boot_goes, boot_stops}

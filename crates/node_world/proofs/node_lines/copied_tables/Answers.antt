@@ -1,9 +1,5 @@
-use Rattle.std.proofs.Common.{rules, ◌≡◌, ◌==◌, ℕ, false, get_or}
-use Rattle.std.specs.Prelude.{Option}
 use Rattle.std.specs.Option.{option_map}
-use Rattle.std.proofs.lemmas.Bool.{ne_eqb}
-use Rattle.hci_tables.specs.Tables.{HciTables}
-use Rattle.node_world.proofs.Words.{Running, StandsAt}
+use Rattle.node_world.proofs.Words.{HciTables, Option, Running, StandsAt, false, get_or, ne_eqb, rules, ℕ, ◌==◌, ◌≡◌}
 use Rattle.node_world.proofs.HostsInWorlds.{reads, site_stands, node_there}
 use Rattle.node_world.proofs.node_lines.copied_tables.Goals as goal
 

@@ -1,11 +1,8 @@
-use Rattle.std.proofs.Common.{rules, ◌≡◌, ◌≢◌, ◌==◌, ◌++◌, ℕ, true, false, List, [], ◌∷◌, refl, sym, subst, ap, ◌∙◌}
-use Rattle.std.specs.Prelude.{None}
-use Rattle.std.proofs.lemmas.Bool.{ne_eqb}
-use Rattle.std.proofs.lemmas.Result.{on_ok_weaker}
+use Rattle.node_world.proofs.Words.{Entry, IsCut, List, None, StandsAt, WorldBecomes, [], ap, false, host_cut, is_running, ne_eqb, node_at, on_ok_weaker, refl}
+use Rattle.node_world.proofs.Words.{rules, subst, sym, true, world_step, ℕ, ◌++◌, ◌==◌, ◌∙◌, ◌∷◌, ◌≡◌, ◌≢◌}
 use Rattle.trace_model.specs.declared.entry.Entry.TheVariants as note
 use Rattle.trace_model.specs.declared.entry.NoCause.TheVariants as no
 use Rattle.trace_model.specs.declared.line.Line.TheVariants as line
-use Rattle.node_world.proofs.Words.{Entry, IsCut, StandsAt, WorldBecomes, host_cut, is_running, node_at, world_step}
 use Rattle.node_world.proofs.HostsInWorlds.{reads, site_stands, cut_in_world, node_nowhere, runs_so, cut_leaves, found_becomes}
 use Rattle.node_world.proofs.ControllersHear.{was_cut}
 use Rattle.node_world.proofs.HostsDo.{was_cut_off}

@@ -1,11 +1,8 @@
-use Rattle.std.proofs.Common.{List, [], ◌∷◌, ◌++◌, refl, sym, subst, ap, ◌∙◌}
-use Rattle.std.specs.Prelude.{Option, Some, None, option_map}
-use Rattle.std.proofs.lemmas.Result.{on_ok_weaker}
-use Rattle.node_world.proofs.Words.{AsksReset, Entry, ResetRefused, Resets, WorldBecomes, comes_at, if_accepted, if_off, is_running, node_of}
+use Rattle.node_world.proofs.Words.{AsksReset, Entry, List, None, Option, ResetRefused, Resets, Some, WorldBecomes, [], ap, comes_at, if_accepted, if_off}
+use Rattle.node_world.proofs.Words.{is_running, node_of, on_ok_weaker, option_map, refl, reset_noted, subst, sym, ◌++◌, ◌∙◌, ◌∷◌}
 use Rattle.trace_model.specs.declared.entry.Entry.TheVariants as note
 use Rattle.trace_model.specs.declared.line.Line.TheVariants as line
 use Rattle.trace_model.specs.declared.entry.NoCause.TheVariants as no
-use Rattle.node_world.specs.HostSteps.{reset_noted}
 use Rattle.node_world.proofs.LinesGo.{line_refused, off_is, first_is, within, is_there, world_goes, world_refused, reset_runs}
 use Rattle.node_world.proofs.node_lines.reset_line.Goals as goal
 

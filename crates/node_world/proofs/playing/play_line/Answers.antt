@@ -1,10 +1,5 @@
-use Rattle.std.proofs.Common.{rules, ◌≡◌, ℕ, List, ap, sym, subst, ◌∙◌}
-use Rattle.std.proofs.lemmas.Bool.{true≢false}
-use Rattle.std.proofs.lemmas.Result.{on_ok_weaker}
-use Rattle.std.specs.Prelude.{OnOk}
-use Rattle.node_world.proofs.Words.{line_step}
+use Rattle.node_world.proofs.Words.{HostsPlayed, List, OnOk, ap, is_damaging, line_step, on_ok_weaker, rules, subst, sym, true≢false, ℕ, ◌∙◌, ◌≡◌}
 use Rattle.trace_model.specs.declared.line.Line.TheVariants as line
-use Rattle.node_world.specs.Whole.{HostsPlayed, is_damaging}
 use Rattle.node_world.proofs.LinesGo.{is_there, within}
 use Rattle.node_world.proofs.HostsInWorlds.{init_played, never_busy, never_ready, never_settles, send_played}
 use Rattle.node_world.proofs.playing.play_line.Goals as goal

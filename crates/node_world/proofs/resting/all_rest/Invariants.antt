@@ -1,5 +1,4 @@
-use Rattle.node_machine.specs.world.World.{NodeWorld}
-use Rattle.node_world.proofs.Words.{AreTimely, MayGoOn, WorldIs}
+use Rattle.node_world.proofs.Words.{AreTimely, MayGoOn, NodeWorld, WorldIs}
 use Rattle.node_world.proofs.LinksRest.{RestSoFar}
 use Rattle.node_world.proofs.resting.all_rest.Given as goal
 

@@ -1,5 +1,4 @@
-use Rattle.std.proofs.Common.{◌≡◌, true}
-use Rattle.node_world.proofs.Words.{is_clear}
+use Rattle.node_world.proofs.Words.{is_clear, true, ◌≡◌}
 use Rattle.node_world.proofs.LinksRest.{clear, far_is, far_wire_stands, host_is_new, host_says, near_wire_stands, not_clear}
 use Rattle.node_world.proofs.resting.host_rests.Goals as goal
 

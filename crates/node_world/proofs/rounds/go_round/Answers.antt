@@ -1,7 +1,4 @@
-use Rattle.std.proofs.Common.{ℕ, ◌+◌, ◌*◌, ◌<◌, ◌≤◌, ◌∷◌, ap, length, arith}
-use Rattle.std.specs.Prelude.{slice_index_or}
-use Rattle.std.proofs.lemmas.Result.{on_ok_weaker}
-use Rattle.node_world.proofs.Words.{end_c, end_h, ends_in_order, ends_take_all}
+use Rattle.node_world.proofs.Words.{ap, arith, end_c, end_h, ends_in_order, ends_take_all, length, on_ok_weaker, slice_index_or, ℕ, ◌*◌, ◌+◌, ◌<◌, ◌∷◌, ◌≤◌}
 use Rattle.node_laws.proofs.rounds.Allowing.{ends_of}
 use Rattle.node_world.proofs.RoundsGo.{link_taken, may_take, next_link, round_gone, taken_next, taking_begins, taking_ends}
 use Rattle.node_world.proofs.rounds.go_round.Goals as goal

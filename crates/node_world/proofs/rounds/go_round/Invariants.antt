@@ -1,7 +1,4 @@
-use Rattle.std.proofs.Common.{◌≡◌, false}
-use Rattle.node_machine.specs.world.World.{NodeWorld}
-use Rattle.node_world.proofs.Words.{WorldIs}
-use Rattle.node_world.specs.Rounds.{MayTakeInOrder}
+use Rattle.node_world.proofs.Words.{MayTakeInOrder, NodeWorld, WorldIs, false, ◌≡◌}
 use Rattle.node_world.proofs.RoundsGo.{HaveTakenSo}
 use Rattle.node_world.proofs.rounds.go_round.Given as goal
 

@@ -1,5 +1,4 @@
-use Rattle.std.proofs.Common.{◌≡◌, ℕ, ◌<◌, ◌≤◌, true, false, ap, sym, ◌∙◌, arith, length}
-use Rattle.node_world.proofs.Words.{NextFrame, Takes, frames_at, is_running, node_of}
+use Rattle.node_world.proofs.Words.{NextFrame, Takes, ap, arith, false, frames_at, is_running, length, node_of, sym, true, ℕ, ◌<◌, ◌∙◌, ◌≡◌, ◌≤◌}
 use Rattle.node_world.proofs.HostsHear.{unrefused}
 use Rattle.node_world.proofs.RoundsGo.{few_on_way, again_begins, again_ends, again_goes, again_next, again_stops, bounds_again, hosts_come, there_still}
 use Rattle.node_world.proofs.rounds.take_all.Goals as goal

@@ -1,7 +1,4 @@
-use Rattle.std.proofs.Common.{◌≡◌, false}
-use Rattle.node_machine.specs.world.World.{NodeWorld}
-use Rattle.node_world.proofs.Words.{Takes, WorldIs}
-use Rattle.node_world.specs.Rounds.{MayTakeAll}
+use Rattle.node_world.proofs.Words.{MayTakeAll, NodeWorld, Takes, WorldIs, false, ◌≡◌}
 use Rattle.node_world.proofs.RoundsGo.{Again}
 use Rattle.node_world.proofs.rounds.take_all.Given as goal
 

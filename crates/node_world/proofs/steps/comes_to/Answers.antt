@@ -1,16 +1,9 @@
-use Rattle.std.proofs.Common.{◌≡◌, ◌==◌, ℕ, false, List, ap, refl, sym, subst, ◌∙◌, append-nil}
-use Rattle.std.specs.Prelude.{slice_index_or, slice_set, Option, Some, None, Ok}
-use Rattle.std.specs.List.{AllByRecursion}
 use Rattle.std.proofs.lemmas.Result.{IfOk-weaker}
-use Rattle.node_world.proofs.Words.{AreDifferent, BecomesUnless, Comes, End, Entry, HostSite, IsHost, IsNodePlace, Link, LinkInput, On, Power, ResetRefused}
-use Rattle.node_world.proofs.Words.{Running, StandsAt, Wires, WiresStandFor, WorldBecomes, as_comes, as_it_comes_to, comes_at, end_c, end_h, host_hears}
-use Rattle.node_world.proofs.Words.{if_accepted, link_to, machine_in, node_at, node_of, noted_behind, refusal_coming, session_at}
-use Rattle.history.specs.Follows.{seen_from}
-use Rattle.node_machine.specs.world.World.{NodeWorld}
-use Rattle.node_ends.specs.Inputs.{input_of_end}
-use Rattle.node_sites.specs.declared.incoming.Arrived.{Arrived}
-use Rattle.node_sites.specs.declared.incoming.Incoming.{Incoming}
-use Rattle.node_sites.specs.Arrivals.{ComesToEnd, MayArrive}
+use Rattle.node_world.proofs.Words.{AllByRecursion, AreDifferent, Arrived, BecomesUnless, Comes, ComesToEnd, End, Entry, HostSite, Incoming, IsHost}
+use Rattle.node_world.proofs.Words.{IsNodePlace, Link, LinkInput, List, MayArrive, NodeWorld, None, Ok, On, Option, Power, ResetRefused, Running, Some}
+use Rattle.node_world.proofs.Words.{StandsAt, Wires, WiresStandFor, WorldBecomes, ap, append-nil, as_comes, as_it_comes_to, comes_at, end_c, end_h, false}
+use Rattle.node_world.proofs.Words.{host_hears, if_accepted, input_of_end, link_to, machine_in, node_at, node_of, noted_behind, refl, refusal_coming, seen_from}
+use Rattle.node_world.proofs.Words.{session_at, slice_index_or, slice_set, subst, sym, ℕ, ◌==◌, ◌∙◌, ◌≡◌}
 use Rattle.node_world.proofs.HostsHear.{as_none, as_some, may_arrive, off_refuses_none, none_refused, wires_as_were, arrived_noted}
 use Rattle.node_world.proofs.ControllersHear.{place_is_on, place_is_off, comes_off, comes_none, hosts_as_it_comes, room_kept, resets_as_it_comes, wires_there}
 use Rattle.node_world.proofs.ControllersHear.{sites_with, sites_still}

@@ -1,7 +1,5 @@
-use Rattle.std.proofs.Common.{true, refl, sym, ap, ◌∙◌, arith}
-use Rattle.std.specs.Prelude.{Some, None, Ok, replicate}
-use Rattle.node_world.proofs.Words.{HostSite, Link, LinkInput, On, as_comes, exchanged, session_at}
-use Rattle.node_ends.specs.Inputs.{input_of_end}
+use Rattle.node_world.proofs.Words.{HostSite, Link, LinkInput, None, Ok, On, Some, ap, arith, as_comes, exchanged, input_of_end, refl, replicate, session_at}
+use Rattle.node_world.proofs.Words.{sym, true, ◌∙◌}
 use Rattle.node_world.proofs.HostsHear.{as_none, as_some, may_arrive, off_refuses_none, none_refused, wires_as_were, arrived_noted, is_on, is_off}
 use Rattle.node_world.proofs.HostsHear.{unchanged_as, hears_off, hears_none, begins_at_end, heard, is_done, refused_here, still_stands, may_start}
 use Rattle.node_world.proofs.ControllersHear.{come_resets}

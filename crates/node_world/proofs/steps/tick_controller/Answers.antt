@@ -1,6 +1,5 @@
-use Rattle.std.proofs.lemmas.Result.{IfOk-at_ok}
+use Rattle.node_world.proofs.Words.{IfOk-at_ok, link_to, none_noted, noted_behind}
 use Rattle.node_world.proofs.HostsHear.{done_always, done_so}
-use Rattle.node_world.proofs.Words.{link_to, none_noted, noted_behind}
 use Rattle.node_world.proofs.ControllersHear.{place_is_on, place_is_off}
 use Rattle.node_world.proofs.WorldsTick.{ticks_off, Ticked, mid_sites, tick_begins, numbered, tick_midway, tick_ends}
 use Rattle.node_world.proofs.steps.tick_controller.Goals as goal

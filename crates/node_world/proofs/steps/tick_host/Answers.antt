@@ -1,7 +1,4 @@
-use Rattle.std.proofs.Common.{refl, ap}
-use Rattle.std.specs.Prelude.{replicate}
-use Rattle.node_world.proofs.Words.{NoInput, none_noted}
-use Rattle.std.proofs.lemmas.Result.{IfOk-at_ok}
+use Rattle.node_world.proofs.Words.{IfOk-at_ok, NoInput, ap, none_noted, refl, replicate}
 use Rattle.node_world.proofs.HostsHear.{done_always, done_so, is_on, is_off, begins_at_end, ticked, is_done}
 use Rattle.node_world.proofs.HostsDo.{tick_off}
 use Rattle.node_world.proofs.steps.tick_host.Goals as goal

@@ -1,6 +1,4 @@
-use Rattle.std.proofs.Common.{◌≡◌, ℕ, ◌<◌, ◌≤◌, List, ◌++◌, ◌∷◌, length, map, ap, subst, arith}
-use Rattle.std.specs.Prelude.{slice_index_or}
-use Rattle.node_world.proofs.Words.{AreToTick, Site, near_ticks}
+use Rattle.node_world.proofs.Words.{AreToTick, List, Site, ap, arith, length, map, near_ticks, slice_index_or, subst, ℕ, ◌++◌, ◌<◌, ◌∷◌, ◌≡◌, ◌≤◌}
 use Rattle.node_world.specs.Whole.{IsToTick}
 use Rattle.node_world.proofs.WorldsTick.{older, older_world, older_timely, older_goes_on, older_resets, older_few, older_is, then_ticks, all_tick}
 use Rattle.node_world.proofs.WorldsTick.{hosts_may_tick, tick_of, tick_told, ticks_are}

@@ -1,5 +1,4 @@
-use Rattle.std.proofs.Common.{◌≡◌, List, false}
-use Rattle.node_world.proofs.Words.{AreToTick, Site, SitesAre}
+use Rattle.node_world.proofs.Words.{AreToTick, List, Site, SitesAre, false, ◌≡◌}
 use Rattle.node_world.proofs.SitesKept.{Walked}
 use Rattle.node_world.proofs.WorldsTick.{tick_of, tick_told}
 use Rattle.node_world.proofs.steps.tick_world.Given as goal

@@ -1,6 +1,4 @@
-use Rattle.std.proofs.Common.{◌+◌, ap, ◌∙◌}
-use Rattle.journal_laws.specs.Banks.{bank_place}
-use Rattle.journal_laws.specs.Operations.{bank_bytes}
+use Rattle.nv_journal.proofs.Words.{ap, bank_bytes, bank_place, ◌+◌, ◌∙◌}
 use Rattle.nv_journal.proofs.Compacting.{not_ok, made_at}
 use Rattle.nv_journal.proofs.banks.write_snapshot.Goals as goal
 

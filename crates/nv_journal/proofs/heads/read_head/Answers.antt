@@ -1,9 +1,8 @@
-use Rattle.std.proofs.Common.{◌≡◌, ℕ, ◌+◌, ◌-◌, List, [], ◌∷◌, length, take, drop, slice_index, slice_range, sym, refl, ap, ap₂, ◌∙◌, arith, take-take, w16}
+use Rattle.std.proofs.Common.{w16}
 use Rattle.std.proofs.Common.{w32}
-use Rattle.std.specs.Int.{from_be_bytes}
-use Rattle.journal_laws.specs.declared.banks.Side.{Side}
-use Rattle.journal_laws.specs.declared.state.Head.{Head}
-use Rattle.journal_laws.specs.Banks.{bank_place, bank, head_of}
+use Rattle.nv_journal.proofs.Words.{Head, List, Side, [], ap, ap₂, arith, bank, bank_place, drop, from_be_bytes, length, refl, slice_index, slice_range, sym}
+use Rattle.nv_journal.proofs.Words.{take, take-take, ℕ, ◌+◌, ◌-◌, ◌∙◌, ◌∷◌, ◌≡◌}
+use Rattle.journal_laws.specs.Banks.{head_of}
 use Rattle.nv_journal.proofs.heads.read_head.Goals as goal
 
 -- The head that is read of a bank.

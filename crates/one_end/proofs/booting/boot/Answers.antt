@@ -1,18 +1,11 @@
 -- A node boots that is to run alone.
-use Rattle.std.proofs.Common.{◌≡◌, ℕ, Bool, true, false, cond, List, [], ◌∷◌, map, refl, sym, ap, ◌∙◌, subst}
-use Rattle.std.specs.Prelude.{Some, None}
+use Rattle.one_end.proofs.Words.{Bool, Core, HasBooted, List, Lone, Memory, Node, None, RunsAlone, Some, [], ap, cond, false, found_in_memory, map}
+use Rattle.one_end.proofs.Words.{new_link_end, refl, role_alone, subst, sym, true, ℕ, ◌∙◌, ◌∷◌, ◌≡◌}
 use Rattle.gate_admin.specs.View.{hosts_where}
-use Rattle.swp_base.specs.InMemory.{Memory}
-use Rattle.link_laws.specs.machine.Machine.{new_link_end}
-use Rattle.node_machine.specs.Parts.{Core}
 use Rattle.node_machine.specs.Node.{new_desk}
-use Rattle.node_core.specs.declared.node.Node.{Node}
-use Rattle.node_core.specs.Booting.{found_in_memory, role_at, hosts_linked}
+use Rattle.node_core.specs.Booting.{hosts_linked, role_at}
 use Rattle.node_core.specs.Running.{RunsAs, core_kept}
 use Rattle.node_ends.specs.Making.{new_port}
-use Rattle.lone_laws.specs.alone.Lone.{Lone, role_alone}
-use Rattle.one_end.specs.Alone.{RunsAlone}
-use Rattle.one_end.specs.Standing.{HasBooted}
 use Rattle.one_end.proofs.booting.boot.Goals.{then-is_clf, else-is_clf}
 use Rattle.one_end.proofs.booting.boot.Goals as goal
 

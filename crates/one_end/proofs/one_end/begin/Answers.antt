@@ -1,10 +1,6 @@
 -- A node begins.
-use Rattle.std.proofs.Common.{◌≡◌, ◌∙◌, ◌==◌, [], map, ap, sym, subst}
-use Rattle.lone_laws.specs.alone.Ends.{first_comes}
-use Rattle.one_end.specs.declared.one_end.OneEnd.{OneEnd}
-use Rattle.one_end.specs.Running.{cause_of, all_answered, HasAnswered, RunsYet}
-use Rattle.one_end.specs.Standing.{IsAlone}
-use Rattle.one_end.specs.Writing.{form_named}
+use Rattle.one_end.proofs.Words.{HasAnswered, IsAlone, OneEnd, RunsYet, [], all_answered, ap, cause_of, first_comes, form_named, map, subst, sym, ◌==◌, ◌∙◌}
+use Rattle.one_end.proofs.Words.{◌≡◌}
 use Rattle.one_end.proofs.Running.{over, stands_as, same_causes, has_begun}
 use Rattle.one_end.proofs.one_end.begin.Goals as goal
 

@@ -1,8 +1,5 @@
 -- Bytes come, of which the last may bring something.
-use Rattle.std.proofs.Common.{◌≡◌, ◌∙◌, [], List, ℕ, map, take, refl, ap, sym}
-use Rattle.lone_laws.specs.alone.Ends.{bytes_bring}
-use Rattle.one_end.specs.Running.{cause_of}
-use Rattle.one_end.specs.Writing.{form_named}
+use Rattle.one_end.proofs.Words.{List, [], ap, bytes_bring, cause_of, form_named, map, refl, sym, take, ℕ, ◌∙◌, ◌≡◌}
 use Rattle.one_end.proofs.Running.{none_came, heard_so}
 use Rattle.one_end.proofs.Bringing.{nothing_brought}
 use Rattle.one_end.proofs.one_end.hear_in_parts.Goals as goal

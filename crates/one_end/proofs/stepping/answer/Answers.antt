@@ -1,8 +1,6 @@
 -- What comes, and the reset behind it.
-use Rattle.std.proofs.Common.{◌≡◌, ◌∙◌, Bool, None, true, false, sym, subst, arith}
-use Rattle.one_end.specs.Running.{cause_of, does_alone, HasAnswered, RunsYet, RunsReady}
-use Rattle.one_end.specs.Writing.{form_named}
-use Rattle.lone_laws.specs.alone.Lone.LoneCause.{ResetComes}
+use Rattle.one_end.proofs.Words.{Bool, HasAnswered, None, ResetComes, RunsReady, RunsYet, arith, cause_of, does_alone, false, form_named, subst, sym, true, ◌∙◌}
+use Rattle.one_end.proofs.Words.{◌≡◌}
 use Rattle.one_end.proofs.Alone.{reset_taken}
 use Rattle.one_end.proofs.Running.{over, as_yet, stopped_then, without_reset, with_reset}
 use Rattle.std.proofs.lemmas.Bool.{not-true, not-false}

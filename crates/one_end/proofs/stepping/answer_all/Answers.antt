@@ -1,9 +1,7 @@
 -- One after another comes.
-use Rattle.std.proofs.Common.{◌≡◌, ◌≤◌, ◌+◌, ◌∙◌, ◌++◌, ◌∷◌, Bool, true, false, [], ℕ, length, map, take, drop, refl, sym, ap, subst, arith, take_all}
-use Rattle.lone_laws.specs.alone.Lone.{Lone}
-use Rattle.one_end.specs.Alone.{RunsAlone}
-use Rattle.one_end.specs.Running.{cause_of, answers_alone, all_answered, HasAnswered, RunsYet}
-use Rattle.one_end.specs.Writing.{form_named}
+use Rattle.std.proofs.Common.{take_all}
+use Rattle.one_end.proofs.Words.{Bool, HasAnswered, Lone, RunsAlone, RunsYet, [], all_answered, answers_alone, ap, arith, cause_of, drop, false, form_named}
+use Rattle.one_end.proofs.Words.{length, map, refl, subst, sym, take, true, ℕ, ◌++◌, ◌+◌, ◌∙◌, ◌∷◌, ◌≡◌, ◌≤◌}
 use Rattle.one_end.proofs.Running.{over, none_came, one_more, stopped_with, next_of, parts_of}
 use Rattle.one_end.proofs.stepping.answer_all.Goals as goal
 

@@ -1,9 +1,5 @@
 -- The first of them came.
-use Rattle.std.proofs.Common.{◌≡◌, ◌≤◌, ◌+◌, ◌*◌, false, [], length, map, take}
-use Rattle.lone_laws.specs.alone.Lone.{Lone}
-use Rattle.one_end.specs.Alone.{RunsAlone}
-use Rattle.one_end.specs.Running.{cause_of, all_answered, HasAnswered, RunsYet}
-use Rattle.one_end.specs.Writing.{form_named}
+use Rattle.one_end.proofs.Words.{HasAnswered, Lone, RunsAlone, RunsYet, [], all_answered, cause_of, false, form_named, length, map, take, ◌*◌, ◌+◌, ◌≡◌, ◌≤◌}
 use Rattle.one_end.proofs.Running.{over}
 use Rattle.one_end.proofs.stepping.answer_all.Given as goal
 

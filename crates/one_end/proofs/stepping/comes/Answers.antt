@@ -1,8 +1,5 @@
 -- What comes is a step, or a frame that is refused.
-use Rattle.std.proofs.Common.{◌∷◌, [], ap}
-use Rattle.hci_store.specs.Stored.{Stored}
-use Rattle.lone_laws.specs.alone.Lone.LoneCause.{TickComes, StartComes, StopComes}
-use Rattle.one_end.specs.Writing.{form_named}
+use Rattle.one_end.proofs.Words.{StartComes, StopComes, Stored, TickComes, [], ap, form_named, ◌∷◌}
 use Rattle.one_end.proofs.Alone.{tick_taken, start_taken, stop_taken, answers_refused}
 use Rattle.one_end.proofs.stepping.comes.Goals as goal
 

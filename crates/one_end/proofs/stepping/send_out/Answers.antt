@@ -1,9 +1,5 @@
 -- Frames go out one after another.
-use Rattle.std.proofs.Common.{◌≡◌, ◌∙◌, ◌==◌, ◌∷◌, [], List, append-nil, refl, sym, ap, subst, arith}
-use Rattle.swp_base.specs.declared.control_frames.Control.{Control}
-use Rattle.lone_laws.specs.alone.Lone.{Lone}
-use Rattle.one_end.specs.Alone.{RunsAlone}
-use Rattle.one_end.specs.Writing.{form_named}
+use Rattle.one_end.proofs.Words.{Control, List, Lone, RunsAlone, [], ap, append-nil, arith, form_named, refl, subst, sym, ◌==◌, ◌∙◌, ◌∷◌, ◌≡◌}
 use Rattle.one_end.proofs.Alone.{sends_first, HasSent, HasSentFirst, all_sent, sent_most, one_sent, left_then}
 use Rattle.one_end.proofs.stepping.send_out.Goals as goal
 

@@ -1,7 +1,5 @@
 -- Frames go out one after another.
-use Rattle.std.proofs.Common.{◌≡◌}
-use Rattle.one_end.specs.Alone.{RunsAlone}
-use Rattle.one_end.specs.Writing.{form_named}
+use Rattle.one_end.proofs.Words.{RunsAlone, form_named, ◌≡◌}
 use Rattle.one_end.proofs.Alone.{Sends}
 use Rattle.one_end.proofs.stepping.send_out.Given as goal
 

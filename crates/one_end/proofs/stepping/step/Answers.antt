@@ -1,10 +1,6 @@
 -- A step, and the frames that go out behind it.
-use Rattle.std.proofs.Common.{◌≡◌, ◌∙◌, ◌==◌, ◌++◌, ◌∷◌, true, false, not, [], sym, ap, subst, append-nil}
-use Rattle.std.specs.Prelude.{◌&&◌, Some, None}
-use Rattle.std.proofs.lemmas.Bool.{true≢false}
-use Rattle.hci_store.specs.Stored.{Stored}
-use Rattle.one_end.specs.Running.{frames_written, does_alone, HasAnswered, RunsReady}
-use Rattle.one_end.specs.Writing.{form_named}
+use Rattle.one_end.proofs.Words.{HasAnswered, None, RunsReady, Some, Stored, [], ap, append-nil, does_alone, false, form_named, frames_written, not, subst, sym}
+use Rattle.one_end.proofs.Words.{true, true≢false, ◌&&◌, ◌++◌, ◌==◌, ◌∙◌, ◌∷◌, ◌≡◌}
 use Rattle.one_end.proofs.Alone.{may_step, steps_alone, asks_so, ran_alike}
 use Rattle.one_end.proofs.Running.{stepped_ready, over}
 use Rattle.one_end.proofs.stepping.step.Goals as goal

@@ -1,6 +1,5 @@
 -- A frame that comes is a step.
-use Rattle.std.proofs.Common.{refl}
-use Rattle.lone_laws.specs.alone.Lone.LoneCause.{FrameComes}
+use Rattle.one_end.proofs.Words.{FrameComes, refl}
 use Rattle.one_end.proofs.Alone.{frame_taken, frame_at_end}
 use Rattle.one_end.proofs.stepping.take.Goals as goal
 

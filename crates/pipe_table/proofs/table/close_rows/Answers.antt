@@ -1,5 +1,4 @@
-use Rattle.std.proofs.Common.{false, refl, arith}
-use Rattle.pipe_table.specs.PipeRows.{as_opened}
+use Rattle.pipe_table.proofs.Words.{arith, as_opened, false, refl}
 use Rattle.pipe_table.proofs.TableLemmas.{changed_more}
 use Rattle.pipe_table.proofs.table.close_rows.Goals as goal
 

@@ -1,5 +1,4 @@
-use Rattle.std.proofs.Common.{◌≡◌, ◌++◌, take, drop}
-use Rattle.pipe_table.specs.PipeRows.{all_closed}
+use Rattle.pipe_table.proofs.Words.{all_closed, drop, take, ◌++◌, ◌≡◌}
 use Rattle.pipe_table.proofs.table.close_rows.Given as goal
 
 abbrev pub invariant-loop-row : goal.invariant-loop-row

@@ -1,10 +1,6 @@
-use Rattle.std.proofs.Common.{◌≡◌, ◌≤◌, List, length, slice_set, length-set, subst, ap, ◌∙◌, arith, lit<}
-use Rattle.std.specs.Prelude.{Ok, Err}
-use Rattle.arrayvec.proofs.ArrayVecLemmas.{items-with_items}
-use Rattle.sorted_rows.specs.Rows.{IsPlace}
+use Rattle.std.proofs.Common.{length-set, lit<}
+use Rattle.pipe_table.proofs.Words.{Err, IsPlace, List, Ok, PipeRow, ap, arith, items-with_items, length, pid_of, slice_set, subst, ◌∙◌, ◌≡◌, ◌≤◌}
 use Rattle.sorted_rows.proofs.PlaceLemmas.{set-is_put, insert-is_put, room-at_gap}
-use Rattle.pipe_table.specs.declared.row.PipeRow.{PipeRow}
-use Rattle.pipe_table.specs.PipeRows.{pid_of}
 use Rattle.pipe_table.proofs.table.put.Goals as goal
 
 pub insert-requires : goal.insert-requires

@@ -1,6 +1,4 @@
-use Rattle.std.proofs.Common.{sym}
-use Rattle.sorted_rows.proofs.PlaceLemmas.{row_of-at_place, row_of-at_gap}
-use Rattle.pipe_table.specs.PipeRows.{pid_of}
+use Rattle.pipe_table.proofs.Words.{pid_of, row_of-at_gap, row_of-at_place, sym}
 use Rattle.pipe_table.proofs.table.row_of.Goals as goal
 
 pub returns-in-Ok : goal.returns-in-Ok

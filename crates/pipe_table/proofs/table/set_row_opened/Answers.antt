@@ -1,8 +1,5 @@
-use Rattle.std.proofs.Common.{slice_set, refl, sym, ap, ◌∙◌}
-use Rattle.std.specs.Prelude.{is_some}
-use Rattle.sorted_rows.proofs.PlaceLemmas.{set-is_map, map-at_gap, row_of-at_place, row_of-at_gap}
-use Rattle.pipe_table.specs.declared.row.PipeRow.{PipeRow}
-use Rattle.pipe_table.specs.PipeRows.{pid_of, as_opened}
+use Rattle.pipe_table.proofs.Words.{PipeRow, ap, as_opened, is_some, pid_of, refl, row_of-at_gap, row_of-at_place, slice_set, sym, ◌∙◌}
+use Rattle.sorted_rows.proofs.PlaceLemmas.{map-at_gap, set-is_map}
 use Rattle.pipe_table.proofs.table.set_row_opened.Goals as goal
 
 pub returns-in-Ok-clause-set : goal.returns-in-Ok-clause-set

@@ -1,9 +1,5 @@
-use Rattle.std.proofs.Common.{List, refl, sym, subst, ap, ◌∙◌}
-use Rattle.std.specs.Prelude.{Ok, Err, is_some}
-use Rattle.sorted_rows.specs.Rows.{IsPlace}
-use Rattle.sorted_rows.proofs.PlaceLemmas.{remove-is_taken_out, without_row-at_gap, row_of-at_place, row_of-at_gap}
-use Rattle.pipe_table.specs.declared.row.PipeRow.{PipeRow}
-use Rattle.pipe_table.specs.PipeRows.{pid_of}
+use Rattle.pipe_table.proofs.Words.{Err, IsPlace, List, Ok, PipeRow, ap, is_some, pid_of, refl, row_of-at_gap, row_of-at_place, subst, sym, ◌∙◌}
+use Rattle.sorted_rows.proofs.PlaceLemmas.{remove-is_taken_out, without_row-at_gap}
 use Rattle.pipe_table.proofs.table.take_out.Goals as goal
 
 pub returns-in-Ok-clause-removed : goal.returns-in-Ok-clause-removed

@@ -1,7 +1,5 @@
 -- One word that fits its kind.
-use Rattle.std.proofs.Common.{◌≡◌, ◌-◌, List, ℕ, [], ◌∷◌, Some, length, take, drop, sym, ◌∙◌, arith}
-use Rattle.schedule_text.specs.Words.{words}
-use Rattle.schedule_text.specs.Values.{end_value}
+use Rattle.schedule_text.proofs.Names.{List, Some, [], arith, drop, end_value, length, sym, take, words, ℕ, ◌-◌, ◌∙◌, ◌∷◌, ◌≡◌}
 use Rattle.schedule_text.proofs.AtOnceLemmas.{end_alone, delivers, loses, resets, readies}
 use Rattle.schedule_text.proofs.at_once.end_at_once.Goals.{Then-knows}
 use Rattle.schedule_text.proofs.at_once.end_at_once.Goals as goal

@@ -1,10 +1,8 @@
 -- A line that is read is one that may stand below the header.
-use Rattle.std.proofs.Common.{rules, ◌≡◌, Some, None, Ok}
-use Rattle.std.specs.Prelude.{IfSome}
 use Rattle.std.proofs.lemmas.Option.{IfSome_then}
+use Rattle.schedule_text.proofs.Names.{IfSome, None, Ok, Some, line_of, rules, ◌≡◌}
 use Rattle.trace_model.specs.declared.line.Line.TheVariants as line
 use Rattle.schedule_text.specs.declared.read.Read.TheVariants as read
-use Rattle.schedule_text.specs.Lines.{line_of}
 use Rattle.schedule_text.proofs.LinesLemmas.{line_fits}
 use Rattle.schedule_text.proofs.at_once.read_at_once.Goals as goal
 

@@ -1,9 +1,6 @@
 -- Three words that fit their kinds.
-use Rattle.std.proofs.Common.{◌≡◌, ◌-◌, List, ℕ, true, not, ◌||◌, [], ◌∷◌, Some, arith, refl, sym, ◌∙◌, length, take, drop, get_or}
-use Rattle.std.proofs.lemmas.Grind.{common_steps}
-use Rattle.trace_model.specs.declared.line.End.{End}
-use Rattle.schedule_text.specs.Words.{words}
-use Rattle.schedule_text.specs.Values.{end_value, byte_value, side_value}
+use Rattle.schedule_text.proofs.Names.{End, List, Some, [], arith, byte_value, common_steps, drop, end_value, get_or, length, not, refl, side_value, sym, take}
+use Rattle.schedule_text.proofs.Names.{true, words, ℕ, ◌-◌, ◌||◌, ◌∙◌, ◌∷◌, ◌≡◌}
 use Rattle.schedule_text.proofs.AtOnceLemmas.{sends, send_words, message_sizes}
 use Rattle.schedule_text.proofs.at_once.send_at_once.Goals.{then-header, else-header}
 use Rattle.schedule_text.proofs.at_once.send_at_once.Goals as goal

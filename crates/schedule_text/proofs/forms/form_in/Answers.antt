@@ -1,7 +1,4 @@
-use Rattle.std.proofs.Common.{ap, ◌∙◌}
-use Rattle.std.specs.Option.{option_map}
-use Rattle.schedule_text.specs.Words.{words}
-use Rattle.schedule_text.specs.Forms.{row_of_form}
+use Rattle.schedule_text.proofs.Names.{ap, option_map, row_of_form, words, ◌∙◌}
 use Rattle.schedule_text.proofs.FormsLemmas.{row-find}
 use Rattle.schedule_text.proofs.forms.form_in.Goals as goal
 

@@ -1,6 +1,4 @@
-use Rattle.std.proofs.Common.{◌≡◌, take}
-use Rattle.std.specs.List.{list_all}
-use Rattle.hex.specs.Hex.{is_hex_digit}
+use Rattle.schedule_text.proofs.Names.{is_hex_digit, list_all, take, ◌≡◌}
 use Rattle.schedule_text.proofs.pairs.all_hex.Given as goal
 
 abbrev pub invariant-loop-digit : goal.invariant-loop-digit

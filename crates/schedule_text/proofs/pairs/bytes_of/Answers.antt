@@ -1,6 +1,5 @@
 -- The digits that were read are a front of all.
-use Rattle.std.proofs.Common.{◌≡◌, length, eqb-true, ◌++◌, sym, ap, ap₂, ◌∙◌, subst, append_assoc, take-append-drop}
-use Rattle.schedule_text.specs.Pairs.{IsPairs}
+use Rattle.schedule_text.proofs.Names.{IsPairs, ap, append_assoc, ap₂, eqb-true, length, subst, sym, take-append-drop, ◌++◌, ◌∙◌, ◌≡◌}
 use Rattle.schedule_text.proofs.PairsLemmas.{pairs_append, pairs_next, pairs_all}
 use Rattle.schedule_text.proofs.pairs.bytes_of.Goals as goal
 

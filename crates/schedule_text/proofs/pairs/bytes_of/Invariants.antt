@@ -1,5 +1,4 @@
-use Rattle.std.proofs.Common.{◌≡◌, List, ℕ, ◌++◌, length}
-use Rattle.schedule_text.specs.Pairs.{IsPairs}
+use Rattle.schedule_text.proofs.Names.{IsPairs, List, length, ℕ, ◌++◌, ◌≡◌}
 use Rattle.schedule_text.proofs.pairs.bytes_of.Given as goal
 
 -- the bytes are those of a front of the digits

@@ -1,9 +1,7 @@
 -- The byte of the next two digits.
-use Rattle.std.proofs.Common.{◌+◌, ◌*◌, ◌<◌, refl, sym, ◌∙◌, subst, arith, take, slice_index, length-set}
 use Rattle.std.proofs.lemmas.List.{take_more_set}
-use Rattle.std.proofs.lemmas.List.Sums.{AllPass-from_list_all}
-use Rattle.hex.specs.Hex.{is_hex_digit}
-use Rattle.schedule_text.specs.Pairs.{IsPair, IsPairs}
+use Rattle.schedule_text.proofs.Names.{AllPass-from_list_all, IsPair, IsPairs, arith, is_hex_digit, length-set, refl, slice_index, subst, sym, take, ◌*◌, ◌+◌}
+use Rattle.schedule_text.proofs.Names.{◌<◌, ◌∙◌}
 use Rattle.schedule_text.proofs.PairsLemmas.{pairs_more}
 use Rattle.schedule_text.proofs.pairs.many_bytes.Goals as goal
 

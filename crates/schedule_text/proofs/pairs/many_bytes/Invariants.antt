@@ -1,5 +1,4 @@
-use Rattle.std.proofs.Common.{◌≡◌, ◌*◌, length, take}
-use Rattle.schedule_text.specs.Pairs.{IsPairs}
+use Rattle.schedule_text.proofs.Names.{IsPairs, length, take, ◌*◌, ◌≡◌}
 use Rattle.schedule_text.proofs.pairs.many_bytes.Given as goal
 
 -- the bytes of a front of the digits are made

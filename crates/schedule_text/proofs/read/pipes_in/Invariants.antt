@@ -1,8 +1,4 @@
-use Rattle.std.proofs.Common.{◌≡◌, ◌+◌, ◌≤◌, ◌++◌, length}
-use Rattle.std.specs.Option.{option_map}
-use Rattle.schedule_text.specs.Words.{words}
-use Rattle.schedule_text.specs.Values.{sized_value}
-use Rattle.schedule_text.specs.Lines.{each_word}
+use Rattle.schedule_text.proofs.Names.{each_word, length, option_map, sized_value, words, ◌++◌, ◌+◌, ◌≡◌, ◌≤◌}
 use Rattle.schedule_text.proofs.read.pipes_in.Given as goal
 
 abbrev pub invariant-words : goal.invariant-words

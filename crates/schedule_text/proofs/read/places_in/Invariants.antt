@@ -1,7 +1,4 @@
-use Rattle.std.proofs.Common.{◌≡◌, ◌+◌, ◌≤◌, ◌++◌, length}
-use Rattle.std.specs.Option.{option_map}
-use Rattle.schedule_text.specs.Words.{words}
-use Rattle.schedule_text.specs.Lines.{bit_places}
+use Rattle.schedule_text.proofs.Names.{bit_places, length, option_map, words, ◌++◌, ◌+◌, ◌≡◌, ◌≤◌}
 use Rattle.schedule_text.proofs.read.places_in.Given as goal
 
 abbrev pub invariant-words : goal.invariant-words

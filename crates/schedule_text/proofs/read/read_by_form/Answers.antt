@@ -1,6 +1,4 @@
-use Rattle.std.proofs.Common.{sym, ◌∙◌}
-use Rattle.schedule_text.specs.Words.{words}
-use Rattle.schedule_text.specs.Forms.{row_of_form}
+use Rattle.schedule_text.proofs.Names.{row_of_form, sym, words, ◌∙◌}
 use Rattle.schedule_text.proofs.LinesLemmas.{can_be_read}
 use Rattle.schedule_text.proofs.read.read_by_form.Goals as goal
 

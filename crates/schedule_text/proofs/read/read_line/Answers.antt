@@ -1,8 +1,6 @@
-use Rattle.std.proofs.Common.{sym, subst, arith}
 use Rattle.std.specs.Option.{option_copied}
+use Rattle.schedule_text.proofs.Names.{arith, row_for, subst, sym, words}
 use Rattle.schedule_text.specs.declared.fault.LineFault.TheVariants as fault
-use Rattle.schedule_text.specs.Words.{words}
-use Rattle.schedule_text.specs.Forms.{row_for}
 use Rattle.schedule_text.specs.Answers.{IsInGrammar, IsOutOfOrder, IsSkipped}
 use Rattle.schedule_text.proofs.FaultsLemmas.{not_too_long, order_iff, same_fault, answer_fits}
 use Rattle.schedule_text.proofs.LinesLemmas.{row_fits, never_skipped}

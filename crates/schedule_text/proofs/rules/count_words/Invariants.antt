@@ -1,5 +1,4 @@
-use Rattle.std.proofs.Common.{◌≡◌, ◌+◌, ◌≤◌, length}
-use Rattle.schedule_text.specs.Words.{words}
+use Rattle.schedule_text.proofs.Names.{length, words, ◌+◌, ◌≡◌, ◌≤◌}
 use Rattle.schedule_text.proofs.rules.count_words.Given as goal
 
 abbrev pub invariant-words : goal.invariant-words

@@ -1,8 +1,4 @@
-use Rattle.std.proofs.Common.{◌≡◌, ◌+◌, ◌≤◌, ◌&&◌, length}
-use Rattle.std.specs.List.{list_all}
-use Rattle.std.specs.Option.{option_or}
-use Rattle.schedule_text.specs.Words.{words}
-use Rattle.schedule_text.specs.Rules.{slots, has_shape, first_digits_fault, first_host_fault}
+use Rattle.schedule_text.proofs.Names.{first_digits_fault, first_host_fault, has_shape, length, list_all, option_or, slots, words, ◌&&◌, ◌+◌, ◌≡◌, ◌≤◌}
 use Rattle.schedule_text.proofs.rules.look_over.Given as goal
 
 abbrev pub invariant-words : goal.invariant-words

@@ -1,5 +1,4 @@
-use Rattle.std.proofs.Common.{◌≡◌, ◌*◌, ◌++◌, length, take, drop}
-use Rattle.hex.specs.Hex.{encode_upper}
+use Rattle.schedule_text.proofs.Names.{drop, encode_upper, length, take, ◌*◌, ◌++◌, ◌≡◌}
 use Rattle.schedule_text.proofs.text.write_digits.Given as goal
 
 -- the digits of a front of the bytes are written

@@ -1,6 +1,4 @@
-use Rattle.std.proofs.Common.{List, ℕ, ◌++◌, take}
-use Rattle.schedule_text.specs.Entries.{entry_lines}
-use Rattle.schedule_text.specs.Growth.{Start, HoldsText}
+use Rattle.schedule_text.proofs.Names.{HoldsText, List, Start, entry_lines, take, ℕ, ◌++◌}
 use Rattle.schedule_text.proofs.write.write_each.Given as goal
 
 -- the entries so far stand behind the text

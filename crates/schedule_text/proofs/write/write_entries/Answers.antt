@@ -1,9 +1,5 @@
 -- The text stands behind what there was, or it is as it was.
-use Rattle.std.proofs.Common.{[], ◌∙◌, refl, length, subst}
-use Rattle.std.proofs.lemmas.List.{take_at}
-use Rattle.std.proofs.lemmas.Result.{on_ok_weaker, on_err_weaker}
-use Rattle.schedule_text.specs.Entries.{entry_lines}
-use Rattle.schedule_text.specs.Growth.{start_in, HoldsText}
+use Rattle.schedule_text.proofs.Names.{HoldsText, [], entry_lines, length, on_err_weaker, on_ok_weaker, refl, start_in, subst, take_at, ◌∙◌}
 use Rattle.schedule_text.proofs.write.write_entries.Goals as goal
 
 whole : (c : goal.After-finish) → HoldsText (start_in c.args.out.now.items) (entry_lines c.args.entries.now) c.write_each.new.text

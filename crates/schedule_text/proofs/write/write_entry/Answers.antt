@@ -1,8 +1,5 @@
 -- The text of the entry stands behind what there was.
-use Rattle.std.proofs.Common.{◌≡◌, ℕ, List, [], ◌++◌, ◌∙◌, ap, subst}
-use Rattle.std.proofs.lemmas.Result.{on_ok_weaker}
-use Rattle.schedule_text.specs.Entries.{entry_line}
-use Rattle.schedule_text.specs.Growth.{start_in, all_text, HoldsText}
+use Rattle.schedule_text.proofs.Names.{HoldsText, List, [], all_text, ap, entry_line, on_ok_weaker, start_in, subst, ℕ, ◌++◌, ◌∙◌, ◌≡◌}
 use Rattle.schedule_text.proofs.write.write_entry.Goals as goal
 
 pub returns-clause-ok : goal.returns-clause-ok

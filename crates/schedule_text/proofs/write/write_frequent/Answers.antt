@@ -1,8 +1,4 @@
-use Rattle.std.proofs.Common.{[], ◌∷◌, codes, subst}
-use Rattle.std.specs.Fmt.{decimal}
-use Rattle.hex.specs.Hex.{encode_upper}
-use Rattle.schedule_text.specs.Growth.{HoldsWords}
-use Rattle.schedule_text.specs.Entries.{end_text, byte_text}
+use Rattle.schedule_text.proofs.Names.{HoldsWords, [], byte_text, codes, decimal, encode_upper, end_text, subst, ◌∷◌}
 use Rattle.schedule_text.proofs.write.write_frequent.Goals as goal
 
 pub returns-in-Acked : goal.returns-in-Acked

@@ -1,9 +1,4 @@
-use Rattle.std.proofs.Common.{[], ◌∷◌, ◌++◌, codes, subst, append_assoc}
-use Rattle.std.specs.Fmt.{decimal}
-use Rattle.hex.specs.Hex.{encode_upper}
-use Rattle.schedule_text.specs.Words.{spaced}
-use Rattle.schedule_text.specs.Growth.{HoldsWords}
-use Rattle.schedule_text.specs.Entries.{end_text, byte_text, number_words}
+use Rattle.schedule_text.proofs.Names.{HoldsWords, [], append_assoc, byte_text, codes, decimal, encode_upper, end_text, number_words, spaced, subst, ◌++◌, ◌∷◌}
 use Rattle.schedule_text.proofs.GrowthLemmas.{holds_spaced, two_more, four_more}
 use Rattle.schedule_text.proofs.write.write_line.Goals as goal
 

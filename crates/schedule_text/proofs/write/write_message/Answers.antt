@@ -1,6 +1,4 @@
-use Rattle.std.proofs.Common.{[], ◌∷◌}
-use Rattle.std.specs.Fmt.{decimal}
-use Rattle.schedule_text.specs.Entries.{end_text}
+use Rattle.schedule_text.proofs.Names.{[], decimal, end_text, ◌∷◌}
 use Rattle.schedule_text.proofs.write.write_message.Goals as goal
 
 pub returns : goal.returns

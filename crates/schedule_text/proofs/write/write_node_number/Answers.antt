@@ -1,5 +1,4 @@
-use Rattle.std.proofs.Common.{[], ◌∷◌}
-use Rattle.schedule_text.specs.Entries.{byte_text}
+use Rattle.schedule_text.proofs.Names.{[], byte_text, ◌∷◌}
 use Rattle.schedule_text.proofs.write.write_node_number.Goals as goal
 
 pub returns : goal.returns

@@ -1,7 +1,5 @@
-use Rattle.std.proofs.Common.{◌≡◌, [], ◌∷◌, ◌++◌, codes, subst, append_assoc}
+use Rattle.schedule_text.proofs.Names.{HoldsWords, [], append_assoc, byte_text, codes, subst, ◌++◌, ◌∷◌, ◌≡◌}
 use Rattle.tables_text.specs.Tables.{hex_or_dash}
-use Rattle.schedule_text.specs.Entries.{byte_text}
-use Rattle.schedule_text.specs.Growth.{HoldsWords}
 use Rattle.schedule_text.proofs.write.write_setting.Goals as goal
 
 pub returns : goal.returns

@@ -1,10 +1,7 @@
 -- The text stands behind what there was, or it is as it was.
-use Rattle.std.proofs.Common.{[], ◌++◌, ◌∙◌, refl, codes, length, subst}
-use Rattle.std.proofs.lemmas.List.{take_at}
-use Rattle.std.proofs.lemmas.Result.{on_ok_weaker, on_err_weaker}
+use Rattle.schedule_text.proofs.Names.{HoldsText, [], codes, entry_line, entry_lines, length, on_err_weaker, on_ok_weaker, refl, start_in, subst, take_at, ◌++◌}
+use Rattle.schedule_text.proofs.Names.{◌∙◌}
 use Rattle.trace_model.specs.declared.entry.Entry.TheVariants as entry
-use Rattle.schedule_text.specs.Entries.{entry_line, entry_lines}
-use Rattle.schedule_text.specs.Growth.{start_in, HoldsText}
 use Rattle.schedule_text.proofs.write.write_step.Goals as goal
 
 whole : (c : goal.After-finish) → HoldsText (start_in c.args.out.now.items)

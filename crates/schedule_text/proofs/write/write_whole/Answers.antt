@@ -1,7 +1,4 @@
-use Rattle.std.proofs.Common.{◌∷◌, ◌++◌, sym, subst}
-use Rattle.schedule_text.specs.Words.{spaced}
-use Rattle.schedule_text.specs.Entries.{entry_words, lines_behind}
-use Rattle.schedule_text.specs.Growth.{HoldsText}
+use Rattle.schedule_text.proofs.Names.{HoldsText, entry_words, lines_behind, spaced, subst, sym, ◌++◌, ◌∷◌}
 use Rattle.schedule_text.proofs.GrowthLemmas.{behind, holds_from, holds_back}
 use Rattle.schedule_text.proofs.write.write_whole.Goals as goal
 

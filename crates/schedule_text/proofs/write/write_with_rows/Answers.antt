@@ -1,6 +1,4 @@
-use Rattle.std.proofs.Common.{◌≡◌, [], ◌∷◌, ◌++◌, ◌∙◌}
-use Rattle.schedule_text.specs.Words.{spaced}
-use Rattle.schedule_text.specs.Entries.{entry_words, entry_line, lines_behind}
+use Rattle.schedule_text.proofs.Names.{[], entry_line, entry_words, lines_behind, spaced, ◌++◌, ◌∙◌, ◌∷◌, ◌≡◌}
 use Rattle.schedule_text.proofs.GrowthLemmas.{behind, holds_from, holds_back, holds_line}
 use Rattle.schedule_text.proofs.write.write_with_rows.Goals as goal
 

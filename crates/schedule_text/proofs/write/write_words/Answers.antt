@@ -1,7 +1,5 @@
-use Rattle.std.proofs.Common.{[], ◌∷◌, codes, subst}
-use Rattle.hex.specs.Hex.{encode_upper}
-use Rattle.schedule_text.specs.Growth.{HoldsWords}
-use Rattle.schedule_text.specs.Entries.{byte_text, end_text, lost_word}
+use Rattle.schedule_text.proofs.Names.{HoldsWords, [], byte_text, codes, encode_upper, end_text, subst, ◌∷◌}
+use Rattle.schedule_text.specs.Entries.{lost_word}
 use Rattle.schedule_text.proofs.write.write_words.Goals as goal
 
 pub returns-in-Head : goal.returns-in-Head

@@ -1,8 +1,6 @@
-use Rattle.std.proofs.Common.{List, length, subst, ◌%◌}
+use Rattle.shdlc_core.proofs.Words.{CarriesNr, Fragment, List, length, shdlc_end_after, subst, ◌%◌}
 use Rattle.shdlc_core.proofs.FramesDue.{frame-nr}
 use Rattle.shdlc_core.proofs.Histories.{new-Holds}
-use Rattle.shdlc_core.specs.Histories.{shdlc_end_after, CarriesNr}
-use Rattle.shdlc_core.specs.Machine.{Fragment}
 use Rattle.shdlc_core.proofs.laws.numbers_count_what_was_accepted.Goals as goal
 
 pub returns : goal.returns

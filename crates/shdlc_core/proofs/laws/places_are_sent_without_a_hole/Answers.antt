@@ -1,7 +1,6 @@
-use Rattle.std.proofs.Common.{arith}
+use Rattle.shdlc_core.proofs.Words.{arith, shdlc_end_after}
 use Rattle.shdlc_core.proofs.FramesDue.{frame-fragment}
 use Rattle.shdlc_core.proofs.Histories.{new-Holds, next-fragment}
-use Rattle.shdlc_core.specs.Histories.{shdlc_end_after}
 use Rattle.shdlc_core.proofs.laws.places_are_sent_without_a_hole.Goals as goal
 
 pub returns-clause-no_hole : goal.returns-clause-no_hole

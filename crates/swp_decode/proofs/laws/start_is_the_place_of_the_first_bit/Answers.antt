@@ -1,8 +1,7 @@
-use Rattle.std.proofs.Common.{◌≡◌, ◌≢◌, ℕ, suc, List, [], ◌∷◌, ◌++◌, Bool, true, false, eqb, cond, Some, drop, refl, ap, ◌∙◌, arith}
-use Rattle.std.specs.Prelude.{unwrap_or}
-use Rattle.std.proofs.lemmas.Bool.{eqb-true}
-use Rattle.swp_frame.specs.Signal.{Symbol, bit_0, bit_1, break, run_of, Mark, no_mark, start_mark, end_mark, break_mark, mark_of}
-use Rattle.swp_decode.specs.Readings.{ReadSymbol, symbols, front_of, start_after, start_of}
+use Rattle.std.proofs.Common.{◌≢◌}
+use Rattle.swp_decode.proofs.Names.{Bool, List, ReadSymbol, Some, Symbol, [], ap, arith, break, cond, drop, eqb, eqb-true, false, front_of, mark_of, no_mark}
+use Rattle.swp_decode.proofs.Names.{refl, run_of, start_after, start_of, suc, symbols, true, unwrap_or, ℕ, ◌++◌, ◌∙◌, ◌∷◌, ◌≡◌}
+use Rattle.swp_frame.specs.Signal.{Mark, bit_0, bit_1, break_mark, end_mark, start_mark}
 use Rattle.swp_decode.specs.Starts.{place_in_front, first_bit, IsSinceStart}
 use Rattle.swp_decode.proofs.laws.start_is_the_place_of_the_first_bit.Goals as goal
 

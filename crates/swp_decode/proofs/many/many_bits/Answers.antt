@@ -1,10 +1,7 @@
-use Rattle.std.proofs.Common.{◌≡◌, ◌≤◌, ◌∙◌, ◌+◌, ◌-◌, ◌++◌, ℕ, List, length, take, drop, sym, ap, subst, arith, rules, length-drop, take-add}
-use Rattle.swp_decode.specs.declared.line.Wire.TheVariants.{S1, S2}
-use Rattle.swp_decode.specs.Readings.{AreBits}
+use Rattle.swp_decode.proofs.Names.{AreBits, List, S1, S2, Wire, ap, arith, drop, length, length-drop, length-low_bits, rules, subst, sym, take, take-add, ℕ}
+use Rattle.swp_decode.proofs.Names.{◌++◌, ◌+◌, ◌-◌, ◌∙◌, ◌≡◌, ◌≤◌}
 use Rattle.swp_frame.specs.Words.{low_bits}
 use Rattle.swp_frame.proofs.WritingLemmas.{take_all}
-use Rattle.swp_frame.proofs.Places.{length-low_bits}
-use Rattle.swp_decode.specs.declared.line.Wire.{Wire}
 use Rattle.swp_decode.proofs.FurtherFrames.{AreBits-append, AreBits-behind, low_bits-more}
 use Rattle.swp_decode.proofs.many.many_bits.Goals as goal
 

@@ -1,7 +1,4 @@
-use Rattle.std.proofs.Common.{◌≡◌, ◌-◌, ◌*◌, ◌/◌, ◌≤◌, take}
-use Rattle.swp_frame.specs.Words.{low_bits}
-use Rattle.swp_decode.specs.declared.line.Wire.TheVariants.{S1, S2}
-use Rattle.swp_decode.specs.Readings.{AreBits}
+use Rattle.swp_decode.proofs.Names.{AreBits, S1, S2, low_bits, take, ◌*◌, ◌-◌, ◌/◌, ◌≡◌, ◌≤◌}
 use Rattle.swp_decode.proofs.many.many_bits.Given as goal
 
 -- the bits of the bytes so far

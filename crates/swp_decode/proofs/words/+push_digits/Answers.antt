@@ -1,6 +1,5 @@
-use Rattle.std.proofs.Common.{◌≡◌, ◌+◌, ◌/◌, ◌%◌, ◌^◌, ◌<◌, ◌≤◌, ◌++◌, ◌∷◌, [], ℕ, List, length, get_or, ap, sym, ◌∙◌, arith, length-append, append_assoc}
-use Rattle.std.specs.Prelude.{decimal}
-use Rattle.std.proofs.lemmas.Fmt.{decimal_digit}
+use Rattle.swp_decode.proofs.Names.{List, [], ap, append_assoc, arith, decimal, decimal_digit, get_or, length, length-append, sym, ℕ, ◌%◌, ◌++◌, ◌+◌, ◌/◌, ◌<◌}
+use Rattle.swp_decode.proofs.Names.{◌^◌, ◌∙◌, ◌∷◌, ◌≡◌, ◌≤◌}
 use Rattle.swp_decode.proofs.Numerals.{four_digits, two_digits_of, three_digits_of, four_digits_of, more_digits_of}
 use Rattle.swp_decode.proofs.words.+push_digits.Goals as goal
 

@@ -1,6 +1,4 @@
-use Rattle.std.proofs.Common.{◌++◌, ◌∙◌, ap, append_assoc}
-use Rattle.std.specs.Prelude.{codes}
-use Rattle.swp_decode.specs.Texts.{hex_word}
+use Rattle.swp_decode.proofs.Names.{ap, append_assoc, codes, hex_word, ◌++◌, ◌∙◌}
 use Rattle.swp_decode.proofs.words.push_act.Goals as goal
 
 pub returns-in-SyncId-clause-items : goal.returns-in-SyncId-clause-items

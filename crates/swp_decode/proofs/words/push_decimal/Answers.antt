@@ -1,6 +1,5 @@
-use Rattle.std.proofs.Common.{◌≤◌, ◌++◌, ◌∙◌, length, ap, sym, arith, length-append}
-use Rattle.std.specs.Prelude.{decimal}
-use Rattle.std.proofs.lemmas.Fmt.{length-decimal-le, decimal_digit}
+use Rattle.std.proofs.lemmas.Fmt.{length-decimal-le}
+use Rattle.swp_decode.proofs.Names.{ap, arith, decimal, decimal_digit, length, length-append, sym, ◌++◌, ◌∙◌, ◌≤◌}
 use Rattle.swp_decode.proofs.words.push_decimal.Goals as goal
 
 pub push_digits-requires : goal.push_digits-requires

@@ -1,6 +1,4 @@
-use Rattle.std.proofs.Common.{◌++◌, ◌∙◌, ap}
-use Rattle.std.specs.Prelude.{codes}
-use Rattle.swp_decode.specs.Texts.{hex_word}
+use Rattle.swp_decode.proofs.Names.{ap, codes, hex_word, ◌++◌, ◌∙◌}
 use Rattle.swp_decode.proofs.Numerals.{four_parts}
 use Rattle.swp_decode.proofs.words.push_fault.Goals as goal
 

@@ -1,7 +1,6 @@
-use Rattle.std.proofs.Common.{◌≡◌, ◌≤◌, ◌<◌, ◌+◌, ◌-◌, ◌++◌, ◌∷◌, [], ◌∙◌, ℕ, List, sym, ap, ap₂, take, drop, get_or, length, arith, length-append, length-drop}
-use Rattle.std.proofs.Common.{take-add}
-use Rattle.std.proofs.lemmas.List.{take_rest, take_more, take_all, get_or-drop}
-use Rattle.swp_decode.specs.Texts.{hex_of}
+use Rattle.std.proofs.lemmas.List.{get_or-drop, take_all, take_rest}
+use Rattle.swp_decode.proofs.Names.{List, [], ap, ap₂, arith, drop, get_or, hex_of, length, length-append, length-drop, sym, take, take-add, take_more, ℕ, ◌++◌}
+use Rattle.swp_decode.proofs.Names.{◌+◌, ◌-◌, ◌<◌, ◌∙◌, ◌∷◌, ◌≡◌, ◌≤◌}
 use Rattle.swp_decode.proofs.Numerals.{hex_more, room_of, length-hex_of}
 use Rattle.swp_decode.proofs.words.push_hex.Goals as goal
 

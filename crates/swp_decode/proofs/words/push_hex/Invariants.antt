@@ -1,5 +1,4 @@
-use Rattle.std.proofs.Common.{◌≡◌, ◌≤◌, ◌+◌, ◌-◌, ◌++◌, length, take}
-use Rattle.swp_decode.specs.Texts.{hex_of}
+use Rattle.swp_decode.proofs.Names.{hex_of, length, take, ◌++◌, ◌+◌, ◌-◌, ◌≡◌, ◌≤◌}
 use Rattle.swp_decode.proofs.words.push_hex.Given as goal
 
 abbrev pub invariant-fours : goal.invariant-fours

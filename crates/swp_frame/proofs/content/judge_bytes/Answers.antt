@@ -1,6 +1,4 @@
-use Rattle.std.proofs.Common.{◌≡◌, ◌∙◌, ◌+◌, ◌-◌, ◌*◌, ap, arith, length, take, get_or, refl}
-use Rattle.swp_crc.specs.Crc.{crc_of}
-use Rattle.swp_frame.specs.declared.fed.Fed.TheVariants.{Frame}
+use Rattle.swp_frame.proofs.Words.{Frame, ap, arith, crc_of, get_or, length, refl, take, ◌*◌, ◌+◌, ◌-◌, ◌∙◌, ◌≡◌}
 use Rattle.swp_frame.proofs.ContentLemmas.{last_two, crc_differs, crc_is_right, take_front}
 use Rattle.swp_frame.proofs.content.judge_bytes.Goals as goal
 

@@ -1,7 +1,4 @@
-use Rattle.std.proofs.Common.{[], take, arith, rules, subst, length-take}
-use Rattle.swp_base.specs.Bits.{bits_of_byte}
-use Rattle.swp_base.proofs.BitLemmas.{length-bits_of_byte}
-use Rattle.swp_frame.specs.Writing.{WritesOn}
+use Rattle.swp_frame.proofs.Words.{WritesOn, [], arith, bits_of_byte, length-bits_of_byte, length-take, rules, subst, take}
 use Rattle.swp_frame.proofs.WritingLemmas.{writes_nothing, writes_both, next_bit, all_bits}
 use Rattle.swp_frame.proofs.frame_bits.append_bits.Goals as goal
 

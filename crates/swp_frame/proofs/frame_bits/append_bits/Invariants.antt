@@ -1,6 +1,4 @@
-use Rattle.std.proofs.Common.{take}
-use Rattle.swp_base.specs.Bits.{bits_of_byte}
-use Rattle.swp_frame.specs.Writing.{WritesOn}
+use Rattle.swp_frame.proofs.Words.{WritesOn, bits_of_byte, take}
 use Rattle.swp_frame.proofs.frame_bits.append_bits.Given as goal
 
 abbrev pub invariant-loop-place : goal.invariant-loop-place

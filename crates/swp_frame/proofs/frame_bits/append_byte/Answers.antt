@@ -1,6 +1,4 @@
-use Rattle.std.proofs.Common.{◌++◌, ◌∙◌, ap, sym, arith}
-use Rattle.swp_base.specs.Bits.{bits_of_byte}
-use Rattle.swp_base.proofs.BitLemmas.{length-bits_of_byte}
+use Rattle.swp_frame.proofs.Words.{ap, arith, bits_of_byte, length-bits_of_byte, sym, ◌++◌, ◌∙◌}
 use Rattle.swp_frame.proofs.WritingLemmas.{plain_written}
 use Rattle.swp_frame.proofs.frame_bits.append_byte.Goals as goal
 

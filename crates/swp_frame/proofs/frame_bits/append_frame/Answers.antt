@@ -1,9 +1,5 @@
-use Rattle.std.proofs.Common.{◌≡◌, ◌∙◌, ◌++◌, ◌∷◌, [], ap, sym, subst, arith, rules, get_or, length, map, take, length-take, length-append}
-use Rattle.std.proofs.lemmas.List.{take_more}
-use Rattle.swp_base.specs.Bits.{bits_of}
-use Rattle.swp_crc.specs.Crc.{crc_of}
-use Rattle.swp_frame.specs.Writing.{byte_of_bit, WritesOn}
-use Rattle.swp_frame.specs.Stuffing.{start_of_frame, stuffed, end_of_frame}
+use Rattle.swp_frame.proofs.Words.{WritesOn, [], ap, arith, bits_of, byte_of_bit, crc_of, end_of_frame, get_or, length, length-append, length-take, map, rules}
+use Rattle.swp_frame.proofs.Words.{start_of_frame, stuffed, subst, sym, take, take_more, ◌++◌, ◌∙◌, ◌∷◌, ◌≡◌}
 use Rattle.swp_frame.proofs.WritingLemmas.{take_all, writes_nothing, writes_byte, start_length, room, room_for_end, frame_is_written, with_crc-pushed}
 use Rattle.swp_frame.proofs.frame_bits.append_frame.Goals as goal
 

@@ -1,6 +1,4 @@
-use Rattle.std.proofs.Common.{take}
-use Rattle.swp_base.specs.Bits.{bits_of}
-use Rattle.swp_frame.specs.Writing.{WritesOn}
+use Rattle.swp_frame.proofs.Words.{WritesOn, bits_of, take}
 use Rattle.swp_frame.proofs.frame_bits.append_frame.Given as goal
 
 abbrev pub invariant-loop-byte : goal.invariant-loop-byte

@@ -1,5 +1,4 @@
-use Rattle.std.proofs.Common.{◌∙◌, ◌+◌, ◌-◌, ◌*◌, ◌%◌, ◌^◌, ap, sym, w32, Some}
-use Rattle.std.specs.Int.{trailing_ones}
+use Rattle.swp_frame.proofs.Words.{Some, ap, sym, trailing_ones, w32, ◌%◌, ◌*◌, ◌+◌, ◌-◌, ◌^◌, ◌∙◌}
 use Rattle.swp_frame.proofs.WritingLemmas.{fifths, lined_is, run_is}
 use Rattle.swp_frame.proofs.frame_bits.run_behind.Goals as goal
 

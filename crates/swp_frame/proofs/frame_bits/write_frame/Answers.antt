@@ -1,6 +1,5 @@
-use Rattle.std.proofs.Common.{ℕ, ◌++◌, ◌∙◌, ap, eqb, length, map, take}
+use Rattle.swp_frame.proofs.Words.{ap, byte_of_bit, eqb, length, map, take, ℕ, ◌++◌, ◌∙◌}
 use Rattle.swp_frame.specs.Stuffing.{frame_of}
-use Rattle.swp_frame.specs.Writing.{byte_of_bit}
 use Rattle.swp_frame.proofs.WritingLemmas.{bits_again}
 use Rattle.swp_frame.proofs.frame_bits.write_frame.Goals as goal
 

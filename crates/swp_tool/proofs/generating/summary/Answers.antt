@@ -1,9 +1,4 @@
-use Rattle.std.proofs.Common.{◌∙◌, List, subst}
-use Rattle.trace_model.specs.declared.line.Line.{Line}
-use Rattle.drawn_schedule.specs.Schedule.{the_header}
-use Rattle.told_laws.specs.told.NodesTold.{nodes_told}
-use Rattle.swp_tool.specs.Transcripts.{nodes_history}
-use Rattle.swp_tool.specs.Generated.{AreCountsOf}
+use Rattle.swp_tool.proofs.Words.{AreCountsOf, Line, List, nodes_history, nodes_told, subst, the_header, ◌∙◌}
 use Rattle.swp_tool.proofs.Summing.{counts_are_summary, few_drawn, harmless_drawn}
 use Rattle.swp_tool.proofs.generating.summary.Goals as goal
 

@@ -1,5 +1,4 @@
-use Rattle.std.proofs.Common.{◌∙◌, ◌∷◌, [], sym, arith, string_bytes, map}
-use Rattle.std.specs.Fmt.{decimal}
+use Rattle.swp_tool.proofs.Words.{[], arith, decimal, map, string_bytes, sym, ◌∙◌, ◌∷◌}
 use Rattle.swp_tool.proofs.Numerals.{words_given, given_alone}
 use Rattle.swp_tool.proofs.number.number_given.Goals as goal
 

@@ -1,6 +1,5 @@
-use Rattle.std.proofs.Common.{◌+◌, ◌++◌, eqb, take, sym, ap, ◌∙◌, arith}
+use Rattle.swp_tool.proofs.Words.{ap, arith, ended_line, eqb, sym, take, ◌++◌, ◌+◌, ◌∙◌}
 use Rattle.schedule_text.proofs.Finding.{first_position}
-use Rattle.swp_tool.specs.Pieces.{ended_line}
 use Rattle.swp_tool.proofs.Cutting.{cut_at, lacks_all}
 use Rattle.swp_words.proofs.Taken.{left_of}
 use Rattle.swp_tool.proofs.pieces.cut_line.Goals as goal

@@ -1,14 +1,6 @@
-use Rattle.std.proofs.Common.{◌≡◌, ℕ, ◌∙◌, ◌++◌, ◌∷◌, [], List, true, false, arith, ap, sym, subst, append-nil}
-use Rattle.std.specs.Prelude.{replicate}
-use Rattle.trace_model.specs.declared.entry.Entry.{Entry}
-use Rattle.trace_model.specs.declared.line.Header.{Header}
-use Rattle.schedule_text.specs.Entries.{entry_lines}
-use Rattle.lines_told.specs.lines.Plays.{Play, lines_played, rounds_to_rest, told_of_play}
-use Rattle.lines_told.specs.lines.Plays.Play.{Round}
-use Rattle.world.specs.Worlds.{IsWorldAt}
-use Rattle.swp_tool.specs.declared.replay.Halt.{Halt}
+use Rattle.swp_tool.proofs.Words.{Entry, Halt, Header, IsWorldAt, List, Play, Round, [], ap, append-nil, arith, entry_lines, false, halt_of, lines_played}
+use Rattle.swp_tool.proofs.Words.{replicate, rounds_to_rest, subst, sym, told_of_play, true, ℕ, ◌++◌, ◌∙◌, ◌∷◌, ◌≡◌}
 use Rattle.swp_tool.specs.declared.replay.Halt.TheVariants as halt
-use Rattle.swp_tool.specs.Replays.{halt_of}
 use Rattle.swp_tool.proofs.Playing.{under_own_header}
 use Rattle.swp_tool.proofs.RoundLemmas.{all_needed, any_err, err_is, first_needed, line_more, none_gone, none_needed, one_gone, one_needed, rests_so}
 use Rattle.swp_tool.proofs.RoundLemmas.{room_for_round, settled_text, stands_then}

@@ -1,9 +1,5 @@
-use Rattle.std.proofs.Common.{◌-◌, ◌≤◌, List}
-use Rattle.trace_model.specs.declared.line.Header.{Header}
-use Rattle.lines_told.specs.lines.Plays.{Play}
-use Rattle.world.specs.Worlds.{IsWorldAt}
+use Rattle.swp_tool.proofs.Words.{HasGoneThrough, Header, IsWorldAt, List, Play, ◌-◌, ◌≤◌}
 use Rattle.swp_tool.proofs.RoundLemmas.{MayNeedMore}
-use Rattle.swp_tool.specs.Replays.{HasGoneThrough}
 use Rattle.swp_tool.proofs.settling.gather.Given as goal
 
 -- so many rounds were played, what they tell was gathered, and all of them were needed

@@ -1,6 +1,5 @@
 -- One word is the list of that word.
-use Rattle.std.proofs.Common.{◌≡◌, ◌<◌, ◌≤◌, List, [], ◌∷◌, ℕ, length, get_or, map, ap, sym, ◌∙◌, arith, IsTrue}
-use Rattle.std.specs.Prelude.{string_bytes}
+use Rattle.swp_tool.proofs.Words.{IsTrue, List, [], ap, arith, get_or, length, map, string_bytes, sym, ℕ, ◌<◌, ◌∙◌, ◌∷◌, ◌≡◌, ◌≤◌}
 use Rattle.swp_tool.proofs.top.is_word.Goals as goal
 
 one_word : {X : Type 0} (f : X → List ℕ) (ws : List X) (w : X) → 1 ≤ length ws → length ws < 2 → w ≡ get_or ws 0 w → map f ws ≡ f w ∷ []

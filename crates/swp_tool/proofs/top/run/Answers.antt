@@ -1,6 +1,5 @@
 -- Each word's own facts where it is the word that was asked for; elsewhere the words are others.
-use Rattle.std.proofs.Common.{map, true, false, refl}
-use Rattle.std.specs.Prelude.{string_bytes}
+use Rattle.swp_tool.proofs.Words.{false, map, refl, string_bytes, true}
 use Rattle.swp_words.specs.Ends.{form_named}
 use Rattle.swp_tool.specs.Words.{run_source, run_sink, run_memory, IsReplayRun, IsDecodeRun, IsTapRun}
 use Rattle.swp_tool.proofs.Promised.{asked_end, bare_or_hci, decode_or_end, decode_or_gen, decode_or_tables, decode_or_tap, decode_run, end_run, gen_or_end}

@@ -1,5 +1,4 @@
-use Rattle.std.proofs.Common.{◌++◌, ◌∙◌, ap, take, ℕ, List}
-use Rattle.swp_words.specs.Records.{IsGathered, IsFront}
+use Rattle.swp_words.proofs.Words.{IsFront, IsGathered, List, ap, take, ℕ, ◌++◌, ◌∙◌}
 use Rattle.swp_words.proofs.Recording.{on_err, cut_text, written_out, none_gathered}
 use Rattle.swp_words.proofs.gathering.flush.Goals as goal
 

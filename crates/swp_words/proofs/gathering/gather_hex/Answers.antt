@@ -1,9 +1,7 @@
-use Rattle.std.proofs.Common.{◌≡◌, ◌+◌, ◌-◌, ◌++◌, ℕ, List, take, drop, sym, ap, ◌∙◌, subst, arith, take-add}
-use Rattle.std.proofs.lemmas.List.{take-append-drop}
-use Rattle.std.proofs.lemmas.Grind.{common_steps}
+use Rattle.std.proofs.Common.{take-add}
+use Rattle.swp_words.proofs.Words.{IsFront, IsGathered, List, ap, arith, common_steps, drop, subst, sym, take, take-append-drop, ℕ, ◌++◌, ◌+◌, ◌-◌, ◌∙◌, ◌≡◌}
 use Rattle.swp_decode.specs.Texts.{hex_of}
 use Rattle.swp_decode.proofs.Numerals.{hex_more}
-use Rattle.swp_words.specs.Records.{IsGathered, IsFront}
 use Rattle.swp_words.proofs.Recording.{on_err, enough_text, front_further, more_gathered}
 use Rattle.swp_words.proofs.gathering.gather_hex.Goals as goal
 

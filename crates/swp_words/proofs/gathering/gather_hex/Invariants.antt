@@ -1,6 +1,5 @@
-use Rattle.std.proofs.Common.{◌≤◌, ◌-◌, ◌++◌, length, take, List, ℕ}
+use Rattle.swp_words.proofs.Words.{IsGathered, List, length, take, ℕ, ◌++◌, ◌-◌, ◌≤◌}
 use Rattle.swp_decode.specs.Texts.{hex_of}
-use Rattle.swp_words.specs.Records.{IsGathered}
 use Rattle.swp_words.proofs.gathering.gather_hex.Given as goal
 
 -- the digits of the bytes so far were gathered

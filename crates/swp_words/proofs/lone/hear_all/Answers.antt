@@ -1,6 +1,5 @@
 -- A node alone hears all bytes.
-use Rattle.std.proofs.Common.{[], subst}
-use Rattle.one_end.specs.Standing.{HasRun}
+use Rattle.swp_words.proofs.Words.{HasRun, [], subst}
 use Rattle.swp_words.proofs.Alone.{begins_hearing, begins_broken, begins_stopped, ended_ran, broken_is, stopped_is}
 use Rattle.swp_words.proofs.lone.hear_all.Goals as goal
 

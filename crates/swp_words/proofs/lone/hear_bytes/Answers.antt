@@ -1,6 +1,5 @@
 -- Bytes come to a node alone.
-use Rattle.std.proofs.Common.{◌-◌, ◌++◌, ℕ, true, false, length, take, drop, arith, subst}
-use Rattle.one_end.specs.Standing.{HasRun}
+use Rattle.swp_words.proofs.Words.{HasRun, arith, drop, false, length, subst, take, true, ℕ, ◌++◌, ◌-◌}
 use Rattle.swp_words.proofs.Alone.{waits_on, heard_more, is_cut}
 use Rattle.swp_words.proofs.Recording.{on_err}
 use Rattle.swp_words.proofs.lone.hear_bytes.Goals as goal

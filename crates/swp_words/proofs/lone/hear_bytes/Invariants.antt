@@ -1,8 +1,7 @@
 -- The bytes so far came.
-use Rattle.std.proofs.Common.{◌≡◌, ◌-◌, ◌≤◌, ◌++◌, length, take, false, List, ℕ}
+use Rattle.swp_words.proofs.Words.{Began, IsWaitingAlone, List, false, length, take, ℕ, ◌++◌, ◌-◌, ◌≡◌, ◌≤◌}
 use Rattle.lone_laws.specs.alone.Lone.{Lone}
 use Rattle.one_end.specs.Standing.{StandsAlone}
-use Rattle.swp_words.specs.Ends.{Began, IsWaitingAlone}
 use Rattle.swp_words.proofs.lone.hear_bytes.Given as goal
 
 abbrev pub invariant-bytes : goal.invariant-bytes

@@ -1,7 +1,5 @@
 -- A node that has booted runs.
-use Rattle.std.proofs.Common.{sym, subst}
-use Rattle.one_end.specs.Writing.{form_named}
-use Rattle.swp_words.specs.Ends.{Began, RanSo}
+use Rattle.swp_words.proofs.Words.{Began, RanSo, form_named, subst, sym}
 use Rattle.swp_words.proofs.lone.run_alone.Goals as goal
 
 pub returns-clause-ran : goal.returns-clause-ran

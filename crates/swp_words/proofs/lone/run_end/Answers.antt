@@ -1,9 +1,5 @@
 -- One node runs alone over a memory.
-use Rattle.std.proofs.Common.{refl, sym, subst, arith}
-use Rattle.one_end.specs.Writing.{form_named}
-use Rattle.swp_base.specs.Outside.{Rose}
-use Rattle.hci_store.specs.Refusals.{IsOnlyRead}
-use Rattle.swp_words.specs.Ends.{EndedSo}
+use Rattle.swp_words.proofs.Words.{EndedSo, IsOnlyRead, Rose, arith, form_named, refl, subst, sym}
 use Rattle.swp_words.proofs.Alone.{booted_ended, refused_ended, lone_kind, boot_kind, refused_rose}
 use Rattle.swp_words.proofs.Answered.{end_answered}
 use Rattle.swp_words.proofs.Outcomes.{boot_unfailed, complete_ended, too_many_ended, image_refused, image_unwritten, runs_on_image}

@@ -1,8 +1,6 @@
 -- A piece comes to a node alone.
-use Rattle.std.proofs.Common.{◌≡◌, ◌≤◌, ◌+◌, ◌++◌, ◌∙◌, ℕ, true, false, length, take, arith, subst, refl, ap, take_all}
-use Rattle.std.proofs.lemmas.List.{take-take, length-take-le}
-use Rattle.swp_words.specs.Records.{most_bytes}
-use Rattle.swp_words.specs.Ends.{IsWaitingAlone, IsCutAlone, HasHeardAlone}
+use Rattle.swp_words.proofs.Words.{HasHeardAlone, IsCutAlone, IsWaitingAlone, ap, arith, false, length, length-take-le, most_bytes, refl, subst, take}
+use Rattle.swp_words.proofs.Words.{take-take, take_all, true, ℕ, ◌++◌, ◌+◌, ◌∙◌, ◌≡◌, ◌≤◌}
 use Rattle.swp_words.proofs.Alone.{waits, waits_no_more, is_cut, broken_in, stopped_in, too_long_in}
 use Rattle.swp_words.proofs.lone.take_bytes.Goals as goal
 

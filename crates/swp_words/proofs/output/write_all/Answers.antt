@@ -1,6 +1,4 @@
-use Rattle.std.proofs.Common.{◌≡◌, ◌++◌, take, drop, length, ◌-◌, arith, ap, sym, ◌∙◌, append_assoc}
-use Rattle.std.proofs.lemmas.Grind.{common_steps}
-use Rattle.std.proofs.Math.Seq.{take-add}
+use Rattle.swp_words.proofs.Words.{ap, append_assoc, arith, common_steps, drop, length, sym, take, take-add, ◌++◌, ◌-◌, ◌∙◌, ◌≡◌}
 use Rattle.swp_words.proofs.output.write_all.Goals as goal
 
 pub loop-at-preserved : goal.loop-at-preserved

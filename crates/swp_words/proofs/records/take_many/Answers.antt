@@ -1,7 +1,5 @@
-use Rattle.std.proofs.Common.{◌≡◌, ◌≤◌, ◌+◌, ◌++◌, ℕ, List, length, take, drop, arith, subst, sym, ap, ◌∙◌, append_assoc, length-drop}
-use Rattle.std.proofs.Math.Seq.{take-add}
-use Rattle.std.proofs.lemmas.List.{take-take}
-use Rattle.swp_words.specs.Records.{IsFrontOfSome}
+use Rattle.swp_words.proofs.Words.{IsFrontOfSome, List, ap, append_assoc, arith, drop, length, length-drop, subst, sym, take, take-add, take-take, ℕ, ◌++◌, ◌+◌}
+use Rattle.swp_words.proofs.Words.{◌∙◌, ◌≡◌, ◌≤◌}
 use Rattle.swp_words.proofs.Taken.{whole_after, left_of}
 use Rattle.swp_words.proofs.Recording.{on_err}
 use Rattle.swp_words.proofs.records.take_many.Goals as goal

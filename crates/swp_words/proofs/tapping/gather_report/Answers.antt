@@ -1,8 +1,6 @@
-use Rattle.std.proofs.Common.{◌≡◌, ◌≤◌, ◌++◌, ℕ, List, length, append_assoc, subst, arith, length-append}
+use Rattle.swp_words.proofs.Words.{IsFront, IsGathered, List, append_assoc, arith, length, length-append, report_line, report_of, subst, ℕ, ◌++◌, ◌≡◌, ◌≤◌}
 use Rattle.swp_decode.specs.Texts.{hex_of, line_feed}
-use Rattle.swp_words.specs.Records.{IsGathered, IsFront}
-use Rattle.swp_tap.specs.Hearing.{report_of}
-use Rattle.swp_words.specs.Taps.{report_head, report_line}
+use Rattle.swp_words.specs.Taps.{report_head}
 use Rattle.swp_words.proofs.Recording.{on_err, map_err, map_ok, enough_text, front_further}
 use Rattle.swp_words.proofs.tapping.gather_report.Goals as goal
 

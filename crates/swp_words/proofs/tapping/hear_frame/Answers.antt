@@ -1,7 +1,4 @@
-use Rattle.std.proofs.Common.{◌∷◌, [], ◌++◌, ◌∙◌, ap, sym, subst}
-use Rattle.swp_tap.specs.Hearing.{report_of}
-use Rattle.swp_words.specs.Records.{IsGathered, IsFront}
-use Rattle.swp_words.specs.Taps.{report_line, report_lines}
+use Rattle.swp_words.proofs.Words.{IsFront, IsGathered, [], ap, report_line, report_lines, report_of, subst, sym, ◌++◌, ◌∙◌, ◌∷◌}
 use Rattle.swp_words.proofs.Recording.{map_err, map_ok}
 use Rattle.swp_words.proofs.Hearing.{one_line}
 use Rattle.swp_words.proofs.tapping.hear_frame.Goals as goal

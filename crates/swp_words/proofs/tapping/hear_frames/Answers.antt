@@ -1,6 +1,5 @@
-use Rattle.std.proofs.Common.{◌≡◌, ◌<◌, ◌+◌, ◌++◌, ◌∷◌, [], Bool, List, ℕ, length, take, drop, get_or, ap, ◌∙◌, sym, subst, append_assoc, arith}
-use Rattle.std.proofs.lemmas.List.{take_more, take-append-drop, take_all}
-use Rattle.swp_words.specs.Taps.{HasHeard}
+use Rattle.swp_words.proofs.Words.{Bool, HasHeard, List, [], ap, append_assoc, arith, drop, get_or, length, subst, sym, take, take-append-drop, take_all}
+use Rattle.swp_words.proofs.Words.{take_more, ℕ, ◌++◌, ◌+◌, ◌<◌, ◌∙◌, ◌∷◌, ◌≡◌}
 use Rattle.swp_words.proofs.Recording.{on_err, enough_text}
 use Rattle.swp_words.proofs.Hearing.{front_of_frames}
 use Rattle.swp_words.proofs.tapping.hear_frames.Goals as goal

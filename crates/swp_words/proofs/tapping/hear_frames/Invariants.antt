@@ -1,5 +1,4 @@
-use Rattle.std.proofs.Common.{◌≡◌, ◌+◌, ◌≤◌, ◌++◌, Bool, take, List, ℕ}
-use Rattle.swp_words.specs.Taps.{HasHeard}
+use Rattle.swp_words.proofs.Words.{Bool, HasHeard, List, take, ℕ, ◌++◌, ◌+◌, ◌≡◌, ◌≤◌}
 use Rattle.swp_words.proofs.tapping.hear_frames.Given as goal
 
 -- the frames so far were heard

@@ -1,7 +1,4 @@
-use Rattle.std.proofs.Common.{refl, not, eqb, ◌∙◌}
-use Rattle.std.proofs.lemmas.Bool.{cond-true, eq-eqb}
-use Rattle.pipe_table.specs.PipeRows.{joins_host}
-use Rattle.registry.specs.Values.{value_at, default_of}
+use Rattle.tables_laws.proofs.Words.{cond-true, default_of, eq-eqb, eqb, joins_host, not, refl, value_at, ◌∙◌}
 use Rattle.tables_laws.proofs.tables.LookUps.{all-filter}
 use Rattle.tables_laws.proofs.tables.Values.{value_at-without_host, kept_param}
 use Rattle.tables_laws.proofs.tables_changed.clearing_leaves_nothing_of_the_host.Goals as goal

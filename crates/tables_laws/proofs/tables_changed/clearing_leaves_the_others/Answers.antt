@@ -1,9 +1,4 @@
-use Rattle.std.proofs.Common.{ℕ, eqb, not, ap, ◌∙◌}
-use Rattle.std.specs.Prelude.{Some, None}
-use Rattle.std.specs.Option.{option_and_then}
-use Rattle.std.proofs.lemmas.Bool.{cond-true, not_from_false}
-use Rattle.pipe_table.specs.PipeRows.{pid_of, joins_host}
-use Rattle.hci_tables.specs.Tables.{static_place}
+use Rattle.tables_laws.proofs.Words.{None, Some, ap, cond-true, eqb, joins_host, not, not_from_false, option_and_then, pid_of, static_place, ℕ, ◌∙◌}
 use Rattle.tables_laws.proofs.tables.LookUps.{row_of-filter, if_passes}
 use Rattle.tables_laws.proofs.tables_changed.clearing_leaves_the_others.Goals as goal
 

@@ -1,5 +1,4 @@
-use Rattle.std.proofs.Common.{refl}
-use Rattle.hci_tables.specs.Tables.{no_tables}
+use Rattle.tables_laws.proofs.Words.{no_tables, refl}
 use Rattle.tables_laws.proofs.tables.TwoHosts.{JoinTwo-after, JoinTwo-closed}
 use Rattle.tables_laws.proofs.tables_changed.pipes_join_two_hosts.Goals as goal
 

@@ -1,7 +1,4 @@
-use Rattle.std.proofs.Common.{◌≡◌, ℕ, List, [], ◌∷◌, ◌++◌, ◌+◌, refl, sym, ap, ◌∙◌, subst, arith}
-use Rattle.node_machine.specs.Carrying.{port_at, with_port}
-use Rattle.node_ends.specs.Ends.{has_sent, frame_at}
-use Rattle.node_core.specs.Running.{RunsAs}
+use Rattle.worked_nodes.proofs.Words.{List, RunsAs, [], ap, arith, frame_at, has_sent, port_at, refl, subst, sym, with_port, ℕ, ◌++◌, ◌+◌, ◌∙◌, ◌∷◌, ◌≡◌}
 use Rattle.worked_nodes.proofs.Fetching.{IsSendingTo, sending_begins, sending_goes_on, sending_ends, sending_done, may_step_alone, none_is_left, all_went}
 use Rattle.worked_nodes.proofs.Fetching.{handed_none, handed_then, handed_as}
 use Rattle.worked_nodes.proofs.card.send_own.Goals as goal

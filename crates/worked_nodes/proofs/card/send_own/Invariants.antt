@@ -1,7 +1,4 @@
-use Rattle.std.specs.Prelude.{◌≡◌, ℕ, List}
-use Rattle.node_machine.specs.Parts.{Core, Port}
-use Rattle.node_core.specs.Running.{RunsAs}
-use Rattle.worked_nodes.specs.FramesOut.{AreHandedOn}
+use Rattle.worked_nodes.proofs.Words.{AreHandedOn, Core, List, Port, RunsAs, ℕ, ◌≡◌}
 use Rattle.worked_nodes.proofs.Fetching.{IsSendingTo}
 use Rattle.worked_nodes.proofs.card.send_own.Given as goal
 

@@ -1,5 +1,4 @@
-use Rattle.std.proofs.Common.{◌≡◌, ℕ, suc, ◌+◌, refl, ap, ◌∙◌, subst, arith}
-use Rattle.worked_nodes.specs.FramesOut.{due_as_far_as}
+use Rattle.worked_nodes.proofs.Words.{ap, arith, due_as_far_as, refl, subst, suc, ℕ, ◌+◌, ◌∙◌, ◌≡◌}
 use Rattle.worked_nodes.proofs.Fetching.{one_more_host, one_more_handed, sending_all_begins, all_hosts_had, handed_none, handed_as}
 use Rattle.worked_nodes.proofs.library.send_all.Goals as goal
 

@@ -1,7 +1,4 @@
-use Rattle.std.specs.Prelude.{◌≡◌, ℕ, suc, List}
-use Rattle.node_machine.specs.Parts.{Core, Port}
-use Rattle.node_core.specs.Running.{RunsAs}
-use Rattle.worked_nodes.specs.FramesOut.{due_as_far_as, AreHandedOn}
+use Rattle.worked_nodes.proofs.Words.{AreHandedOn, Core, List, Port, RunsAs, due_as_far_as, suc, ℕ, ◌≡◌}
 use Rattle.worked_nodes.proofs.Fetching.{HasSentBelow}
 use Rattle.worked_nodes.proofs.library.send_all.Given as goal
 

@@ -1,6 +1,5 @@
-use Rattle.std.proofs.Common.{List, [], ◌∷◌, ◌++◌, refl, sym, ap, ◌∙◌}
-use Rattle.world.proofs.Words.{No, OnWire, Taken, WasLost, damage_causes, first_verdict, frames_to, on_ok, seen_from}
-use Rattle.link_laws.specs.messages.Links.{Loss}
+use Rattle.world.proofs.Words.{List, Loss, No, OnWire, Taken, WasLost, [], ap, damage_causes, first_verdict, frames_to, on_ok, refl, seen_from, sym, ◌++◌, ◌∙◌}
+use Rattle.world.proofs.Words.{◌∷◌}
 use Rattle.history.specs.Follows.{if_out_of_reach}
 use Rattle.world.proofs.RoundLemmas.{refused_does, happened_does}
 use Rattle.world.proofs.Sending.{lost_is}

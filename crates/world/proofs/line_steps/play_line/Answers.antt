@@ -1,6 +1,4 @@
-use Rattle.std.proofs.Common.{◌≡◌, refl, sym, ap, ◌∙◌}
-use Rattle.std.specs.Prelude.{true, false}
-use Rattle.world.proofs.Words.{End, Readied, end_for, on_ok, seen_from}
+use Rattle.world.proofs.Words.{End, Readied, ap, end_for, false, on_ok, refl, seen_from, sym, true, ◌∙◌, ◌≡◌}
 use Rattle.trace_model.specs.declared.line.Line.TheVariants as line
 use Rattle.world.proofs.RoundLemmas.{same_does, happened_does, few_here, few_short}
 use Rattle.world.proofs.line_steps.play_line.Goals as goal

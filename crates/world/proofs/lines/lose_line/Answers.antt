@@ -1,5 +1,4 @@
-use Rattle.std.proofs.Common.{[], ◌∷◌, ◌++◌, refl, ap, ◌∙◌}
-use Rattle.world.proofs.Words.{Empty, No, OnDemand, WasLost, on_ok, seen_from}
+use Rattle.world.proofs.Words.{Empty, No, OnDemand, WasLost, [], ap, on_ok, refl, seen_from, ◌++◌, ◌∙◌, ◌∷◌}
 use Rattle.world.proofs.RoundLemmas.{refused_does, happened_does, none_there, some_there}
 use Rattle.world.proofs.Sending.{lost_is}
 use Rattle.world.proofs.lines.lose_line.Goals as goal

@@ -1,7 +1,5 @@
-use Rattle.std.proofs.Common.{[], ◌∷◌, ◌++◌, refl, sym, ap, ◌∙◌}
-use Rattle.std.specs.Prelude.{is_some}
-use Rattle.world.proofs.Words.{Link, LinkEnd, No, WasReset, after_input, ended_by, on_ok, seen_from, with_ended}
-use Rattle.link_laws.specs.machine.Machine.LinkInput.{Reset}
+use Rattle.world.proofs.Words.{Link, LinkEnd, No, Reset, WasReset, [], after_input, ap, ended_by, is_some, on_ok, refl, seen_from, sym, with_ended, ◌++◌, ◌∙◌}
+use Rattle.world.proofs.Words.{◌∷◌}
 use Rattle.world.proofs.Bare.{reset_most, room_here, midway, input_noted, still}
 use Rattle.world.proofs.RoundLemmas.{refused_does, happened_does, some_holds}
 use Rattle.world.proofs.lines.reset_line.Goals as goal

@@ -1,8 +1,6 @@
-use Rattle.std.proofs.Common.{arith, ◌≡◌, [], ◌∷◌, ◌++◌, refl, sym, ap, ◌∙◌}
-use Rattle.std.specs.Prelude.{Some, false, is_some}
 use Rattle.std.proofs.lemmas.Grind.{common_steps}
-use Rattle.world.proofs.Words.{Give, Given, Link, LinkEnd, Message, No, give_refusal, on_ok, seen_from, turn}
-use Rattle.history.specs.Follows.{as_noted}
+use Rattle.world.proofs.Words.{Give, Given, Link, LinkEnd, Message, No, Some, [], ap, arith, as_noted, false, give_refusal, is_some, on_ok, refl, seen_from}
+use Rattle.world.proofs.Words.{sym, turn, ◌++◌, ◌∙◌, ◌∷◌, ◌≡◌}
 use Rattle.world.proofs.Bare.{give_most, midway, session_is, refused_give, accepted, gives}
 use Rattle.world.proofs.RoundLemmas.{refused_does, happened_does}
 use Rattle.world.proofs.lines.send_line.Goals as goal

@@ -1,5 +1,4 @@
-use Rattle.std.proofs.Common.{[], ◌∷◌, ◌++◌, List, replicate, sym, ap, ◌∙◌, arith, subst}
-use Rattle.world.proofs.Words.{Empty, Entry, HasRepeated, No, Taken, frames_to, on_ok}
+use Rattle.world.proofs.Words.{Empty, Entry, HasRepeated, List, No, Taken, [], ap, arith, frames_to, on_ok, replicate, subst, sym, ◌++◌, ◌∙◌, ◌∷◌}
 use Rattle.world.proofs.RoundLemmas.{refused_does, none_there, some_there, repeats_does, kept_len, taken_few}
 use Rattle.world.proofs.repeats.deliver_line.Goals as goal
 

@@ -1,5 +1,4 @@
-use Rattle.std.proofs.Common.{◌≡◌, ℕ, suc, ◌+◌, replicate, refl, subst, arith}
-use Rattle.world.proofs.Words.{HasRepeated, Link, Taken, link_after_all, seen_from}
+use Rattle.world.proofs.Words.{HasRepeated, Link, Taken, arith, link_after_all, refl, replicate, seen_from, subst, suc, ℕ, ◌+◌, ◌≡◌}
 use Rattle.world.proofs.Given.{sent_repeated}
 use Rattle.world.proofs.RoundLemmas.{happened_caused, repeats_none, repeats_more, few_here, few_short, room_for, grows_more, grows_in_all}
 use Rattle.world.proofs.repeats.take_frames.Goals as goal

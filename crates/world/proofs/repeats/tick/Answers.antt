@@ -1,7 +1,5 @@
-use Rattle.std.proofs.Common.{[], subst}
-use Rattle.world.proofs.Words.{AreNoted, End, GoesOut, HaveSent, Link, aged, exchanged, idle, on_ok, side_of, tick_entries, ticks_at_controller}
-use Rattle.link_laws.specs.entries.Entries.{aged_entries}
-use Rattle.link_laws.specs.sessions.Sessions.{aged_wire}
+use Rattle.world.proofs.Words.{AreNoted, End, GoesOut, HaveSent, Link, [], aged, aged_entries, aged_wire, exchanged, idle, on_ok, side_of, subst, tick_entries}
+use Rattle.world.proofs.Words.{ticks_at_controller}
 use Rattle.world.proofs.RoundLemmas.{seen_here, seen_at_controller, tick_noted, turned_round, few_short}
 use Rattle.world.proofs.Given.{sent_ticked}
 use Rattle.world.proofs.Sending.{aged_is}

@@ -1,6 +1,4 @@
-use Rattle.std.proofs.Common.{◌≡◌, ℕ, suc, ◌+◌, List, replicate, refl, sym, ap, subst, ◌∙◌, arith}
-use Rattle.world.proofs.Words.{Entry, HasRepeated, Ticked, link_after_all}
-use Rattle.std.specs.Prelude.{unwrap_or}
+use Rattle.world.proofs.Words.{Entry, HasRepeated, List, Ticked, ap, arith, link_after_all, refl, replicate, subst, suc, sym, unwrap_or, ℕ, ◌+◌, ◌∙◌, ◌≡◌}
 use Rattle.world.proofs.Given.{sent_repeated}
 use Rattle.world.proofs.RoundLemmas.{repeats_none, repeats_more, repeats_does}
 use Rattle.world.proofs.repeats.tick_line.Goals as goal

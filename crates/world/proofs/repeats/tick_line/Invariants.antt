@@ -1,5 +1,4 @@
-use Rattle.std.proofs.Common.{◌+◌, ◌*◌, ◌≤◌}
-use Rattle.world.proofs.Words.{HasRepeated, HaveSent, Link, SidesStandFor, Ticked}
+use Rattle.world.proofs.Words.{HasRepeated, HaveSent, Link, SidesStandFor, Ticked, ◌*◌, ◌+◌, ◌≤◌}
 use Rattle.world.proofs.repeats.tick_line.Given as goal
 
 abbrev pub invariant-loop : goal.invariant-loop

@@ -1,5 +1,4 @@
-use Rattle.std.proofs.Common.{List, sym, subst}
-use Rattle.world.proofs.Words.{DoesAll, End, Entry, Link, SidesStandFor, link_after_lines, on_ok, other_end, taking_on}
+use Rattle.world.proofs.Words.{DoesAll, End, Entry, Link, List, SidesStandFor, link_after_lines, on_ok, other_end, subst, sym, taking_on}
 use Rattle.world.proofs.RoundLemmas.{does_both, does_tick, other_sees, other_did, sent_taking}
 use Rattle.world.proofs.rounds.play_round.Goals as goal
 

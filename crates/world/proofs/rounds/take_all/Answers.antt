@@ -1,5 +1,4 @@
-use Rattle.std.proofs.Common.{◌≡◌, ℕ, length, subst, arith}
-use Rattle.world.proofs.Words.{HasRepeated, Taken, frames_to, on_ok}
+use Rattle.world.proofs.Words.{HasRepeated, Taken, arith, frames_to, length, on_ok, subst, ℕ, ◌≡◌}
 use Rattle.world.proofs.RoundLemmas.{kept_len, does_taking}
 use Rattle.world.proofs.rounds.take_all.Goals as goal
 

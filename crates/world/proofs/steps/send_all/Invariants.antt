@@ -1,6 +1,5 @@
-use Rattle.std.proofs.Common.{◌+◌, ◌-◌, ◌≤◌}
+use Rattle.world.proofs.Words.{IsMidway, Link, ◌+◌, ◌-◌, ◌≤◌}
 use Rattle.link_laws.specs.machine.Machine.{LinkEnd as Machine}
-use Rattle.world.proofs.Words.{IsMidway, Link}
 use Rattle.world.proofs.Sending.{Sending}
 use Rattle.world.proofs.steps.send_all.Given as goal
 

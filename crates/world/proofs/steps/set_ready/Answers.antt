@@ -1,5 +1,4 @@
-use Rattle.std.proofs.Common.{not, false}
-use Rattle.world.proofs.Words.{Hold, LinkEnd, on_ok, turn}
+use Rattle.world.proofs.Words.{Hold, LinkEnd, false, not, on_ok, turn}
 use Rattle.world.proofs.Bare.{hold_most, room_here, midway}
 use Rattle.world.proofs.steps.set_ready.Goals as goal
 

@@ -1,9 +1,5 @@
-use Rattle.std.proofs.Common.{sym, ◌∙◌}
-use Rattle.std.specs.Prelude.{Some}
-use Rattle.world.proofs.Words.{FetchMessage, LinkEnd, Take, after_input, on_ok, turn}
-use Rattle.link_laws.specs.entries.Entries.{left_after}
+use Rattle.world.proofs.Words.{FetchMessage, IsTakenOff, LinkEnd, Some, Take, after_input, left_after, on_ok, sym, turn, ◌∙◌}
 use Rattle.world.proofs.Bare.{took_most, bare_here, room_here}
-use Rattle.link_wires.proofs.Wires.{IsTakenOff}
 use Rattle.world.proofs.Sending.{takes_first, takes_none, taken_midway, reads_first, taken}
 use Rattle.world.proofs.steps.take_frame.Goals as goal
 

@@ -1,8 +1,5 @@
-use Rattle.std.proofs.Common.{List, sym, subst, append-nil}
-use Rattle.std.specs.Prelude.{is_some}
-use Rattle.world.proofs.Words.{AreNoted, Link, LinkEnd, LinkStandsFor, after_input, ended_by, on_ok, side_of, with_ended}
-use Rattle.link_laws.specs.machine.Machine.LinkInput.{Tick}
-use Rattle.link_laws.specs.entries.Entries.{Entry as Noted}
+use Rattle.world.proofs.Words.{AreNoted, Link, LinkEnd, LinkStandsFor, List, Noted, Tick, after_input, append-nil, ended_by, is_some, on_ok, side_of, subst}
+use Rattle.world.proofs.Words.{sym, with_ended}
 use Rattle.world.proofs.Bare.{tick_most, bare_here, room_here, midway, input_noted, idle_ticks, idle_entries}
 use Rattle.world.proofs.steps.tick_end.Goals as goal
 

@@ -1,9 +1,6 @@
-use Rattle.std.proofs.Common.{◌≡◌, ◌<◌, ◌≤◌, ◌+◌, ◌-◌, ◌*◌, sym, ap, ◌∙◌, subst, arith, List, length, length-append, replicate, set, take, drop}
-use Rattle.std.specs.Prelude.{◌++◌, Option, None, Some}
-use Rattle.std.proofs.lemmas.List.{get_or_read, take_at}
-use Rattle.block_pool.specs.Links.{region_behind}
-use Rattle.block_pool.specs.Slots.{Held, BlocksState, slot, with_chain}
-use Rattle.block_pool.specs.Layout.{held_by, slots_of, AreSoundBlocks}
+use Rattle.block_pool.proofs.Words.{AreSoundBlocks, BlocksState, Held, List, None, Option, Some, ap, arith, drop, get_or_read, held_by, length, length-append}
+use Rattle.block_pool.proofs.Words.{region_behind, replicate, set, slot, slots_of, subst, sym, take, take_at, with_chain, ◌*◌, ◌++◌, ◌+◌, ◌-◌, ◌<◌, ◌∙◌, ◌≡◌}
+use Rattle.block_pool.proofs.Words.{◌≤◌}
 use Rattle.block_pool.proofs.FreshLemmas.{get_or-filled, set-filled}
 use Rattle.block_pool.proofs.LayoutLemmas.{first_free, no_head}
 use Rattle.block_pool.proofs.FillLemmas.{written, at_once, first_head, Begun, begin}

@@ -1,5 +1,4 @@
-use Rattle.std.proofs.Common.{subst, refl}
-use Rattle.block_pool.specs.Slots.{BlocksState, ShareNoBlock}
+use Rattle.block_pool.proofs.Words.{BlocksState, ShareNoBlock, refl, subst}
 use Rattle.block_pool.proofs.PlaceLemmas.{shares_none}
 use Rattle.block_pool.proofs.blocks.Blocks.chains_share_no_block.Goals as goal
 

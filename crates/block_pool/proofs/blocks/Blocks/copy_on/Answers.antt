@@ -1,9 +1,5 @@
-use Rattle.std.proofs.lemmas.Grind.{common_steps}
-use Rattle.std.proofs.lemmas.List.{get_or_read}
-use Rattle.std.proofs.Common.{◌≡◌, ℕ, ◌+◌, ◌*◌, ◌/◌, ◌<◌, sym, ap, ◌∙◌, subst, arith, length, take, get_or, List, length-take}
-use Rattle.std.specs.Prelude.{[], ◌++◌, replicate, None, Some, IsSome}
-use Rattle.block_pool.specs.Slots.{BlocksState, blocks_for}
-use Rattle.block_pool.specs.Links.{block_at}
+use Rattle.block_pool.proofs.Words.{BlocksState, IsSome, List, None, Some, [], ap, arith, block_at, blocks_for, common_steps, get_or, get_or_read, length}
+use Rattle.block_pool.proofs.Words.{length-take, replicate, subst, sym, take, ℕ, ◌*◌, ◌++◌, ◌+◌, ◌/◌, ◌<◌, ◌∙◌, ◌≡◌}
 use Rattle.block_pool.proofs.LayoutLemmas.{blocks_few, blocks_reached, copied_out, has_head, len_says, read_on_sound, read_on_slots}
 use Rattle.block_pool.proofs.PlaceLemmas.{read_on_chains, same_state}
 use Rattle.block_pool.proofs.blocks.Blocks.copy_on.Goals as goal

@@ -1,7 +1,4 @@
-use Rattle.std.proofs.Common.{ℕ, ◌+◌, ◌*◌, ◌<◌, sym, ap, subst, arith, length, take, get_or, List, length-take}
-use Rattle.std.specs.Prelude.{None, IsSome}
-use Rattle.block_pool.specs.Slots.{BlocksState}
-use Rattle.block_pool.specs.Links.{block_at}
+use Rattle.block_pool.proofs.Words.{BlocksState, IsSome, List, None, ap, arith, block_at, get_or, length, length-take, subst, sym, take, ℕ, ◌*◌, ◌+◌, ◌<◌}
 use Rattle.block_pool.proofs.LayoutLemmas.{blocks_reached, has_head, copied_out}
 use Rattle.block_pool.proofs.blocks.Blocks.copy_out.Goals as goal
 

@@ -1,7 +1,6 @@
-use Rattle.std.proofs.Common.{◌≡◌, ℕ, ◌+◌, ◌-◌, ◌≤◌, List, ap, ◌∙◌, subst, arith, length, take, drop, append_assoc, length-append, length-take}
-use Rattle.std.specs.Prelude.{◌++◌, Option}
 use Rattle.std.proofs.lemmas.List.{take_rest}
-use Rattle.block_pool.specs.Slots.{Held, with_chain, held_bytes, owner_of, blocks_for}
+use Rattle.block_pool.proofs.Words.{Held, List, Option, ap, append_assoc, arith, blocks_for, drop, held_bytes, length, length-append, length-take, owner_of}
+use Rattle.block_pool.proofs.Words.{subst, take, with_chain, ℕ, ◌++◌, ◌+◌, ◌-◌, ◌∙◌, ◌≡◌, ◌≤◌}
 use Rattle.block_pool.proofs.SlotLemmas.{put-put, bytes_of-put, owner_of-put, slot_low}
 use Rattle.block_pool.proofs.FillLemmas.{take-join}
 use Rattle.block_pool.proofs.blocks.Blocks.extend.Goals as goal

@@ -1,6 +1,4 @@
-use Rattle.std.proofs.Common.{◌≡◌, ◌+◌, ◌-◌, ◌≤◌, length, take}
-use Rattle.std.specs.Prelude.{◌++◌}
-use Rattle.block_pool.specs.Slots.{with_chain, held_bytes, owner_of, blocks_for}
+use Rattle.block_pool.proofs.Words.{blocks_for, held_bytes, length, owner_of, take, with_chain, ◌++◌, ◌+◌, ◌-◌, ◌≡◌, ◌≤◌}
 use Rattle.block_pool.proofs.blocks.Blocks.extend.Given as goal
 
 abbrev pub invariant-pieces : goal.invariant-pieces

@@ -1,9 +1,5 @@
-use Rattle.std.proofs.Common.{◌≡◌, ◌<◌, ◌≤◌, ◌+◌, ◌*◌, ◌%◌, sym, ap, ◌∙◌, subst, arith, length, get_or, set, take, drop, refl}
-use Rattle.std.specs.Prelude.{replicate, ◌++◌, None, Some, IsSome}
-use Rattle.std.proofs.lemmas.List.{take_at}
-use Rattle.block_pool.specs.Links.{region_behind}
-use Rattle.block_pool.specs.Slots.{BlocksState, with_chain, held_bytes}
-use Rattle.block_pool.specs.Layout.{slots_of, laid_bytes, AreSoundBlocks}
+use Rattle.block_pool.proofs.Words.{AreSoundBlocks, BlocksState, IsSome, None, Some, ap, arith, drop, get_or, held_bytes, laid_bytes, length, refl}
+use Rattle.block_pool.proofs.Words.{region_behind, replicate, set, slots_of, subst, sym, take, take_at, with_chain, ◌%◌, ◌*◌, ◌++◌, ◌+◌, ◌<◌, ◌∙◌, ◌≡◌, ◌≤◌}
 use Rattle.block_pool.proofs.FreshLemmas.{set-filled}
 use Rattle.block_pool.proofs.LayoutLemmas.{begun_low, blocks_few, bytes_say, owner_says, len_says, has_head, last_in}
 use Rattle.block_pool.proofs.FillLemmas.{written, grown, fill, at_once}

@@ -1,7 +1,6 @@
-use Rattle.std.proofs.Common.{◌≡◌, ◌<◌, ◌+◌, ◌^◌, sym, ap, ◌∙◌, subst, arith, get_or}
-use Rattle.std.specs.Prelude.{replicate, ◌++◌, None, Some, IsSome, slice_set}
-use Rattle.block_pool.specs.Slots.{BlocksState, blocks_for}
-use Rattle.block_pool.specs.Layout.{slots_of, AreSoundBlocks}
+use Rattle.std.specs.Prelude.{slice_set}
+use Rattle.block_pool.proofs.Words.{AreSoundBlocks, BlocksState, IsSome, None, Some, ap, arith, blocks_for, get_or, replicate, slots_of, subst, sym, ◌++◌, ◌+◌}
+use Rattle.block_pool.proofs.Words.{◌<◌, ◌^◌, ◌∙◌, ◌≡◌}
 use Rattle.block_pool.proofs.FreshLemmas.{set-filled}
 use Rattle.block_pool.proofs.LayoutLemmas.{begun_low, len_says, has_head, last_in, blocks_is, blocks_fit, free_chain_sound, free_chain_slots}
 use Rattle.block_pool.proofs.blocks.Blocks.free_chain.Goals as goal

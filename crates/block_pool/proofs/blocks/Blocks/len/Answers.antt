@@ -1,6 +1,4 @@
-use Rattle.std.proofs.Common.{◌≡◌, sym, ap, subst, get_or}
-use Rattle.std.specs.Prelude.{None, Some, IsSome}
-use Rattle.block_pool.specs.Slots.{BlocksState}
+use Rattle.block_pool.proofs.Words.{BlocksState, IsSome, None, Some, ap, get_or, subst, sym, ◌≡◌}
 use Rattle.block_pool.proofs.LayoutLemmas.{has_head, len_says}
 use Rattle.block_pool.proofs.blocks.Blocks.len.Goals as goal
 

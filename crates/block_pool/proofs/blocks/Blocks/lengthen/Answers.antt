@@ -1,7 +1,4 @@
-use Rattle.std.proofs.Common.{◌≡◌, ◌+◌, ◌-◌, ◌<◌, length, sym, ap, ◌∙◌, subst, arith, refl, ◌++◌, replicate}
-use Rattle.std.specs.Prelude.{None}
-use Rattle.block_pool.specs.Slots.{BlocksState}
-use Rattle.block_pool.specs.Layout.{slots_of, AreSoundBlocks}
+use Rattle.block_pool.proofs.Words.{AreSoundBlocks, BlocksState, None, ap, arith, length, refl, replicate, slots_of, subst, sym, ◌++◌, ◌+◌, ◌-◌, ◌<◌, ◌∙◌, ◌≡◌}
 use Rattle.block_pool.proofs.ReachLemmas.{lengthened_sound, lengthened_slots}
 use Rattle.block_pool.proofs.blocks.Blocks.lengthen.Goals as goal
 

@@ -1,5 +1,4 @@
-use Rattle.std.proofs.Common.{arith, ap, ◌++◌, replicate}
-use Rattle.std.specs.Prelude.{None}
+use Rattle.block_pool.proofs.Words.{None, ap, arith, replicate, ◌++◌}
 use Rattle.block_pool.proofs.LayoutLemmas.{make_sound, make_slots}
 use Rattle.block_pool.proofs.blocks.Blocks.make.Goals as goal
 

@@ -1,8 +1,5 @@
-use Rattle.std.proofs.Common.{◌≡◌, ◌<◌, ◌*◌, ◌%◌, sym, ap, ◌∙◌, subst, arith, length, get_or}
-use Rattle.std.specs.Prelude.{replicate, ◌∷◌, [], ◌++◌, None, Some, IsSome}
-use Rattle.std.proofs.lemmas.List.{get_or_read}
-use Rattle.block_pool.specs.Slots.{BlocksState, with_chain, held_bytes}
-use Rattle.block_pool.specs.Layout.{slots_of, laid_bytes}
+use Rattle.block_pool.proofs.Words.{BlocksState, IsSome, None, Some, [], ap, arith, get_or, get_or_read, held_bytes, laid_bytes, length, replicate, slots_of}
+use Rattle.block_pool.proofs.Words.{subst, sym, with_chain, ◌%◌, ◌*◌, ◌++◌, ◌<◌, ◌∙◌, ◌∷◌, ◌≡◌}
 use Rattle.block_pool.proofs.FreshLemmas.{set-filled}
 use Rattle.block_pool.proofs.LayoutLemmas.{begun_low, blocks_few, bytes_say, owner_says, len_says, has_head, last_in, head_fits, first_free}
 use Rattle.block_pool.proofs.LayoutLemmas.{push_in_new_block_slots, push_in_new_block_sound}

@@ -1,7 +1,5 @@
-use Rattle.std.proofs.Common.{◌≡◌, ◌<◌, arith, sym, ap, ◌∙◌, subst, get_or}
-use Rattle.std.specs.Prelude.{replicate, ◌++◌, None, Some, IsSome}
-use Rattle.block_pool.specs.Slots.{BlocksState, with_chain}
-use Rattle.block_pool.specs.Layout.{slots_of, laid_bytes}
+use Rattle.block_pool.proofs.Words.{BlocksState, IsSome, None, Some, ap, arith, get_or, laid_bytes, replicate, slots_of, subst, sym, with_chain, ◌++◌, ◌<◌, ◌∙◌}
+use Rattle.block_pool.proofs.Words.{◌≡◌}
 use Rattle.block_pool.proofs.FreshLemmas.{set-filled}
 use Rattle.block_pool.proofs.LayoutLemmas.{begun_low, blocks_few, has_head, bytes_say, set_owner_sound, set_owner_slots}
 use Rattle.block_pool.proofs.blocks.Blocks.set_owner.Goals as goal

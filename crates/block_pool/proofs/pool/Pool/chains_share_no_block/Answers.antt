@@ -1,6 +1,4 @@
-use Rattle.std.proofs.Common.{subst}
-use Rattle.block_pool.specs.Slots.{ShareNoBlock}
-use Rattle.block_pool.specs.Pool.{PoolState}
+use Rattle.block_pool.proofs.Words.{PoolState, ShareNoBlock, subst}
 use Rattle.block_pool.proofs.pool.Pool.chains_share_no_block.Goals as goal
 
 pub returns : goal.returns

@@ -1,9 +1,4 @@
-use Rattle.std.proofs.Common.{◌≡◌, sym, ap, ◌∙◌, subst, arith, length}
-use Rattle.std.proofs.lemmas.List.{get_or_read}
-use Rattle.block_pool.specs.declared.owners.Owner.{Owner}
-use Rattle.block_pool.specs.Slots.{blocks_for}
-use Rattle.block_pool.specs.Names.{named_bytes}
-use Rattle.block_pool.specs.Pool.{PoolState, IsLive}
+use Rattle.block_pool.proofs.Words.{IsLive, Owner, PoolState, ap, arith, blocks_for, get_or_read, length, named_bytes, subst, sym, ◌∙◌, ◌≡◌}
 use Rattle.block_pool.proofs.LayoutLemmas.{blocks_is, blocks_fit}
 use Rattle.block_pool.proofs.CountLemmas.{chain_low, used_low, free_low, IsCountedChain, given_counted}
 use Rattle.block_pool.proofs.pool.Pool.give.Goals as goal

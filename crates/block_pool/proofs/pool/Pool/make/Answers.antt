@@ -1,5 +1,4 @@
-use Rattle.std.proofs.Common.{ℕ, sym, subst}
-use Rattle.block_pool.specs.Counts.{AreCounted, AreFree}
+use Rattle.block_pool.proofs.Words.{AreCounted, AreFree, subst, sym, ℕ}
 use Rattle.block_pool.proofs.CountLemmas.{new_counted}
 use Rattle.block_pool.proofs.pool.Pool.make.Goals as goal
 

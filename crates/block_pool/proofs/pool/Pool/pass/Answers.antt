@@ -1,10 +1,5 @@
-use Rattle.std.proofs.Common.{◌≡◌, ℕ, ◌<◌, sym, ap, ◌∙◌, subst, arith, length, set, length-set}
-use Rattle.std.proofs.lemmas.List.{get_or_read}
-use Rattle.block_pool.specs.declared.owners.Owner.{Owner}
-use Rattle.block_pool.specs.Slots.{blocks_for}
-use Rattle.block_pool.specs.Names.{named_bytes}
-use Rattle.block_pool.specs.Pool.{PoolState, IsLive, spare_of}
-use Rattle.block_pool.specs.Counts.{AreCounted, AreFree}
+use Rattle.block_pool.proofs.Words.{AreCounted, AreFree, IsLive, Owner, PoolState, ap, arith, blocks_for, get_or_read, length, length-set, named_bytes, set}
+use Rattle.block_pool.proofs.Words.{spare_of, subst, sym, ℕ, ◌<◌, ◌∙◌, ◌≡◌}
 use Rattle.block_pool.proofs.LayoutLemmas.{blocks_is, blocks_fit}
 use Rattle.block_pool.proofs.CountLemmas.{chain_low, used_low, less, more, IsCountedChain, HasRoomFor, passed_counted}
 use Rattle.block_pool.proofs.pool.Pool.pass.Goals as goal

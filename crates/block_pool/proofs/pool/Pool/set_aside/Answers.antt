@@ -1,8 +1,4 @@
-use Rattle.std.proofs.Common.{◌≡◌, ◌≢◌, ◌+◌, ◌<◌, sym, subst, refl, arith, length, get_or, set}
-use Rattle.std.proofs.lemmas.List.{get_or_read}
-use Rattle.block_pool.specs.declared.owners.Owner.{Owner}
-use Rattle.block_pool.specs.Pool.{PoolState}
-use Rattle.block_pool.specs.Counts.{AreCounted, AreFree}
+use Rattle.block_pool.proofs.Words.{AreCounted, AreFree, Owner, PoolState, arith, get_or, get_or_read, length, refl, set, subst, sym, ◌+◌, ◌<◌, ◌≡◌, ◌≢◌}
 use Rattle.block_pool.proofs.CountLemmas.{counted_after, free_after}
 use Rattle.block_pool.proofs.pool.Pool.set_aside.Goals as goal
 

@@ -1,8 +1,4 @@
-use Rattle.std.proofs.Common.{◌≡◌, ◌+◌, ◌-◌, ◌≤◌, sym, ap, ◌∙◌, subst, arith, length}
-use Rattle.std.proofs.lemmas.List.{get_or_read}
-use Rattle.block_pool.specs.Slots.{blocks_for}
-use Rattle.block_pool.specs.Names.{named_bytes}
-use Rattle.block_pool.specs.Pool.{PoolState, IsLive, spare_of}
+use Rattle.block_pool.proofs.Words.{IsLive, PoolState, ap, arith, blocks_for, get_or_read, length, named_bytes, spare_of, subst, sym, ◌+◌, ◌-◌, ◌∙◌, ◌≡◌, ◌≤◌}
 use Rattle.block_pool.proofs.LayoutLemmas.{blocks_is}
 use Rattle.block_pool.proofs.CountLemmas.{enough_free, IsCountedChain, taken_counted}
 use Rattle.block_pool.proofs.pool.Pool.take.Goals as goal

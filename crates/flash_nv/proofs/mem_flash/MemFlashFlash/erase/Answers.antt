@@ -1,7 +1,4 @@
-use Rattle.std.proofs.Common.{ℕ, ◌*◌, replicate, arith, ◌∙◌}
-use Rattle.std.specs.Result.{is_ok}
-use Rattle.std.proofs.lemmas.List.{length-replicate, get_or-replicate}
-use Rattle.flash_nv.specs.MemCells.{tear_mask}
+use Rattle.flash_nv.proofs.Words.{arith, get_or-replicate, is_ok, length-replicate, replicate, tear_mask, ℕ, ◌*◌, ◌∙◌}
 use Rattle.flash_nv.proofs.PutLemmas.{torn_is_change, torn_is_partly, ok_is_full}
 use Rattle.flash_nv.proofs.mem_flash.MemFlashFlash.erase.Goals as goal
 

@@ -1,7 +1,6 @@
-use Rattle.std.proofs.Common.{◌≡◌, ◌≤◌, ◌<◌, ◌+◌, ◌-◌, ◌*◌, ℕ, length, take, slice_index, slice_range, bit_and, ap, subst, ◌∙◌, arith}
-use Rattle.std.specs.Result.{is_ok}
-use Rattle.std.proofs.lemmas.List.{length-take-le}
-use Rattle.flash_nv.specs.MemCells.{Chip, tear_mask}
+use Rattle.flash_nv.proofs.Words.{ap, arith, bit_and, is_ok, length, length-take-le, slice_index, slice_range, subst, take, tear_mask, ℕ, ◌*◌, ◌+◌, ◌-◌, ◌<◌}
+use Rattle.flash_nv.proofs.Words.{◌∙◌, ◌≡◌, ◌≤◌}
+use Rattle.flash_nv.specs.MemCells.{Chip}
 use Rattle.flash_nv.proofs.PutLemmas.{torn_is_change, torn_is_partly, cleared_part, ok_is_full}
 use Rattle.flash_nv.proofs.mem_flash.MemFlashFlash.program.Goals as goal
 

@@ -1,6 +1,4 @@
-use Rattle.std.proofs.Common.{◌≡◌, ◌+◌, ◌<◌, length, slice_index, ap, ◌∙◌, subst}
-use Rattle.flash_nv.specs.Memory.{FlashMemory}
-use Rattle.flash_nv.specs.Pages.{content_byte}
+use Rattle.flash_nv.proofs.Words.{FlashMemory, ap, content_byte, length, slice_index, subst, ◌+◌, ◌<◌, ◌∙◌, ◌≡◌}
 use Rattle.flash_nv.proofs.ContentLemmas.{read_front}
 use Rattle.flash_nv.proofs.memory.FlashNvNv.read.Goals as goal
 

@@ -1,9 +1,5 @@
-use Rattle.std.proofs.Common.{◌≡◌, length, refl, ap, sym, ◌∙◌, subst}
-use Rattle.std.proofs.lemmas.Bool.{false≢true}
-use Rattle.flash_nv.specs.Memory.{FlashMemory}
-use Rattle.flash_nv.specs.Steps.{IsMapBegun, AreSteps, sectors}
-use Rattle.flash_nv.specs.Pages.{content_byte}
-use Rattle.flash_nv.specs.Writing.{IsKeptBeside}
+use Rattle.flash_nv.proofs.Words.{AreSteps, FlashMemory, IsKeptBeside, ap, content_byte, false≢true, length, refl, sectors, subst, sym, ◌∙◌, ◌≡◌}
+use Rattle.flash_nv.specs.Steps.{IsMapBegun}
 use Rattle.flash_nv.proofs.PutLemmas.{not_ok}
 use Rattle.flash_nv.proofs.ContentLemmas.{written_front, torn_front}
 use Rattle.flash_nv.proofs.memory.FlashNvNv.write.Goals as goal

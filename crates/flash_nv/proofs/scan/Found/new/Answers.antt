@@ -1,5 +1,4 @@
-use Rattle.std.proofs.Common.{ap}
-use Rattle.flash_nv.specs.Maps.{Map}
+use Rattle.flash_nv.proofs.Words.{Map, ap}
 use Rattle.flash_nv.proofs.ScanLemmas.{found_none}
 use Rattle.flash_nv.proofs.scan.Found.new.Goals as goal
 

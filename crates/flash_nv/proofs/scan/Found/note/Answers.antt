@@ -1,6 +1,4 @@
-use Rattle.std.proofs.Common.{◌+◌, slice_index, slice_set, sym, ◌∙◌, subst, arith}
-use Rattle.flash_nv.specs.Maps.{Map}
-use Rattle.flash_nv.specs.Scanning.{ArePagesFound}
+use Rattle.flash_nv.proofs.Words.{ArePagesFound, Map, arith, slice_index, slice_set, subst, sym, ◌+◌, ◌∙◌}
 use Rattle.flash_nv.proofs.ScanLemmas.{found_invalid, found_older, found_newer}
 use Rattle.flash_nv.proofs.scan.Found.note.Goals as goal
 

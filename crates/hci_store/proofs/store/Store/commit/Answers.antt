@@ -1,9 +1,4 @@
-use Rattle.std.proofs.Common.{◌⊎◌, ◌∙◌, true, false, length, ap, subst, arith}
-use Rattle.journal_laws.specs.Journal.{count_of}
-use Rattle.journal_laws.specs.Operations.{HasRoomForBody, appended}
-use Rattle.hci_tables.specs.Bodies.{body_of}
-use Rattle.hci_tables.specs.Tables.{apply}
-use Rattle.hci_store.specs.Stored.{Keeps}
+use Rattle.hci_store.proofs.Words.{HasRoomForBody, Keeps, ap, appended, apply, arith, body_of, count_of, false, length, subst, true, ◌∙◌, ◌⊎◌}
 use Rattle.hci_store.proofs.Committed.{holds_more, is_body, recordable-apply, commit_made, commit_cut, append_left, keeps_then}
 use Rattle.hci_store.proofs.store.Store.commit.Goals as goal
 

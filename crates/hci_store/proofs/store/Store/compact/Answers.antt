@@ -1,7 +1,5 @@
-use Rattle.std.proofs.Common.{is_ok, subst, ◌∙◌, arith}
-use Rattle.journal_laws.specs.Writes.{AreMade}
-use Rattle.journal_laws.specs.Operations.{compact_writes}
-use Rattle.hci_store.specs.Stored.{HoldsTables}
+use Rattle.std.proofs.Common.{is_ok}
+use Rattle.hci_store.proofs.Words.{AreMade, HoldsTables, arith, compact_writes, subst, ◌∙◌}
 use Rattle.hci_store.proofs.Committed.{holds_snapshot, holds_by, compact_left}
 use Rattle.hci_store.proofs.store.Store.compact.Goals as goal
 use Rattle.swp_base.proofs.Results.{on_ok}

@@ -1,9 +1,5 @@
-use Rattle.std.proofs.Common.{Err, sym, refl, ap, ◌∙◌, subst}
+use Rattle.hci_store.proofs.Words.{Err, IsSound, ap, close, image_fault, journal, not_of_memory, read_all, refl, subst, sym, ◌∙◌}
 use Rattle.nv_journal.specs.Kept.{KeptMemory}
-use Rattle.nv_journal.proofs.Refusing.{not_of_memory, read_all}
-use Rattle.hci_tables.specs.Tables.{close}
-use Rattle.journal_laws.specs.Journal.{journal, IsSound}
-use Rattle.hci_store.specs.Image.{image_fault}
 use Rattle.hci_store.proofs.Committed.{sound_has_no_fault, close-close, recordable-close}
 use Rattle.hci_store.proofs.Refusing.{heads_refused, records_refused}
 use Rattle.hci_store.proofs.store.Store.peek.Goals as goal

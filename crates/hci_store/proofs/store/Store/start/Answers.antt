@@ -1,24 +1,13 @@
-use Rattle.std.proofs.Common.{◌≡◌, ◌⊎◌, inl, inr, ℕ, true, List, None, sym, refl, ap, ◌∙◌, false, subst, fold, arith, Err}
-use Rattle.std.specs.Option.{option_map_or}
-use Rattle.std.specs.Prelude.{Result, Ok}
-use Rattle.journal_laws.specs.declared.state.State.{State}
-use Rattle.journal_laws.specs.Writes.{after_writes, AreMade}
-use Rattle.journal_laws.specs.Journal.{journal, records, count_of, count}
-use Rattle.journal_laws.specs.Operations.{format_writes, formatted, started_state, LeftByCut, start_writes}
-use Rattle.nv_journal.specs.declared.JournalFault.{JournalFault}
-use Rattle.nv_journal.specs.declared.JournalFault.TheVariants.{NvFault, GenerationsSpent}
-use Rattle.nv_journal.specs.Kept.{Says}
+use Rattle.hci_store.proofs.Words.{AreMade, Err, GenerationsSpent, HciTables, HoldsTables, IsOnlyRead, JournalFault, Keeps, LeftByCut, List, None, NvFault, Ok}
+use Rattle.hci_store.proofs.Words.{Result, Says, State, after_writes, ap, applied, are_commands, arith, close, count, count_of, false, fold, format_writes}
+use Rattle.hci_store.proofs.Words.{formatted, image_fault, inl, inr, journal, migration_writes, no_tables, not_of_memory, option_map_or, read_all, records}
+use Rattle.hci_store.proofs.Words.{refl, start_writes, started_state, subst, sym, tables_of, true, ℕ, ◌∙◌, ◌≡◌, ◌⊎◌}
 use Rattle.nv_journal.proofs.Formatting.{says_formatted, no_records_then}
-use Rattle.nv_journal.proofs.Refusing.{not_of_memory, read_all}
-use Rattle.hci_tables.specs.Tables.{HciTables, close, no_tables}
-use Rattle.hci_store.specs.Image.{tables_of, are_commands, image_fault, applied}
-use Rattle.hci_store.specs.Stored.{HoldsTables, Keeps, FindsSame}
+use Rattle.hci_store.specs.Stored.{FindsSame}
 use Rattle.hci_store.proofs.Committed.{sound_has_no_fault, journal_left, holds_still, keeps_still, close-close, recordable-close, made-append, made-cut}
 use Rattle.hci_store.proofs.Starting.{counted, spent, unspent, untouched, not_written, ready_written, ready_stands}
-use Rattle.hci_store.specs.Refusals.{IsOnlyRead}
 use Rattle.hci_store.proofs.Refusing.{heads_refused, records_refused, rose_of, image_of, unread_of, only_read, where_spent, memory_is_no_image}
 use Rattle.hci_store.proofs.Refusing.{start_is_no_image}
-use Rattle.hci_store.specs.Starting.{migration_writes}
 use Rattle.hci_store.proofs.store.Store.start.Goals as goal
 
 -- What a start that was refused leaves.

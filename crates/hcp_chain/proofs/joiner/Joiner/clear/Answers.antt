@@ -1,5 +1,4 @@
-use Rattle.std.proofs.Common.{subst}
-use Rattle.std.specs.Prelude.{◌++◌, ◌∷◌, []}
+use Rattle.hcp_chain.proofs.Words.{[], subst, ◌++◌, ◌∷◌}
 use Rattle.hcp_chain.specs.Holding.{HoldsChains, IsOwnOpen}
 use Rattle.hcp_chain.proofs.HoldingLemmas.{all_front}
 use Rattle.hcp_chain.proofs.ClearLemmas.{Clears, clears_none, clears_more}

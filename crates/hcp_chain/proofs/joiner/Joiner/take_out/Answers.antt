@@ -1,8 +1,4 @@
-use Rattle.std.proofs.Common.{◌≡◌, ◌∙◌, sym, ap, refl, arith, length, eqb}
-use Rattle.std.specs.Prelude.{Some, None}
-use Rattle.std.specs.List.{position}
-use Rattle.std.proofs.lemmas.Grind.{common_steps}
-use Rattle.hcp_chain.specs.declared.joiner.Open.{Open}
+use Rattle.hcp_chain.proofs.Words.{None, Open, Some, ap, arith, common_steps, eqb, length, position, refl, sym, ◌∙◌, ◌≡◌}
 use Rattle.hcp_chain.proofs.HoldingLemmas.{taken_out, begun, fifth_not_found}
 use Rattle.hcp_chain.proofs.joiner.Joiner.take_out.Goals as goal
 

@@ -1,15 +1,9 @@
-use Rattle.std.proofs.Common.{◌≡◌, ◌≢◌, ◌∙◌, sym, subst, List, arith, rules}
-use Rattle.std.specs.Prelude.{◌++◌, ◌∷◌, []}
-use Rattle.block_pool.specs.declared.chain.Chain.{Chain}
-use Rattle.std.proofs.lemmas.List.{append-nil}
-use Rattle.std.proofs.lemmas.Grind.{common_steps}
-use Rattle.block_pool.specs.Pool.{IsLive, IsApart, chain_bytes}
-use Rattle.hcp_chain.specs.declared.joiner.Open.{Open}
+use Rattle.hcp_chain.proofs.Words.{CanGrow, Chain, Grown, IsApart, IsLive, List, Open, [], append-nil, arith, chain_bytes, common_steps, rules, subst, sym}
+use Rattle.hcp_chain.proofs.Words.{◌++◌, ◌∙◌, ◌∷◌, ◌≡◌, ◌≢◌}
 use Rattle.hcp_chain.specs.Holding.{IsApartFrom, whole_in}
 use Rattle.hcp_chain.proofs.HoldingLemmas.{all_map}
 use Rattle.hcp_chain.proofs.ClearLemmas.{HasOneMore, all_given, ready_again}
 use Rattle.hcp_packet.specs.Packets.{packet_seen}
-use Rattle.hcp_chain.specs.TakingOut.{CanGrow, Grown}
 use Rattle.hcp_chain.proofs.GrowLemmas.{of_ok, room_for, grows}
 use Rattle.hcp_chain.proofs.joiner.Joiner.take_view.Goals as goal
 use Rattle.hcp_chain.proofs.joiner.Joiner.take_view.Goals.{After-take}
@@ -52,8 +46,14 @@ grown : (c : After-take) → Grown c.take_out.new.pool c.take.new.self c.take_ou
 grown c =
     let out = c.in-Some.ensures.some in
     let can : CanGrow c.take_out.new.pool c.take_out.new.self (packet_seen c.args.packet.now) c.in-Some.chain = record {
-      room = out.room; live = grind (arith, common_steps); owned = grind (arith, common_steps); fits = grind (arith, common_steps); apart = out.apart;
-      holds = grind (arith, common_steps); quota = grind (arith, common_steps); used = grind (arith, common_steps);
+      room = out.room;
+      live = grind (arith, common_steps);
+      owned = grind (arith, common_steps);
+      fits = grind (arith, common_steps);
+      apart = out.apart;
+      holds = grind (arith, common_steps);
+      quota = grind (arith, common_steps);
+      used = grind (arith, common_steps);
     } in
     let t = c.take.ensures in
     let ok = t.room.1 (room_for c.take_out.new.pool c.take_out.new.self (packet_seen c.args.packet.now) c.in-Some.chain can) in

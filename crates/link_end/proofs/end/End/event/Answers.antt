@@ -1,6 +1,4 @@
-use Rattle.block_pool.specs.Pool.{PoolState}
-use Rattle.link_laws.specs.machine.Machine.{LinkEnd as Machine, with_act}
-use Rattle.link_end.specs.Ends.{EndStandsFor}
+use Rattle.link_end.proofs.Words.{EndStandsFor, Machine, PoolState, with_act}
 use Rattle.link_end.proofs.EndLemmas.{act_made, stepped, event_stands, event_told}
 use Rattle.link_end.proofs.«end».End.event.Goals as goal
 use Rattle.link_end.proofs.«end».End.event.Goals.{After-nothing, in-Some, in_default}

@@ -1,11 +1,5 @@
-use Rattle.std.proofs.Common.{◌≡◌, Bool, sym, ap, ◌∙◌, subst, refl}
-use Rattle.std.specs.Prelude.{Option, IfSome, is_some}
-use Rattle.block_pool.specs.Pool.{PoolState}
-use Rattle.shdlc_core.specs.Machine.{Fragment}
-use Rattle.link_laws.specs.machine.Machine.{LinkEnd as Machine}
-use Rattle.link_messages.specs.declared.inbox.Inbox.{Inbox}
-use Rattle.link_messages.specs.Incoming.{IsInboxReady, messages_under_way}
-use Rattle.link_end.specs.Ends.{EndStandsFor, LeavesBoxes}
+use Rattle.link_end.proofs.Words.{Bool, EndStandsFor, Fragment, IfSome, Inbox, IsInboxReady, LeavesBoxes, Machine, Option, PoolState, ap, is_some}
+use Rattle.link_end.proofs.Words.{messages_under_way, refl, subst, sym, ◌∙◌, ◌≡◌}
 use Rattle.link_end.proofs.HearLemmas.{HasTaken, IsBroken, over_stands, over_told, may_receive, is_of_frame, cut_enough, GoesOn, goes_on, BreaksOff}
 use Rattle.link_end.proofs.HearLemmas.{breaks_off, fault_lies, broken_elsewhere, received_lies, some_brought}
 use Rattle.link_end.proofs.BoxLemmas.{leaves_more, leaves_same}

@@ -1,5 +1,4 @@
-use Rattle.std.proofs.Common.{ap}
-use Rattle.std.specs.Prelude.{not}
+use Rattle.link_end.proofs.Words.{ap, not}
 use Rattle.link_end.proofs.«end».End.is_held.Goals as goal
 
 pub returns : goal.returns

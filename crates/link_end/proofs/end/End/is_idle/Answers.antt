@@ -1,8 +1,4 @@
-use Rattle.std.proofs.Common.{◌≡◌, true, [], sym, ap, ◌∙◌}
-use Rattle.std.proofs.lemmas.Bool.{eqb-true}
-use Rattle.std.proofs.lemmas.List.{nil_from_length}
-use Rattle.link_laws.specs.machine.Machine.{is_open}
-use Rattle.link_messages.specs.Outgoing.{waiting_in}
+use Rattle.link_end.proofs.Words.{[], ap, eqb-true, is_open, nil_from_length, sym, true, waiting_in, ◌∙◌, ◌≡◌}
 use Rattle.link_end.proofs.IdleLemmas.{stands_whole, idle_end}
 use Rattle.link_end.proofs.«end».End.is_idle.Goals as goal
 

@@ -1,9 +1,6 @@
-use Rattle.std.proofs.Common.{sym, subst}
+use Rattle.link_end.proofs.Words.{ShdlcStandsFor, new_link_end, new_role, subst, sym}
 use Rattle.swp_base.specs.declared.link_terms.Role.{Role}
-use Rattle.shdlc_core.specs.Kept.{ShdlcStandsFor}
 use Rattle.shdlc_core.specs.Machine.{new_end}
-use Rattle.link_laws.specs.machine.Machine.{new_link_end}
-use Rattle.link_end.specs.Roles.{new_role}
 use Rattle.link_end.proofs.«end».End.new_shdlc.Goals as goal
 
 pub returns-in-Bare : goal.returns-in-Bare

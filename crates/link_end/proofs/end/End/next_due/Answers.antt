@@ -1,16 +1,7 @@
-use Rattle.std.proofs.Common.{◌≡◌, ℕ, Bool, true, List, [], length, sym, ap, ◌∙◌, subst}
-use Rattle.std.specs.Prelude.{◌==◌, Option, Some, Ok, IfSome, map, option_map}
-use Rattle.std.proofs.lemmas.Bool.{eqb-true}
-use Rattle.std.proofs.lemmas.List.{nil_from_length}
-use Rattle.block_pool.specs.Pool.{PoolState}
-use Rattle.swp_base.specs.declared.control_frames.Control.{Control}
-use Rattle.shdlc_core.specs.Kept.{ShdlcStandsFor, frame_shown}
-use Rattle.shdlc_core.specs.Machine.{EndState, frame_due}
-use Rattle.swp_lpdu.specs.Controls.{lpdu_of, control_of, HasNumbers}
-use Rattle.link_laws.specs.machine.Machine.{LinkEnd, frame_fetched, next_frame}
-use Rattle.link_end.specs.Dues.{behind_front, front_act, kept_nearer}
-use Rattle.link_end.specs.declared.«end».End.{End}
-use Rattle.link_end.specs.Ends.{EndStandsFor}
+use Rattle.link_end.proofs.Words.{Bool, Control, End, EndStandsFor, EndState, HasNumbers, IfSome, LinkEnd, List, Ok, Option, PoolState, ShdlcStandsFor, Some}
+use Rattle.link_end.proofs.Words.{[], ap, behind_front, control_of, eqb-true, frame_due, frame_fetched, front_act, kept_nearer, length, lpdu_of, map}
+use Rattle.link_end.proofs.Words.{next_frame, nil_from_length, option_map, subst, sym, true, ℕ, ◌==◌, ◌∙◌, ◌≡◌}
+use Rattle.shdlc_core.specs.Kept.{frame_shown}
 use Rattle.link_end.proofs.FormLemmas.{next_numbers}
 use Rattle.link_end.proofs.NodeLemmas.{act_sent, link_fetched, link_frame}
 use Rattle.link_end.proofs.«end».End.next_due.Goals as goal

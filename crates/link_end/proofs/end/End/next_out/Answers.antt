@@ -1,13 +1,5 @@
-use Rattle.std.proofs.Common.{◌≡◌, [], sym, ap, ◌∙◌, subst}
-use Rattle.std.specs.Prelude.{Option, None, Ok, IfSome, map, option_map}
-use Rattle.std.proofs.lemmas.Bool.{eqb-true}
-use Rattle.std.proofs.lemmas.List.{nil_from_length}
-use Rattle.swp_base.specs.declared.control_frames.Control.{Control}
-use Rattle.shdlc_core.specs.Kept.{ShdlcStandsFor}
-use Rattle.swp_lpdu.specs.Controls.{lpdu_of, control_of}
-use Rattle.link_laws.specs.machine.Machine.{LinkEnd, frame_fetched, next_frame}
-use Rattle.link_end.specs.Dues.{kept_nearer, behind_front, front_act}
-use Rattle.link_end.specs.Ends.{EndStandsFor}
+use Rattle.link_end.proofs.Words.{Control, EndStandsFor, IfSome, LinkEnd, None, Ok, Option, ShdlcStandsFor, [], ap, behind_front, control_of, eqb-true}
+use Rattle.link_end.proofs.Words.{frame_fetched, front_act, kept_nearer, lpdu_of, map, next_frame, nil_from_length, option_map, subst, sym, ◌∙◌, ◌≡◌}
 use Rattle.link_end.proofs.NodeLemmas.{link_frame, link_fetched}
 use Rattle.link_end.proofs.«end».End.next_out.Goals as goal
 

@@ -1,6 +1,4 @@
-use Rattle.std.proofs.Common.{sym, ◌∙◌, subst, refl}
-use Rattle.block_pool.specs.Pool.{PoolState}
-use Rattle.link_end.specs.Ends.{Halfway}
+use Rattle.link_end.proofs.Words.{Halfway, PoolState, refl, subst, sym, ◌∙◌}
 use Rattle.link_end.proofs.EndLemmas.{Refills, refills_more, refilled}
 use Rattle.link_end.proofs.«end».End.offer_more.Goals as goal
 

@@ -1,5 +1,4 @@
-use Rattle.std.proofs.Common.{◌≡◌, length}
-use Rattle.link_messages.specs.Outgoing.{waiting_in}
+use Rattle.link_end.proofs.Words.{length, waiting_in, ◌≡◌}
 use Rattle.link_end.proofs.EndLemmas.{Refills}
 use Rattle.link_end.proofs.«end».End.offer_more.Given as goal
 

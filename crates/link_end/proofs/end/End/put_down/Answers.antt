@@ -1,5 +1,4 @@
-use Rattle.std.proofs.Common.{◌≡◌, arith, sym, ◌∙◌}
-use Rattle.shdlc_core.specs.declared.answers.LinkState.TheVariants.{Down}
+use Rattle.link_end.proofs.Words.{Down, arith, sym, ◌∙◌, ◌≡◌}
 use Rattle.link_end.proofs.EndLemmas.{dropped}
 use Rattle.link_end.proofs.«end».End.put_down.Goals as goal
 

@@ -1,7 +1,4 @@
-use Rattle.std.proofs.Common.{◌≡◌, true, false, sym, ap, ◌∙◌, subst}
-use Rattle.shdlc_core.specs.declared.answers.LinkState.TheVariants.{Up, Down}
-use Rattle.link_laws.specs.machine.Machine.{LinkEnd, is_open}
-use Rattle.link_end.specs.Ends.{EndStandsFor}
+use Rattle.link_end.proofs.Words.{Down, EndStandsFor, LinkEnd, Up, ap, false, is_open, subst, sym, true, ◌∙◌, ◌≡◌}
 use Rattle.link_end.proofs.NodeLemmas.{reset_closed, reset_up, reset_down, reset_ends, reset_begins}
 use Rattle.link_end.proofs.«end».End.reset.Goals as goal
 

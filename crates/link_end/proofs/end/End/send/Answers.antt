@@ -1,11 +1,5 @@
-use Rattle.std.proofs.Common.{◌≡◌, ◌≤◌, ℕ, length, sym, ap, ◌∙◌, subst, refl}
-use Rattle.std.specs.Prelude.{Err}
-use Rattle.block_pool.specs.Slots.{blocks_for}
-use Rattle.shdlc_core.specs.declared.answers.LinkState.TheVariants.{Up}
-use Rattle.link_laws.specs.machine.Machine.{Message, spare}
-use Rattle.link_laws.specs.machine.Machine.Refused.{TooLong, Full}
+use Rattle.link_end.proofs.Words.{Err, Full, Message, SendFull, TooLong, Up, ap, blocks_for, length, refl, spare, subst, sym, ℕ, ◌∙◌, ◌≡◌, ◌≤◌}
 use Rattle.link_end.specs.Reports.{by_refusal_told}
-use Rattle.link_end.specs.declared.report.SendRefused.TheVariants.{Full as SendFull}
 use Rattle.link_end.proofs.NodeLemmas.{spare_is, refused_long, refused_full, refused_none, refusal_stays, gives, message_given}
 use Rattle.link_end.proofs.BoxLemmas.{leaves_same}
 use Rattle.link_end.proofs.«end».End.send.Goals as goal

@@ -1,13 +1,7 @@
-use Rattle.std.proofs.Common.{◌≡◌, ◌≤◌, ℕ, length, sym, ap, ◌∙◌, subst, refl, arith}
-use Rattle.std.specs.Prelude.{Err}
+use Rattle.link_end.proofs.Words.{Err, Full, Message, SendFull, TooLong, Up, ap, arith, blocks_for, chain_bytes, length, refl, spare, subst, sym, ℕ, ◌∙◌, ◌≡◌}
+use Rattle.link_end.proofs.Words.{◌≤◌}
 use Rattle.block_pool.specs.declared.chain.Chain.{Chain as Blocks}
-use Rattle.block_pool.specs.Slots.{blocks_for}
-use Rattle.block_pool.specs.Pool.{chain_bytes}
-use Rattle.shdlc_core.specs.declared.answers.LinkState.TheVariants.{Up}
-use Rattle.link_laws.specs.machine.Machine.{Message, spare}
-use Rattle.link_laws.specs.machine.Machine.Refused.{TooLong, Full}
 use Rattle.link_end.specs.Reports.{pass_by}
-use Rattle.link_end.specs.declared.report.SendRefused.TheVariants.{Full as SendFull}
 use Rattle.link_end.proofs.NodeLemmas.{spare_is, refused_long, refused_full, refused_none, refusal_stays, gives, message_passed}
 use Rattle.link_end.proofs.«end».End.send_chain.Goals as goal
 

@@ -1,12 +1,10 @@
-use Rattle.std.proofs.Common.{◌≡◌, ℕ, List, true, false, ap, sym, ◌∙◌, subst, rules}
-use Rattle.std.specs.Prelude.{Result, Ok, Err}
-use Rattle.swp_base.specs.declared.control_frames.Control.{Control}
+use Rattle.std.proofs.Common.{rules}
+use Rattle.std.specs.Prelude.{Result}
+use Rattle.link_end.proofs.Words.{Control, EndStandsFor, Err, IsShdlc, LinkEnd, List, Ok, after_input, ap, control_of, false, is_open, report, report_told}
+use Rattle.link_end.proofs.Words.{subst, sym, true, ℕ, ◌∙◌, ◌≡◌}
 use Rattle.swp_lpdu.specs.declared.LpduFault.{LpduFault}
-use Rattle.swp_lpdu.specs.Controls.{control_of}
-use Rattle.link_laws.specs.machine.Machine.{LinkEnd, LinkInput, after_input, is_open, report, lpdu_input}
+use Rattle.link_laws.specs.machine.Machine.{LinkInput, lpdu_input}
 use Rattle.link_laws.specs.machine.Machine.LinkInput.{Take, TakeUnknown}
-use Rattle.link_end.specs.Ends.{EndStandsFor}
-use Rattle.link_end.specs.Reports.{report_told, IsShdlc}
 use Rattle.link_end.proofs.StepLemmas.{act_is_told, heard_after, heard_is_told, unheard_after}
 use Rattle.link_end.proofs.«end».End.take_read.Goals as goal
 

@@ -1,6 +1,4 @@
-use Rattle.std.proofs.Common.{◌≡◌, true, false, sym, ap, ◌∙◌, subst}
-use Rattle.link_laws.specs.machine.Machine.{LinkEnd, is_open}
-use Rattle.link_end.specs.Ends.{EndStandsFor}
+use Rattle.link_end.proofs.Words.{EndStandsFor, LinkEnd, ap, false, is_open, subst, sym, true, ◌∙◌, ◌≡◌}
 use Rattle.link_end.proofs.StepLemmas.{tick_after}
 use Rattle.link_end.proofs.«end».End.tick.Goals as goal
 

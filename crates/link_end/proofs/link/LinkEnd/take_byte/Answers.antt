@@ -1,7 +1,6 @@
-use Rattle.std.proofs.Common.{ap, ◌∙◌, subst}
+use Rattle.link_end.proofs.Words.{EndStandsFor, after_some, ap, subst, told_some, ◌∙◌}
 use Rattle.byte_link.specs.declared.unit.Unit.{Unit as Given}
-use Rattle.link_end.specs.Ends.{EndStandsFor}
-use Rattle.link_end.specs.Inputs.{unit_input, after_some, told_some}
+use Rattle.link_end.specs.Inputs.{unit_input}
 use Rattle.link_end.proofs.link.LinkEnd.take_byte.Goals as goal
 
 pub returns-in-Nothing-clause-stands : goal.returns-in-Nothing-clause-stands

@@ -1,7 +1,4 @@
-use Rattle.std.proofs.Common.{sym, subst}
-use Rattle.swp_frame.specs.declared.fed.Fed.{Fed}
-use Rattle.link_end.specs.Ends.{EndStandsFor}
-use Rattle.link_end.specs.Inputs.{fed_input, after_some}
+use Rattle.link_end.proofs.Words.{EndStandsFor, Fed, after_some, fed_input, subst, sym}
 use Rattle.link_end.proofs.link.LinkEnd.take_fed.Goals as goal
 
 pub returns-in-Frame-clause-stands : goal.returns-in-Frame-clause-stands

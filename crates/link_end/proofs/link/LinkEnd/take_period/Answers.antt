@@ -1,12 +1,9 @@
-use Rattle.std.proofs.Common.{◌≡◌, Bool, ◌∷◌, sym, ap, ◌∙◌, subst}
-use Rattle.std.specs.Prelude.{Option, Some}
-use Rattle.swp_frame.specs.declared.fed.Fed.{Fed}
+use Rattle.link_end.proofs.Words.{Bool, EndStandsFor, Fed, Option, Some, after_some, ap, fed_input, subst, sym, told_some, ◌∙◌, ◌∷◌, ◌≡◌}
 use Rattle.swp_frame.specs.Signal.{symbol_of}
 use Rattle.swp_frame.specs.Verdicts.{verdict}
 use Rattle.swp_frame.specs.Kept.{DeframerStandsFor}
 use Rattle.swp_line.specs.declared.period.Period.{Period}
-use Rattle.link_end.specs.Ends.{EndStandsFor}
-use Rattle.link_end.specs.Inputs.{fed_input, after_some, told_some, after_period, told_period, heard_after, heard_bit}
+use Rattle.link_end.specs.Inputs.{after_period, heard_after, heard_bit, told_period}
 use Rattle.link_end.proofs.link.LinkEnd.take_period.Goals as goal
 
 pub returns-in-Some-Bits-clause-stands : goal.returns-in-Some-Bits-clause-stands

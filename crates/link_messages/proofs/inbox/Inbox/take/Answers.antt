@@ -1,12 +1,8 @@
-use Rattle.std.proofs.Common.{◌≡◌, List, not, sym, ap, ◌∙◌, subst, refl, arith}
-use Rattle.block_pool.specs.Pool.{PoolState, chain_bytes}
+use Rattle.std.proofs.Common.{not}
+use Rattle.link_messages.proofs.Words.{HoldsWhole, Inbox, List, Packet, PoolState, ap, arith, chain_bytes, join_step, refl, subst, sym, ◌∙◌, ◌≡◌}
 use Rattle.std.specs.Option.{option_to_list}
-use Rattle.hcp_packet.specs.declared.Packet.{Packet}
 use Rattle.hcp_packet.specs.Packets.{packet_of, packet_seen, is_good}
-use Rattle.hcp_chain.specs.Joining.{join_step}
 use Rattle.link_messages.specs.Incoming.{Joins, messages_under_way}
-use Rattle.hcp_chain.specs.Holding.{HoldsWhole}
-use Rattle.link_messages.specs.declared.inbox.Inbox.{Inbox}
 use Rattle.link_messages.proofs.IncomingLemmas.{Keeps, dropped_bad, kept_good, first_tells, joins_whole, joins_fault, fault_said}
 use Rattle.link_messages.proofs.inbox.Inbox.take.Goals as goal
 use Rattle.link_messages.proofs.inbox.Inbox.take.Goals.{After-is_err}

@@ -1,7 +1,4 @@
-use Rattle.std.proofs.Common.{◌<◌, length, refl, sym, subst, arith}
-use Rattle.block_pool.specs.Pool.{PoolState}
-use Rattle.link_messages.specs.declared.outbox.Outbox.{Outbox}
-use Rattle.link_messages.specs.Outgoing.{Accepts}
+use Rattle.link_messages.proofs.Words.{Accepts, Outbox, PoolState, arith, length, refl, subst, sym, ◌<◌}
 use Rattle.link_messages.proofs.OutgoingLemmas.{TakesInto, taken_into, accepted, left_fits, added}
 use Rattle.link_messages.proofs.outbox.Outbox.accept.Goals as goal
 

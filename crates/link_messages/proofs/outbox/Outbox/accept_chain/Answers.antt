@@ -1,7 +1,4 @@
-use Rattle.std.proofs.Common.{◌<◌, length, refl, sym, subst, arith}
-use Rattle.block_pool.specs.Pool.{chain_bytes}
-use Rattle.link_messages.specs.declared.outbox.Outbox.{Outbox}
-use Rattle.link_messages.specs.Outgoing.{Accepts, LeavesOthersBut}
+use Rattle.link_messages.proofs.Words.{Accepts, LeavesOthersBut, Outbox, arith, chain_bytes, length, refl, subst, sym, ◌<◌}
 use Rattle.link_messages.proofs.OutgoingLemmas.{passed_into, accepted, left_fits, added}
 use Rattle.link_messages.proofs.outbox.Outbox.accept_chain.Goals as goal
 

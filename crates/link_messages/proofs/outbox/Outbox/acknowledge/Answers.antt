@@ -1,5 +1,4 @@
-use Rattle.std.proofs.Common.{◌≡◌, ◌+◌, length, arith}
-use Rattle.block_pool.specs.Pool.{chain_bytes}
+use Rattle.link_messages.proofs.Words.{arith, chain_bytes, length, ◌+◌, ◌≡◌}
 use Rattle.hcp_packet.specs.Packets.{packet_count}
 use Rattle.link_messages.proofs.OutgoingLemmas.{acknowledges_none, acknowledges_more, first_live, first_given, none_whole, none_left}
 use Rattle.link_messages.proofs.outbox.Outbox.acknowledge.Goals as goal

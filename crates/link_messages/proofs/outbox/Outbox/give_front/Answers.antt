@@ -1,6 +1,4 @@
-use Rattle.std.proofs.Common.{◌∷◌, refl, sym, ap, ◌∙◌}
-use Rattle.circular_buffer.specs.Buffer.{Buffer}
-use Rattle.link_messages.specs.declared.outbox.Queued.{Queued}
+use Rattle.link_messages.proofs.Words.{Buffer, Queued, ap, refl, sym, ◌∙◌, ◌∷◌}
 use Rattle.link_messages.proofs.OutgoingLemmas.{gives_front, front_is}
 use Rattle.link_messages.proofs.outbox.Outbox.give_front.Goals as goal
 

@@ -1,12 +1,6 @@
-use Rattle.std.proofs.Common.{◌≡◌, ℕ, ◌*◌, ◌<◌, List, sym, ap, ◌∙◌, arith, length, map, refl, subst}
-use Rattle.std.specs.Prelude.{None, Some, slice_get}
-use Rattle.std.proofs.lemmas.Option.{slice_get_within}
-use Rattle.block_pool.specs.Pool.{PoolState, chain_bytes}
+use Rattle.link_messages.proofs.Words.{List, None, Outbox, OutboxLiesIn, PoolState, Queued, Some, ap, arith, chain_bytes, length, length-fragments, map}
+use Rattle.link_messages.proofs.Words.{queued_message, queued_messages, refl, slice_get, slice_get_within, subst, sym, ℕ, ◌*◌, ◌<◌, ◌∙◌, ◌≡◌}
 use Rattle.hcp_packet.specs.Packets.{packets_of, packet_at, packet_count, packet_bytes, fragments_of}
-use Rattle.link_messages.specs.declared.outbox.Queued.{Queued}
-use Rattle.link_messages.specs.declared.outbox.Outbox.{Outbox}
-use Rattle.link_messages.specs.Outgoing.{OutboxLiesIn, queued_message, queued_messages}
-use Rattle.link_laws.proofs.machine.Sound.{fragments_count as length-fragments}
 use Rattle.link_messages.proofs.Fragments.{fragment_stands}
 use Rattle.link_messages.proofs.OutgoingLemmas.{LooksFor, looks_at, looks_on, slice_get_inside, drop_at, few_queued, cut_low, some_waits, all_cut, one_found}
 use Rattle.link_messages.proofs.outbox.Outbox.next_fragment.Goals as goal

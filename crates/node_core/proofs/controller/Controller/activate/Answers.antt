@@ -1,5 +1,4 @@
-use Rattle.std.proofs.lemmas.Result.{IfOk-at_ok}
-use Rattle.node_core.proofs.Words.{port_at}
+use Rattle.node_core.proofs.Words.{IfOk-at_ok, port_at}
 use Rattle.node_core.proofs.Behind.{power_may_start}
 use Rattle.node_core.proofs.SeenAsNode.{seen_may, never_refused}
 use Rattle.node_core.proofs.controller.Controller.activate.Goals as goal

@@ -1,6 +1,4 @@
-use Rattle.std.proofs.Common.{subst}
-use Rattle.swp_base.specs.InMemory.{Memory}
-use Rattle.node_core.proofs.Words.{Node, RunsAs}
+use Rattle.node_core.proofs.Words.{Memory, Node, RunsAs, subst}
 use Rattle.node_core.proofs.host.Host+MemNv.arm.Goals as goal
 
 pub returns-clause-runs : goal.returns-clause-runs

@@ -1,8 +1,5 @@
-use Rattle.std.proofs.Common.{◌≡◌, ℕ, sym, subst}
-use Rattle.std.specs.Prelude.{Some, IfSome, Ok}
+use Rattle.node_core.proofs.Words.{IfSome, Node, Ok, RunsAs, Some, has_sent, next_frame, port_at, subst, sym, with_port, ℕ, ◌≡◌}
 use Rattle.swp_lpdu.specs.Controls.{lpdu_of, control_of}
-use Rattle.link_laws.specs.machine.Machine.{next_frame}
-use Rattle.node_core.proofs.Words.{Node, RunsAs, has_sent, port_at, with_port}
 use Rattle.node_core.proofs.host.Host.next_out.Goals as goal
 
 pub returns-clause-runs : goal.returns-clause-runs

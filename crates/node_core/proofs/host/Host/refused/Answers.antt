@@ -1,6 +1,4 @@
-use Rattle.std.proofs.Common.{ℕ, subst}
-use Rattle.node_core.proofs.Words.{Node, RunsAs, with_port}
-use Rattle.node_core.specs.Running.{one_more_error}
+use Rattle.node_core.proofs.Words.{Node, RunsAs, one_more_error, subst, with_port, ℕ}
 use Rattle.node_core.proofs.host.Host.refused.Goals as goal
 
 pub returns-clause-runs : goal.returns-clause-runs

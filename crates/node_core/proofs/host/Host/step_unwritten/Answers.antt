@@ -1,5 +1,4 @@
-use Rattle.std.proofs.Common.{sym, ap, ◌∙◌}
-use Rattle.node_core.proofs.Words.{Stored}
+use Rattle.node_core.proofs.Words.{Stored, ap, sym, ◌∙◌}
 use Rattle.node_core.proofs.Between.{at_rest}
 use Rattle.node_core.proofs.Asking.{not_zero, begins_at_rest, asked_may}
 use Rattle.node_core.proofs.SeenAsNode.{seen_may}

@@ -1,9 +1,5 @@
-use Rattle.std.proofs.Common.{◌≡◌, ℕ, ◌+◌, List, [], ◌∷◌, get_or, drop, refl, sym, ap, ◌∙◌, subst, add-one, drop-cons}
-use Rattle.std.proofs.lemmas.List.{drop_all}
-use Rattle.node_core.proofs.Words.{Give, IsInStep, Release, Releases, Sends, Stored, Work, all_done, answer_of, answers_owed, turn_at}
-use Rattle.std.specs.List.{flat_map}
-use Rattle.std.proofs.lemmas.List.Concat.{flat_map-cons}
-use Rattle.node_machine.specs.Parts.{Deed}
+use Rattle.node_core.proofs.Words.{Deed, Give, IsInStep, List, Release, Releases, Sends, Stored, Work, [], add-one, all_done, answer_of, answers_owed, ap, drop}
+use Rattle.node_core.proofs.Words.{drop-cons, drop_all, flat_map, flat_map-cons, get_or, refl, subst, sym, turn_at, ℕ, ◌+◌, ◌∙◌, ◌∷◌, ◌≡◌}
 use Rattle.node_core.proofs.Freeing.{DoesOn, one_done}
 use Rattle.node_core.proofs.Steps.{silent_turn}
 use Rattle.node_core.proofs.node.Node.answer_all.Goals as goal

@@ -1,6 +1,4 @@
-use Rattle.std.proofs.Common.{◌≡◌, true, List, drop}
-use Rattle.std.specs.List.{flat_map}
-use Rattle.node_core.proofs.Words.{Entry, IsInStep, Work, answers_owed}
+use Rattle.node_core.proofs.Words.{Entry, IsInStep, List, Work, answers_owed, drop, flat_map, true, ◌≡◌}
 use Rattle.node_core.proofs.Freeing.{DoesOn}
 use Rattle.node_core.proofs.node.Node.answer_all.Given as goal
 

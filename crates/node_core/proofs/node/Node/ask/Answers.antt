@@ -1,7 +1,5 @@
-use Rattle.std.proofs.Common.{refl, ◌∷◌, []}
-use Rattle.gate_admin.specs.Decide.{ends_of}
+use Rattle.node_core.proofs.Words.{SetAside, Work, [], ends_of, noting, refl, turn_at, ◌∷◌}
 use Rattle.trace_model.specs.declared.entry.Entry.TheVariants as entry
-use Rattle.node_core.proofs.Words.{SetAside, Work, noting, turn_at}
 use Rattle.node_core.proofs.Steps.{plain_noted, silent_turn}
 use Rattle.node_core.proofs.node.Node.ask.Goals as goal
 

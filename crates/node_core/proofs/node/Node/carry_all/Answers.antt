@@ -1,6 +1,5 @@
-use Rattle.std.proofs.Common.{◌≡◌, ◌+◌, true, not, List, ◌∷◌, map, drop, sym, ap, ◌∙◌, subst}
-use Rattle.node_core.proofs.Words.{AreDoableInTurn, Brings, Handling, IsInStep, Message, deed_of, done, handling}
-use Rattle.node_machine.specs.Parts.{Deed as DeedOf}
+use Rattle.node_core.proofs.Words.{AreDoableInTurn, Brings, DeedOf, Handling, IsInStep, List, Message, ap, deed_of, done, drop, handling, map, not, subst, sym}
+use Rattle.node_core.proofs.Words.{true, ◌+◌, ◌∙◌, ◌∷◌, ◌≡◌}
 use Rattle.node_deeds.specs.declared.deeds.Deed.{Deed}
 use Rattle.node_core.proofs.Steps.{GoesOn, goes_on, goes_no_further, all_gone, doable_then, split_at, none_left}
 use Rattle.node_core.proofs.Tasks.{next_doable, next_shown}

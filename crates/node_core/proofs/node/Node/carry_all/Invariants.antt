@@ -1,5 +1,4 @@
-use Rattle.std.proofs.Common.{◌≡◌, true, List, map, drop}
-use Rattle.node_core.proofs.Words.{AreDoableInTurn, CountsFaults, Entry, IsInStep, IsUsable, Work, deed_of, handling}
+use Rattle.node_core.proofs.Words.{AreDoableInTurn, CountsFaults, Entry, IsInStep, IsUsable, List, Work, deed_of, drop, handling, map, true, ◌≡◌}
 use Rattle.node_core.proofs.Steps.{GoesOn}
 use Rattle.node_core.proofs.node.Node.carry_all.Given as goal
 

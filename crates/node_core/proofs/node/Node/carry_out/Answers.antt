@@ -1,8 +1,5 @@
-use Rattle.std.proofs.Common.{ℕ, List, ◌∷◌, refl, ap, subst}
-use Rattle.std.specs.Prelude.{None}
-use Rattle.gate_admin.specs.Decide.{ends_of}
-use Rattle.node_core.proofs.Words.{Asks, Drops, Ends, Give, Hears, Host, IsAnswered, IsInStep, Node, Orders, Releases, SaysOk, Sends, SetsErrors, Tells, done}
-use Rattle.node_core.proofs.Words.{Release, end_of, end_shown, goes_on_with, handling, init_running, turn_at}
+use Rattle.node_core.proofs.Words.{Asks, Drops, Ends, Give, Hears, Host, IsAnswered, IsInStep, List, Node, None, Orders, Release, Releases, SaysOk, Sends}
+use Rattle.node_core.proofs.Words.{SetsErrors, Tells, ap, done, end_of, end_shown, ends_of, goes_on_with, handling, init_running, refl, subst, turn_at, ℕ, ◌∷◌}
 use Rattle.node_machine.specs.Parts.About.{Removed}
 use Rattle.node_machine.specs.Carrying.{notified}
 use Rattle.node_deeds.specs.Shown.{creation_of_row}

@@ -1,12 +1,9 @@
-use Rattle.std.proofs.Common.{◌≡◌, ℕ, [], map, sym, ap, ◌∙◌, subst}
-use Rattle.std.specs.Prelude.{Option, Some, None, option_map, if◌then◌else◌}
-use Rattle.node_core.proofs.Words.{AreNotes, AtEnd, IsInStep, LinkInput, LinkReport, Port, TimePasses, Work, after_input, all_come, entries_for, got_at}
-use Rattle.node_core.proofs.Words.{has_come, input_of_end, own_side, port_at, report, report_told, told, unnumbered, whole_acked, with_port}
-use Rattle.node_core.specs.declared.inputs.NodeInput.TheVariants.{At}
+use Rattle.node_core.proofs.Words.{AreNotes, At, AtEnd, IsInStep, LinkInput, LinkReport, None, Option, Port, Some, TimePasses, Work, [], after_input, all_come}
+use Rattle.node_core.proofs.Words.{ap, entries_for, got_at, has_come, if◌then◌else◌, input_of_end, map, option_map, own_side, port_at, report, report_told}
+use Rattle.node_core.proofs.Words.{subst, sym, sync_told, told, unnumbered, whole_acked, with_port, ℕ, ◌∙◌, ◌≡◌}
 use Rattle.node_core.specs.declared.inputs.Came.{Came}
 use Rattle.node_core.specs.Running.{becomes_active_by}
 use Rattle.node_core.specs.Inputs.{IsWhatCame}
-use Rattle.node_core.specs.Syncing.{sync_told}
 use Rattle.node_core.proofs.Doing.{host_at}
 use Rattle.node_core.proofs.HavingTurns.{no_some}
 use Rattle.node_core.proofs.Notes.{no_notes}

@@ -1,5 +1,4 @@
-use Rattle.node_core.proofs.Words.{AreMade, Command, Entry, body_of, commit_writes}
-use Rattle.std.proofs.Common.{◌≡◌, ℕ, Bool, sym, ap, ◌∙◌, ◌++◌, ◌∷◌, []}
+use Rattle.node_core.proofs.Words.{AreMade, Bool, Command, Entry, [], ap, body_of, commit_writes, sym, ℕ, ◌++◌, ◌∙◌, ◌∷◌, ◌≡◌}
 use Rattle.trace_model.specs.declared.entry.Entry.TheVariants as entry
 use Rattle.node_core.proofs.Doing.{more_noted, kept_brings, lost_brings, made_ok, made_err, nv_fault, no_room}
 use Rattle.node_core.proofs.Faults.{faults_kept, faults_rose}

@@ -1,8 +1,6 @@
-use Rattle.std.proofs.Common.{◌≡◌, ℕ, List, not, sym, ap, ◌∙◌, subst}
-use Rattle.std.specs.Prelude.{option_map}
-use Rattle.node_core.proofs.Words.{Desk, Handling, Message, Stored, controller_deeds, deeds_of, deeds_shown, end_view, handling, host_deeds, init_running}
-use Rattle.node_core.proofs.Words.{own_view, view_of}
-use Rattle.node_deeds.specs.Shown.{AreSeen, desk_shown}
+use Rattle.node_core.proofs.Words.{Desk, Handling, List, Message, Stored, ap, controller_deeds, deeds_of, deeds_shown, desk_shown, end_view, handling}
+use Rattle.node_core.proofs.Words.{host_deeds, init_running, not, option_map, own_view, subst, sym, view_of, ℕ, ◌∙◌, ◌≡◌}
+use Rattle.node_deeds.specs.Shown.{AreSeen}
 use Rattle.node_core.proofs.HavingTurns.{no_some, at_controller, at_host}
 use Rattle.node_core.proofs.Deciders.{handled_idle, looks_at, some_desk, own_number}
 use Rattle.node_core.proofs.node.Node.deeds_for.Goals as goal

@@ -1,5 +1,4 @@
-use Rattle.std.proofs.Common.{refl, ap, ◌∙◌, ◌++◌, ◌∷◌, []}
-use Rattle.node_core.proofs.Words.{End, end_of_node}
+use Rattle.node_core.proofs.Words.{End, [], ap, end_of_node, refl, ◌++◌, ◌∙◌, ◌∷◌}
 use Rattle.trace_model.specs.declared.entry.Entry.TheVariants as entry
 use Rattle.node_core.proofs.Steps.{plain_noted}
 use Rattle.node_core.proofs.node.Node.drop_message.Goals as goal

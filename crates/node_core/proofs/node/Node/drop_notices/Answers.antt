@@ -1,5 +1,5 @@
-use Rattle.std.proofs.Common.{ℕ, ◌+◌, List, refl, sym, subst, add-one, arith}
-use Rattle.node_core.proofs.Words.{EndsStandFor, IsInStep, Port, all_changed, first_changed, next_changed, none_changed, without_notice}
+use Rattle.node_core.proofs.Words.{EndsStandFor, IsInStep, List, Port, add-one, all_changed, arith, first_changed, next_changed, none_changed, refl, subst, sym}
+use Rattle.node_core.proofs.Words.{without_notice, ℕ, ◌+◌}
 use Rattle.node_core.proofs.Ticking.{many_ports}
 use Rattle.node_core.proofs.Lateness.{ends_changed}
 use Rattle.node_core.proofs.node.Node.drop_notices.Goals as goal

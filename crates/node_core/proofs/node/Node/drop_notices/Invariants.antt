@@ -1,5 +1,4 @@
-use Rattle.std.proofs.Common.{◌≡◌, Bool, List}
-use Rattle.node_core.proofs.Words.{EndsStandFor, Entry, IsInStep, Port, Work, first_changed, without_notice}
+use Rattle.node_core.proofs.Words.{Bool, EndsStandFor, Entry, IsInStep, List, Port, Work, first_changed, without_notice, ◌≡◌}
 use Rattle.node_core.proofs.node.Node.drop_notices.Given as goal
 
 -- so it is at the ends so far

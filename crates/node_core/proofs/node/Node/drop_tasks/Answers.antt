@@ -1,6 +1,4 @@
-use Rattle.std.proofs.Common.{refl, sym, ◌∙◌, subst}
-use Rattle.std.specs.Prelude.{None}
-use Rattle.node_core.proofs.Words.{Core, IsInStep}
+use Rattle.node_core.proofs.Words.{Core, IsInStep, None, refl, subst, sym, ◌∙◌}
 use Rattle.node_core.proofs.Tasks.{tasks_dropped, over, not_over}
 use Rattle.node_core.proofs.node.Node.drop_tasks.Goals as goal
 

@@ -1,7 +1,5 @@
-use Rattle.std.proofs.Common.{refl, sym, subst}
-use Rattle.std.specs.Prelude.{None}
+use Rattle.node_core.proofs.Words.{Ends, Host, IsInStep, None, Tasks, done, end_of, end_shown, refl, subst, sym}
 use Rattle.trace_model.specs.declared.entry.Entry.TheVariants as entry
-use Rattle.node_core.proofs.Words.{Ends, Host, IsInStep, Tasks, done, end_of, end_shown}
 use Rattle.node_deeds.specs.declared.deeds.InitEnd.{InitEnd}
 use Rattle.node_core.proofs.Steps.{plain_noted}
 use Rattle.node_core.proofs.Tasks.{init_changed}

@@ -1,5 +1,4 @@
-use Rattle.std.proofs.Common.{not, sym, ap, ◌∙◌, refl}
-use Rattle.node_core.proofs.Words.{Brings, IsInStep, passes, settles, sync_kept}
+use Rattle.node_core.proofs.Words.{Brings, IsInStep, ap, not, passes, refl, settles, sym, sync_kept, ◌∙◌}
 use Rattle.node_core.proofs.Joining.{brings_cut, brings_then}
 use Rattle.node_core.proofs.HavingTurns.{brings_same}
 use Rattle.node_core.proofs.Settling.{settled_ports, quiet_few}

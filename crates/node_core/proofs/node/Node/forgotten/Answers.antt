@@ -1,9 +1,4 @@
-use Rattle.std.proofs.Common.{ℕ, List, [], ◌∷◌, map, length, sym, ap, ◌∙◌, arith, append-nil}
-use Rattle.std.specs.Prelude.{Option}
-use Rattle.std.specs.Option.{option_map_or}
-use Rattle.std.proofs.lemmas.List.{map-append}
-use Rattle.node_machine.specs.Parts.{Deed}
-use Rattle.node_core.proofs.Words.{Releases, freed_at}
+use Rattle.node_core.proofs.Words.{Deed, List, Option, Releases, [], ap, append-nil, arith, freed_at, length, map, map-append, option_map_or, sym, ℕ, ◌∙◌, ◌∷◌}
 use Rattle.node_core.proofs.Ticking.{many_ports}
 use Rattle.node_core.proofs.Freeing.{one_gathered, freed_all}
 use Rattle.node_core.proofs.node.Node.forgotten.Goals as goal

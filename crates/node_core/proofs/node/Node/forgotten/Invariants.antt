@@ -1,6 +1,4 @@
-use Rattle.std.proofs.Common.{◌≡◌, ◌≤◌, List, map, take, length}
-use Rattle.std.specs.List.{flat_map}
-use Rattle.node_core.proofs.Words.{EndsStandFor, Port, Releases, freed_at}
+use Rattle.node_core.proofs.Words.{EndsStandFor, List, Port, Releases, flat_map, freed_at, length, map, take, ◌≡◌, ◌≤◌}
 use Rattle.node_core.proofs.node.Node.forgotten.Given as goal
 
 -- those of the ends so far

@@ -1,8 +1,6 @@
-use Rattle.std.proofs.Common.{◌≡◌, Bool, true, false, ◌&&◌, length, refl, sym, ap, ◌∙◌, subst}
-use Rattle.std.specs.Prelude.{Some, Err, is_some, ◌==◌}
-use Rattle.node_core.proofs.Words.{Give, HostRefused, IsInStep, Message, Ordered, TellsLengthOf, Work, give_refusal, if_waiting, is_command_message, port_at}
-use Rattle.node_core.proofs.Words.{refused_as, turn_at}
-use Rattle.node_core.specs.Giving.{TellsLength, ordered_if}
+use Rattle.node_core.proofs.Words.{Bool, Err, Give, HostRefused, IsInStep, Message, Ordered, Some, TellsLength, TellsLengthOf, Work, ap, false, give_refusal}
+use Rattle.node_core.proofs.Words.{if_waiting, is_command_message, is_some, length, ordered_if, port_at, refl, refused_as, subst, sym, true, turn_at, ◌&&◌}
+use Rattle.node_core.proofs.Words.{◌==◌, ◌∙◌, ◌≡◌}
 use Rattle.node_core.proofs.Sendings.{down_refuses, given_so, linked, of_err, told_length, told_refusal, waiting_refuses, waits_same, was_ok, where_err}
 use Rattle.node_core.proofs.Tasks.{command_changed}
 use Rattle.node_core.proofs.node.Node.give_step.Goals as goal

@@ -1,7 +1,4 @@
-use Rattle.std.proofs.Common.{refl, sym, subst}
-use Rattle.std.specs.Prelude.{Option, Some, None}
-use Rattle.node_core.proofs.Words.{IsInStep, Tasks, done, goes_on_with, init_running}
-use Rattle.node_deeds.specs.declared.inits.Init.{Init as KeptInit}
+use Rattle.node_core.proofs.Words.{IsInStep, KeptInit, None, Option, Some, Tasks, done, goes_on_with, init_running, refl, subst, sym}
 use Rattle.node_deeds.specs.Shown.{init_shown}
 use Rattle.node_core.proofs.Tasks.{init_changed, command_changed}
 use Rattle.node_core.proofs.node.Node.go_on.Goals as goal

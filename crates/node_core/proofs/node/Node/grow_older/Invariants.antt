@@ -1,5 +1,4 @@
-use Rattle.std.proofs.Common.{◌≡◌, Bool, List}
-use Rattle.node_core.proofs.Words.{EndsStandFor, Entry, IsInStep, Port, Work, first_changed, with_older}
+use Rattle.node_core.proofs.Words.{Bool, EndsStandFor, Entry, IsInStep, List, Port, Work, first_changed, with_older, ◌≡◌}
 use Rattle.node_core.proofs.node.Node.grow_older.Given as goal
 
 -- the notices at the ends so far are older

@@ -1,10 +1,7 @@
-use Rattle.std.proofs.Common.{◌≡◌, ℕ, Bool, List, [], ◌∷◌, take, not, refl, sym, ap, ◌∙◌, subst}
-use Rattle.std.specs.Prelude.{Option, option_map}
-use Rattle.hcp_packet.specs.Packets.{AreSendable}
-use Rattle.node_core.proofs.Words.{Brings, Handling, IsInStep, Message, Node, Work, deeds_shown, got_at, handling, have_turns, lack, lack_shown, lets_go, needs}
+use Rattle.node_core.proofs.Words.{AreSendable, Bool, Brings, Handling, IsDecided, IsInStep, List, Message, Node, Option, Work, [], ap, deeds_shown, got_at}
+use Rattle.node_core.proofs.Words.{handling, have_turns, lack, lack_shown, lets_go, message_read, needs, not, option_map, refl, subst, sym, take, ℕ, ◌∙◌, ◌∷◌}
+use Rattle.node_core.proofs.Words.{◌≡◌}
 use Rattle.node_deeds.specs.declared.deeds.Deed.{Deed}
-use Rattle.node_ends.specs.Ends.{message_read}
-use Rattle.node_core.specs.Turning.{IsDecided}
 use Rattle.node_core.proofs.Steps.{plainly}
 use Rattle.node_core.proofs.HavingTurns.{no_some, let_cut, let_writes, let_anyway, decided}
 use Rattle.node_core.proofs.Sendables.{got_at_sendable, hosts_low}

@@ -1,6 +1,4 @@
-use Rattle.std.proofs.Common.{refl, true, subst}
-use Rattle.node_core.proofs.Words.{Hold, IsInStep, Work}
-use Rattle.node_core.specs.Handling.{is_noted_held}
+use Rattle.node_core.proofs.Words.{Hold, IsInStep, Work, is_noted_held, refl, subst, true}
 use Rattle.node_core.proofs.Steps.{silent_turn}
 use Rattle.node_core.proofs.Holding.{held_so, few_held}
 use Rattle.node_core.proofs.node.Node.hold_back.Goals as goal

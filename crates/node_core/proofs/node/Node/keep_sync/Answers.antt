@@ -1,12 +1,9 @@
-use Rattle.std.proofs.Common.{◌≡◌, ◌≤◌, ℕ, Bool, ◌&&◌, not, true, false, List, [], ◌∷◌, refl, sym, ap, ◌∙◌, subst}
-use Rattle.std.specs.Prelude.{IfSome, Option, Some}
-use Rattle.std.proofs.lemmas.Bool.{and_from, le-leb}
+use Rattle.std.proofs.lemmas.Bool.{and_from}
+use Rattle.node_core.proofs.Words.{Bool, Brings, Commits, Deed, HciTables, IfSome, IsInStep, IsUsable, List, Option, Some, Stored, [], all_done, ap, false}
+use Rattle.node_core.proofs.Words.{has_room_for, le-leb, not, refl, subst, sym, sync_kept, true, ℕ, ◌&&◌, ◌∙◌, ◌∷◌, ◌≡◌, ◌≤◌}
 use Rattle.hci_tables.specs.Commands.{IsCommand}
-use Rattle.hci_tables.specs.Tables.{HciTables, is_kept_sync}
+use Rattle.hci_tables.specs.Tables.{is_kept_sync}
 use Rattle.hci_tables.specs.declared.command.Command.TheVariants.{Sync}
-use Rattle.node_machine.specs.Carrying.{has_room_for}
-use Rattle.node_machine.specs.Parts.{Deed}
-use Rattle.node_core.proofs.Words.{Brings, Commits, IsInStep, IsUsable, Stored, all_done, sync_kept}
 use Rattle.node_core.specs.Syncing.{id_kept}
 use Rattle.node_core.proofs.HavingTurns.{brings_same, no_some}
 use Rattle.node_core.proofs.Sendings.{alone}

@@ -1,5 +1,4 @@
-use Rattle.std.proofs.Common.{refl, ap, sym, ◌∙◌, subst, true, ◌++◌, ◌∷◌, []}
-use Rattle.node_core.proofs.Words.{End, IsInStep, Work, end_of_node, noting}
+use Rattle.node_core.proofs.Words.{End, IsInStep, Work, [], ap, end_of_node, noting, refl, subst, sym, true, ◌++◌, ◌∙◌, ◌∷◌}
 use Rattle.trace_model.specs.declared.entry.Entry.TheVariants as entry
 use Rattle.node_core.proofs.Steps.{plain_noted, desk_changed}
 use Rattle.node_core.proofs.Holding.{was_noted, is_noted_now}

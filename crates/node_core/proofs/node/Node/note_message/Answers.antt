@@ -1,7 +1,5 @@
 -- The message that came lies in the buffer.
-use Rattle.std.proofs.Common.{ℕ, ◌≤◌, ap, ◌∙◌, subst}
-use Rattle.std.specs.Prelude.{Option, IfSome}
-use Rattle.node_ends.specs.Ends.{message_read}
+use Rattle.node_core.proofs.Words.{IfSome, Option, ap, message_read, subst, ℕ, ◌∙◌, ◌≤◌}
 use Rattle.node_core.proofs.node.Node.note_message.Goals as goal
 
 pub returns-clause-lies : goal.returns-clause-lies

@@ -1,12 +1,8 @@
-use Rattle.std.proofs.Common.{◌≡◌, ◌≤◌, ℕ, zero, suc, Bool, false, List, ◌∷◌, [], map, refl, sym, ap, ◌∙◌, arith}
-use Rattle.std.specs.Prelude.{Option, option_to_list, nat_lt}
 use Rattle.std.proofs.lemmas.Bool.{lt-ltb}
-use Rattle.link_laws.specs.entries.Entries.{if_so}
-use Rattle.link_laws.specs.entries.Entries.Entry.{Up, Down, Active, GaveUp, Acked, Got}
-use Rattle.swp_base.specs.declared.link_terms.Cause.{Cause}
+use Rattle.node_core.proofs.Words.{Acked, Active, AreNotes, Bool, Cause, Down, End, Entry, GaveUp, Got, LinkReport, List, Message, Option, Up, [], ap, arith}
+use Rattle.node_core.proofs.Words.{entries_for, false, if_so, kept_number, map, nat_lt, option_to_list, own_side, refl, suc, sym, told, without_message, zero}
+use Rattle.node_core.proofs.Words.{ℕ, ◌∙◌, ◌∷◌, ◌≡◌, ◌≤◌}
 use Rattle.trace_model.specs.declared.entry.Entry.TheVariants as entry
-use Rattle.node_core.proofs.Words.{AreNotes, End, Entry, LinkReport, Message, entries_for, kept_number, own_side, told}
-use Rattle.node_core.specs.Noting.{without_message}
 use Rattle.node_core.proofs.Notes.{no_some, notes_then, notes_are, noted_by, unnoted_by, told_plain, whole}
 use Rattle.node_core.proofs.node.Node.note_news.Goals as goal
 use Rattle.node_core.proofs.node.Node.note_news.Goals.{in-Some, in_default, then-report, else-report, then-report-2, else-report-2}

@@ -1,5 +1,4 @@
-use Rattle.std.proofs.Common.{map}
-use Rattle.node_core.proofs.Words.{with_older}
+use Rattle.node_core.proofs.Words.{map, with_older}
 use Rattle.node_core.proofs.Lateness.{few_older}
 use Rattle.node_core.proofs.node.Node.notices_time_out.Goals as goal
 

@@ -1,5 +1,4 @@
-use Rattle.std.specs.Prelude.{Some}
-use Rattle.node_core.proofs.Words.{Give, Work, turn_at}
+use Rattle.node_core.proofs.Words.{Give, Some, Work, turn_at}
 use Rattle.node_deeds.specs.Shown.{about_shown}
 use Rattle.node_core.proofs.Steps.{desk_changed}
 use Rattle.node_core.proofs.node.Node.notify.Goals as goal

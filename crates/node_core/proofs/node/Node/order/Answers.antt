@@ -1,6 +1,4 @@
-use Rattle.std.proofs.Common.{refl, sym, ap}
-use Rattle.std.specs.Prelude.{Some}
-use Rattle.node_core.proofs.Words.{Ordered}
+use Rattle.node_core.proofs.Words.{Ordered, Some, ap, refl, sym}
 use Rattle.node_core.proofs.Tasks.{command_changed}
 use Rattle.node_core.proofs.node.Node.order.Goals as goal
 

@@ -1,9 +1,4 @@
-use Rattle.std.proofs.Common.{ℕ, List, [], length, sym, ap, ◌∙◌, arith, append-nil}
-use Rattle.std.specs.Prelude.{Option}
-use Rattle.std.specs.List.{flat_map}
-use Rattle.std.specs.Option.{option_map_or}
-use Rattle.node_machine.specs.Parts.{Deed}
-use Rattle.node_core.proofs.Words.{Response, answers_owed, owed_at}
+use Rattle.node_core.proofs.Words.{Deed, List, Option, Response, [], answers_owed, ap, append-nil, arith, flat_map, length, option_map_or, owed_at, sym, ℕ, ◌∙◌}
 use Rattle.node_core.proofs.Ticking.{many_ports}
 use Rattle.node_core.proofs.Freeing.{one_gathered, owed_all, one_answered}
 use Rattle.node_core.proofs.node.Node.owed.Goals as goal

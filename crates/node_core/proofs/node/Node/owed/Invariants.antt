@@ -1,6 +1,4 @@
-use Rattle.std.proofs.Common.{◌≡◌, ◌≤◌, List, take, length}
-use Rattle.std.specs.List.{flat_map}
-use Rattle.node_core.proofs.Words.{EndsStandFor, Port, Response, answers_owed, owed_at}
+use Rattle.node_core.proofs.Words.{EndsStandFor, List, Port, Response, answers_owed, flat_map, length, owed_at, take, ◌≡◌, ◌≤◌}
 use Rattle.node_core.proofs.node.Node.owed.Given as goal
 
 -- those of the ends so far

@@ -1,5 +1,4 @@
-use Rattle.std.proofs.Common.{◌≡◌, ℕ, true, not, sym, ap, ◌∙◌, subst, refl, add-one}
-use Rattle.node_core.proofs.Words.{Brings, IsInStep, got_at, have_turns}
+use Rattle.node_core.proofs.Words.{Brings, IsInStep, add-one, ap, got_at, have_turns, not, refl, subst, sym, true, ℕ, ◌∙◌, ◌≡◌}
 use Rattle.node_core.proofs.HavingTurns.{no_some}
 use Rattle.node_core.proofs.Elsewhere.{is_host_at}
 use Rattle.node_core.proofs.Passing.{PassesOn, pass_rests, pass_begins, next_few, pass_goes_on, pass_stops, pass_ends, pass_over, pass_full}

@@ -1,5 +1,4 @@
-use Rattle.std.proofs.Common.{◌≡◌, true, List}
-use Rattle.node_core.proofs.Words.{AreFewDue, CountsFaults, Entry, IsInStep, IsNodeInOrder, IsUsable, Work}
+use Rattle.node_core.proofs.Words.{AreFewDue, CountsFaults, Entry, IsInStep, IsNodeInOrder, IsUsable, List, Work, true, ◌≡◌}
 use Rattle.node_core.specs.Nodes.{LiesInBuffer}
 use Rattle.node_core.proofs.Passing.{PassesOn}
 use Rattle.node_core.proofs.node.Node.passes.Given as goal

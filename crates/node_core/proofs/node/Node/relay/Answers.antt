@@ -1,5 +1,5 @@
-use Rattle.std.proofs.Common.{List, [], ◌∷◌, ◌++◌, refl, sym, ap, ◌∙◌, subst}
-use Rattle.node_core.proofs.Words.{End, EndsStandFor, Give, Message, Port, Work, after_turn, end_of_node, noting, port_at, takes_at, with_port}
+use Rattle.node_core.proofs.Words.{End, EndsStandFor, Give, List, Message, Port, Work, [], after_turn, ap, end_of_node, noting, port_at, refl, subst, sym}
+use Rattle.node_core.proofs.Words.{takes_at, with_port, ◌++◌, ◌∙◌, ◌∷◌}
 use Rattle.trace_model.specs.declared.entry.Entry.TheVariants as entry
 use Rattle.node_core.proofs.Steps.{plain_noted}
 use Rattle.node_core.proofs.Relays.{not_held, either_first, got_still, relayed_sent, relayed_nowhere}

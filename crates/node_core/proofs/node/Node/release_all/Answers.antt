@@ -1,6 +1,5 @@
-use Rattle.std.proofs.Common.{◌≡◌, ℕ, ◌+◌, List, [], ◌∷◌, get_or, drop, map, refl, sym, ap, ◌∙◌, subst, add-one, drop-cons}
-use Rattle.std.proofs.lemmas.List.{drop_all}
-use Rattle.node_core.proofs.Words.{IsInStep, Release, Releases, Work, all_done}
+use Rattle.node_core.proofs.Words.{IsInStep, List, Release, Releases, Work, [], add-one, all_done, ap, drop, drop-cons, drop_all, get_or, map, refl, subst, sym}
+use Rattle.node_core.proofs.Words.{ℕ, ◌+◌, ◌∙◌, ◌∷◌, ◌≡◌}
 use Rattle.node_core.proofs.Freeing.{DoesOn, one_done}
 use Rattle.node_core.proofs.Steps.{silent_turn}
 use Rattle.node_core.proofs.node.Node.release_all.Goals as goal

@@ -1,5 +1,4 @@
-use Rattle.std.proofs.Common.{◌≡◌, Bool, true, List, map, drop}
-use Rattle.node_core.proofs.Words.{Entry, IsInStep, Releases, Work}
+use Rattle.node_core.proofs.Words.{Bool, Entry, IsInStep, List, Releases, Work, drop, map, true, ◌≡◌}
 use Rattle.node_core.proofs.Freeing.{DoesOn}
 use Rattle.node_core.proofs.node.Node.release_all.Given as goal
 

@@ -1,6 +1,4 @@
-use Rattle.std.proofs.Common.{◌≡◌, ℕ, suc, refl, sym, ◌∙◌, subst, add-one, arith}
-use Rattle.std.specs.Prelude.{Option, Some, None, slice_get}
-use Rattle.node_core.proofs.Words.{FewAreDue, IsInStep, Port, Work}
+use Rattle.node_core.proofs.Words.{FewAreDue, IsInStep, None, Option, Port, Some, Work, add-one, arith, refl, slice_get, subst, suc, sym, ℕ, ◌∙◌, ◌≡◌}
 use Rattle.node_core.proofs.Ticking.{few_there, none_past, either_there}
 use Rattle.node_core.proofs.Lateness.{late_so_far, no_reset_yet, next_reset, all_reset, reset_past, reset_there}
 use Rattle.node_core.proofs.node.Node.reset_late.Goals as goal

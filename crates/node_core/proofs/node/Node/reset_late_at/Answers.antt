@@ -1,10 +1,5 @@
-use Rattle.std.proofs.Common.{◌≡◌, ℕ, [], map, refl, sym, ap, ◌∙◌, subst}
-use Rattle.std.specs.Prelude.{None, slice_get, if◌then◌else◌}
-use Rattle.node_core.proofs.Words.{AreNotes, LinkReport, Port, after_input, at_place, entries_for, got_at, own_side, report, reset_late, told, unnumbered}
-use Rattle.node_core.proofs.Words.{whole_acked}
-use Rattle.link_laws.specs.machine.Machine.LinkInput.{Reset}
-use Rattle.node_machine.specs.Node.{told_late}
-use Rattle.node_ends.specs.Ends.{late_told}
+use Rattle.node_core.proofs.Words.{AreNotes, LinkReport, None, Port, Reset, [], after_input, ap, at_place, entries_for, got_at, if◌then◌else◌, late_told, map}
+use Rattle.node_core.proofs.Words.{own_side, refl, report, reset_late, slice_get, subst, sym, told, told_late, unnumbered, whole_acked, ℕ, ◌∙◌, ◌≡◌}
 use Rattle.node_core.proofs.HavingTurns.{no_some}
 use Rattle.node_core.proofs.Notes.{comes_noted, no_notes, notes_are}
 use Rattle.node_core.proofs.Ticking.{same_host, is_some_there, is_none_there}

@@ -1,7 +1,4 @@
-use Rattle.std.proofs.Common.{ℕ, List, refl, sym, ap}
-use Rattle.std.specs.Prelude.{Some}
-use Rattle.node_core.proofs.Words.{Init, Tasks}
-use Rattle.node_deeds.specs.declared.inits.Init.{Init as KeptInit}
+use Rattle.node_core.proofs.Words.{Init, KeptInit, List, Some, Tasks, ap, refl, sym, ℕ}
 use Rattle.node_core.proofs.Tasks.{init_changed}
 use Rattle.node_core.proofs.node.Node.run_init.Goals as goal
 

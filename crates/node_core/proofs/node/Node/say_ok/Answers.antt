@@ -1,5 +1,4 @@
-use Rattle.std.proofs.Common.{◌≡◌, ℕ, false, refl, sym, ap, ◌∙◌, not, ◌++◌, ◌∷◌, []}
-use Rattle.node_core.proofs.Words.{Entry}
+use Rattle.node_core.proofs.Words.{Entry, [], ap, false, not, refl, sym, ℕ, ◌++◌, ◌∙◌, ◌∷◌, ◌≡◌}
 use Rattle.trace_model.specs.declared.entry.Entry.TheVariants as entry
 use Rattle.journal_laws.specs.Journal.{count_of}
 use Rattle.node_core.proofs.Steps.{plain_noted}

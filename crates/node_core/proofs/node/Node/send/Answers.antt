@@ -1,6 +1,4 @@
-use Rattle.std.proofs.Common.{refl, sym, ap, ◌∙◌}
-use Rattle.std.specs.Prelude.{length}
-use Rattle.node_core.proofs.Words.{KeptEnds, Message, TellsLengthOf, port_at}
+use Rattle.node_core.proofs.Words.{KeptEnds, Message, TellsLengthOf, ap, length, port_at, refl, sym, ◌∙◌}
 use Rattle.node_core.proofs.Doing.{sent_under_way, refused_under_way, told_taken, told_refused}
 use Rattle.node_core.proofs.Sendings.{where_err, of_err}
 use Rattle.node_core.proofs.node.Node.send.Goals as goal

@@ -1,9 +1,6 @@
-use Rattle.std.proofs.Common.{◌≡◌, true, not, List, ◌++◌, map, sym, ap, ap₂, ◌∙◌, subst}
-use Rattle.std.specs.List.{flat_map}
-use Rattle.node_core.proofs.Words.{Brings, IsInStep, Port, Releases, Stored, Work, after_sessions, all_done, all_owed, answers_owed, forgets, forgotten}
-use Rattle.node_core.proofs.Words.{left_over, settles, sync_kept}
+use Rattle.node_core.proofs.Words.{Brings, Deed, IsInStep, List, Port, Releases, Stored, Work, after_sessions, all_done, all_owed, answers_owed, ap, ap₂}
+use Rattle.node_core.proofs.Words.{flat_map, forgets, forgotten, left_over, map, not, settles, subst, sym, sync_kept, true, ◌++◌, ◌∙◌, ◌≡◌}
 use Rattle.gate_answers.specs.declared.response.Response.TheVariants as response
-use Rattle.node_machine.specs.Parts.{Deed}
 use Rattle.node_core.proofs.Freeing.{all_joined}
 use Rattle.node_core.proofs.Settling.{plain_freed, plain_owed, left_under_way, settle_stops, settle_goes}
 use Rattle.node_core.proofs.Faults.{ran_is}

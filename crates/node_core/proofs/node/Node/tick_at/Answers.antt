@@ -1,8 +1,6 @@
-use Rattle.std.proofs.Common.{◌≡◌, ℕ, List, [], map, refl, sym, ap, ◌∙◌, subst}
-use Rattle.std.specs.Prelude.{Some, option_map, slice_get, if◌then◌else◌}
-use Rattle.node_core.proofs.Words.{AreNotes, AtEnd, EndsStandFor, IsInStep, LinkReport, Port, after_input, all_come, entries_for, got_at, has_come, own_side}
-use Rattle.node_core.proofs.Words.{port_at, report, report_told, told, unnumbered, whole_acked, with_port}
-use Rattle.link_laws.specs.machine.Machine.LinkInput.{Tick}
+use Rattle.node_core.proofs.Words.{AreNotes, AtEnd, EndsStandFor, IsInStep, LinkReport, List, Port, Some, Tick, [], after_input, all_come, ap, entries_for}
+use Rattle.node_core.proofs.Words.{got_at, has_come, if◌then◌else◌, map, option_map, own_side, port_at, refl, report, report_told, slice_get, subst, sym, told}
+use Rattle.node_core.proofs.Words.{unnumbered, whole_acked, with_port, ℕ, ◌∙◌, ◌≡◌}
 use Rattle.node_core.proofs.Doing.{host_at}
 use Rattle.node_core.proofs.HavingTurns.{no_some}
 use Rattle.node_core.proofs.Elsewhere.{hosts_differ}

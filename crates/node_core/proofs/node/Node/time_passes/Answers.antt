@@ -1,6 +1,4 @@
-use Rattle.std.proofs.Common.{◌≡◌, ℕ, suc, refl, sym, ◌∙◌, subst, add-one, arith}
-use Rattle.std.specs.Prelude.{Option, Some, None, slice_get}
-use Rattle.node_core.proofs.Words.{FewAreDue, IsInStep, Port, Work}
+use Rattle.node_core.proofs.Words.{FewAreDue, IsInStep, None, Option, Port, Some, Work, add-one, arith, refl, slice_get, subst, suc, sym, ℕ, ◌∙◌, ◌≡◌}
 use Rattle.node_core.proofs.Elsewhere.{hosts_differ}
 use Rattle.node_core.proofs.Ticking.{ticks_so_far, no_tick_yet, next_tick, all_ticked, few_there, ticks_past, none_past, tick_there, either_there}
 use Rattle.node_core.proofs.node.Node.time_passes.Goals as goal

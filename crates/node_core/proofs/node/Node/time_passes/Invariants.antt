@@ -1,5 +1,4 @@
-use Rattle.std.proofs.Common.{◌≡◌, List}
-use Rattle.node_core.proofs.Words.{AreFewDue, Entry, IsInStep, Work}
+use Rattle.node_core.proofs.Words.{AreFewDue, Entry, IsInStep, List, Work, ◌≡◌}
 use Rattle.node_core.proofs.Ticking.{ticks_so_far}
 use Rattle.node_core.proofs.node.Node.time_passes.Given as goal
 

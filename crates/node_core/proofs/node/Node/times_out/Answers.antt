@@ -1,5 +1,4 @@
-use Rattle.std.proofs.Common.{sym, ◌∙◌, subst}
-use Rattle.node_core.proofs.Words.{IsInStep, Work}
+use Rattle.node_core.proofs.Words.{IsInStep, Work, subst, sym, ◌∙◌}
 use Rattle.node_core.proofs.Lateness.{none_times_out}
 use Rattle.node_core.proofs.node.Node.times_out.Goals as goal
 

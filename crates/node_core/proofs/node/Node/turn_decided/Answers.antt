@@ -1,8 +1,5 @@
-use Rattle.std.proofs.Common.{◌≡◌, ℕ, true, not, List, [], ◌∷◌, refl, sym, ap, ◌∙◌}
-use Rattle.std.specs.Prelude.{option_map}
-use Rattle.node_core.proofs.Words.{Brings, Handling, IsInStep, Message, Sends, Stored, deeds_shown, handles, handling, has_turn, holds_back, lack, lack_shown}
-use Rattle.node_core.proofs.Words.{lets_go, needs}
-use Rattle.node_machine.specs.Parts.{Deed as DeedOf}
+use Rattle.node_core.proofs.Words.{Brings, DeedOf, Handling, IsInStep, List, Message, Sends, Stored, [], ap, deeds_shown, handles, handling, has_turn}
+use Rattle.node_core.proofs.Words.{holds_back, lack, lack_shown, lets_go, needs, not, option_map, refl, sym, true, ℕ, ◌∙◌, ◌∷◌, ◌≡◌}
 use Rattle.node_core.proofs.Joining.{brings_cut, brings_then}
 use Rattle.node_core.proofs.Steps.{plainly, brings_after, turn_begun}
 use Rattle.node_core.proofs.Quiet.{few_kept, held_kept}

@@ -1,7 +1,4 @@
-use Rattle.std.proofs.Common.{ℕ, List, map, refl, sym, ◌∙◌, subst}
-use Rattle.swp_base.specs.declared.link_terms.Role.{Role as Named}
-use Rattle.node_core.proofs.Words.{AreAllDifferent, EndsStandFor, hosts_linked}
-use Rattle.node_ends.specs.Making.{new_port}
+use Rattle.node_core.proofs.Words.{AreAllDifferent, EndsStandFor, List, Named, hosts_linked, map, new_port, refl, subst, sym, ℕ, ◌∙◌}
 use Rattle.node_core.proofs.Beginning.{linked_runs}
 use Rattle.node_core.proofs.Masks.{linked_differ}
 use Rattle.node_core.proofs.running_node.RunningNode.boot.Goals as goal

@@ -1,6 +1,4 @@
-use Rattle.std.proofs.Common.{◌≡◌, List, map, sym, ap, ◌∙◌}
-use Rattle.std.specs.Prelude.{Some, option_map, slice_get}
-use Rattle.node_core.proofs.Words.{Port, between}
+use Rattle.node_core.proofs.Words.{List, Port, Some, ap, between, map, option_map, slice_get, sym, ◌∙◌, ◌≡◌}
 use Rattle.node_core.proofs.Elsewhere.{hosts_differ}
 use Rattle.node_core.proofs.Between.{placed, kept_at}
 use Rattle.node_core.proofs.SeenAsNode.{seen_runs}

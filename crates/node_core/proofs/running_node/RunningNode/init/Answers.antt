@@ -1,8 +1,6 @@
-use Rattle.std.proofs.Common.{◌≡◌, [], ◌∷◌, not, ◌∙◌, refl, ap, sym, subst}
-use Rattle.std.specs.Prelude.{Some, None, Result, Ok, Err, option_map, is_some}
-use Rattle.node_core.proofs.Words.{HasStepped, HostRefused, Init, IsAsked, IsInStep, Node, RunsAs, Work, all_done, between, give_refusal, if_waiting, port_at}
-use Rattle.node_core.proofs.Words.{refused_as, sending}
-use Rattle.node_machine.specs.world.World.{beginning}
+use Rattle.node_core.proofs.Words.{Err, HasStepped, HostRefused, Init, IsAsked, IsInStep, Node, None, Ok, Result, RunsAs, Some, Work, [], all_done, ap}
+use Rattle.node_core.proofs.Words.{beginning, between, give_refusal, if_waiting, is_some, not, option_map, port_at, refl, refused_as, sending, subst, sym, ◌∙◌}
+use Rattle.node_core.proofs.Words.{◌∷◌, ◌≡◌}
 use Rattle.node_core.proofs.Between.{at_rest, rests_in_step, kept_at, ends_kept}
 use Rattle.node_core.proofs.Asking.{not_zero, asked_in_step, has_begun_so}
 use Rattle.node_core.proofs.Sendings.{was_ok, where_ok, begun_so}

@@ -1,5 +1,4 @@
-use Rattle.std.proofs.Common.{map, ◌∙◌}
-use Rattle.node_core.proofs.Words.{between}
+use Rattle.node_core.proofs.Words.{between, map, ◌∙◌}
 use Rattle.node_core.proofs.Between.{kept_at_rest}
 use Rattle.node_core.proofs.SeenAsNode.{seen_runs}
 use Rattle.node_core.proofs.running_node.RunningNode.is_at_rest.Goals as goal

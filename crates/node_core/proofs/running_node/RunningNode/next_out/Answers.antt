@@ -1,6 +1,4 @@
-use Rattle.std.proofs.Common.{map, refl, ap, ◌∙◌}
-use Rattle.std.specs.Prelude.{option_map}
-use Rattle.node_core.proofs.Words.{between}
+use Rattle.node_core.proofs.Words.{ap, between, map, option_map, refl, ◌∙◌}
 use Rattle.node_core.proofs.Between.{kept_at, kept_frame_at, sent_runs}
 use Rattle.node_core.proofs.SeenAsNode.{seen_runs}
 use Rattle.node_core.proofs.running_node.RunningNode.next_out.Goals as goal

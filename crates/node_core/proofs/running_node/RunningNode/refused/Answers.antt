@@ -1,5 +1,4 @@
-use Rattle.std.proofs.Common.{map, refl}
-use Rattle.node_core.proofs.Words.{between}
+use Rattle.node_core.proofs.Words.{between, map, refl}
 use Rattle.node_core.proofs.Between.{refused_runs}
 use Rattle.node_core.proofs.SeenAsNode.{seen_runs}
 use Rattle.node_core.proofs.running_node.RunningNode.refused.Goals as goal

@@ -1,7 +1,5 @@
-use Rattle.std.proofs.Common.{◌≡◌, ◌&&◌, ◌∙◌, refl, ap, sym, subst}
-use Rattle.std.specs.Prelude.{Some, None, Result, Ok, Err, option_map, is_some, ◌==◌}
-use Rattle.node_core.proofs.Words.{HasStepped, HostRefused, IsAsked, Node, Port, RunsAs, all_done, between, give_refusal, if_waiting}
-use Rattle.node_core.proofs.Words.{is_command_message, port_at, refused_as, sending}
+use Rattle.node_core.proofs.Words.{Err, HasStepped, HostRefused, IsAsked, Node, None, Ok, Port, Result, RunsAs, Some, all_done, ap, between, give_refusal}
+use Rattle.node_core.proofs.Words.{if_waiting, is_command_message, is_some, option_map, port_at, refl, refused_as, sending, subst, sym, ◌&&◌, ◌==◌, ◌∙◌, ◌≡◌}
 use Rattle.node_core.proofs.Between.{at_rest, rests_in_step, kept_at, ends_kept}
 use Rattle.node_core.proofs.Asking.{not_zero, asked_in_step, has_sent_so}
 use Rattle.node_core.proofs.Sendings.{was_ok, where_ok}

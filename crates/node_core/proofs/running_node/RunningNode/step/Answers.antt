@@ -1,7 +1,4 @@
-use Rattle.std.proofs.Common.{ℕ, ◌≤◌, refl, sym, ap, ◌∙◌, subst}
-use Rattle.std.specs.Prelude.{Option, IfSome}
-use Rattle.node_core.proofs.Words.{NodeInput, Stored, all_come, sync_kept, times_out}
-use Rattle.node_core.specs.Inputs.{input_of_node}
+use Rattle.node_core.proofs.Words.{IfSome, NodeInput, Option, Stored, all_come, ap, input_of_node, refl, subst, sym, sync_kept, times_out, ℕ, ◌∙◌, ◌≤◌}
 use Rattle.node_core.proofs.Elsewhere.{hosts_differ}
 use Rattle.node_core.proofs.Stepping.{whole_step}
 use Rattle.node_core.proofs.Between.{begins_in_step, at_rest, rests_in_step, runs_ready, kept_none_ended, ends_kept}

@@ -1,10 +1,4 @@
-use Rattle.std.proofs.Common.{sym, ap, ◌∙◌}
-use Rattle.std.specs.Prelude.{Option}
-use Rattle.std.specs.Option.{option_map_or}
-use Rattle.link_laws.specs.machine.Machine.{whole_acked}
-use Rattle.node_ends.specs.Holding.{kept_number}
-use Rattle.node_machine.specs.Parts.{Port}
-use Rattle.node_ends.specs.Ends.{place_in}
+use Rattle.node_ends.proofs.Words.{Option, Port, ap, kept_number, option_map_or, place_in, sym, whole_acked, ◌∙◌}
 use Rattle.node_ends.proofs.Changing.{nowhere, lent_at}
 use Rattle.node_ends.proofs.Opening.{opened}
 use Rattle.node_ends.proofs.ends.Ends.acked.Goals as goal

@@ -1,7 +1,5 @@
-use Rattle.std.proofs.Common.{Bool, refl, sym, ◌∙◌, arith}
+use Rattle.node_ends.proofs.Words.{Bool, Port, arith, refl, sym, without_got, ◌∙◌}
 use Rattle.link_laws.specs.machine.AtRest.{end_rests}
-use Rattle.node_machine.specs.Parts.{Port}
-use Rattle.node_ends.specs.Holding.{without_got}
 use Rattle.node_ends.proofs.Seated.{lent_here, as_many}
 use Rattle.node_ends.proofs.AtRest.{one_is_not, one_is, none_is_left}
 use Rattle.node_ends.proofs.Opening.{opened, lent}

@@ -1,5 +1,4 @@
-use Rattle.std.proofs.Common.{refl, sym, ◌∙◌, arith}
-use Rattle.node_ends.specs.Ends.{is_idle}
+use Rattle.node_ends.proofs.Words.{arith, is_idle, refl, sym, ◌∙◌}
 use Rattle.node_ends.proofs.Seated.{lent_here, as_many}
 use Rattle.node_ends.proofs.AtRest.{one_is_not, one_is, none_is_left}
 use Rattle.node_ends.proofs.Reading.{idle_is}

@@ -1,7 +1,5 @@
-use Rattle.std.proofs.Common.{◌≡◌, List, drop}
-use Rattle.block_pool.specs.Pool.{PoolState}
-use Rattle.node_machine.specs.Parts.{Port}
-use Rattle.node_ends.specs.Ends.{AreEnds, are_idle}
+use Rattle.node_ends.proofs.Words.{AreEnds, List, PoolState, Port, drop, ◌≡◌}
+use Rattle.node_ends.specs.Ends.{are_idle}
 use Rattle.node_ends.proofs.ends.Ends.are_idle.Given as goal
 
 -- those so far are

@@ -1,8 +1,5 @@
-use Rattle.std.proofs.Common.{◌≡◌, ◌<◌, List, [], false, length, sym, ap, ◌∙◌, subst, arith, add-one, length-set}
-use Rattle.std.specs.Prelude.{slice_set}
-use Rattle.node_machine.specs.Parts.{Port}
-use Rattle.node_ends.specs.declared.seat.Seat.{Seat}
-use Rattle.node_ends.specs.Ends.{AreEnds, KeptEnds, EndsStandFor}
+use Rattle.node_ends.proofs.Words.{AreEnds, EndsStandFor, KeptEnds, List, Port, Seat, [], add-one, ap, arith, false, length, length-set, slice_set, subst, sym}
+use Rattle.node_ends.proofs.Words.{◌<◌, ◌∙◌, ◌≡◌}
 use Rattle.node_ends.proofs.Opening.{opened}
 use Rattle.node_ends.proofs.Seated.{becomes_here, as_many, first_changed, none_changed, next_changed, all_changed}
 use Rattle.node_ends.proofs.Beside.{begun}

@@ -1,6 +1,4 @@
-use Rattle.std.proofs.Common.{◌≡◌, List, [], false, length}
-use Rattle.node_machine.specs.Parts.{Port}
-use Rattle.node_ends.specs.Ends.{AreEnds, EndsStandFor}
+use Rattle.node_ends.proofs.Words.{AreEnds, EndsStandFor, List, Port, [], false, length, ◌≡◌}
 use Rattle.node_ends.proofs.Seated.{first_changed}
 use Rattle.node_ends.proofs.ends.Ends.begin_step.Given as goal
 

@@ -1,10 +1,6 @@
-use Rattle.std.proofs.Common.{◌≡◌, ap, sym, ◌∙◌, subst}
-use Rattle.std.specs.Prelude.{Option, Some, None, MatchResult, option_map}
-use Rattle.link_laws.specs.machine.Machine.{report}
-use Rattle.link_end.specs.Reports.{report_told}
-use Rattle.node_machine.specs.Parts.{Port}
-use Rattle.node_machine.specs.Node.{has_come}
-use Rattle.node_ends.specs.Ends.{FewAreDue, IsHeldWhileOneWaits, place_in}
+use Rattle.std.specs.Prelude.{MatchResult}
+use Rattle.node_ends.proofs.Words.{FewAreDue, None, Option, Port, Some, ap, has_come, option_map, place_in, report, report_told, subst, sym, ◌∙◌, ◌≡◌}
+use Rattle.node_ends.specs.Ends.{IsHeldWhileOneWaits}
 use Rattle.node_ends.specs.Inputs.{input_of_end, MayComeAt, refusal_at}
 use Rattle.node_ends.proofs.Changing.{lent_at, becomes_at, nowhere, still_nowhere}
 use Rattle.node_ends.proofs.Keeping.{none_refused, where_ok}

@@ -1,7 +1,4 @@
-use Rattle.std.proofs.Common.{List, ap, ◌∙◌}
-use Rattle.std.specs.Prelude.{option_map, slice_get}
-use Rattle.node_ends.specs.declared.seat.Seat.{Seat}
-use Rattle.node_deeds.specs.Shown.{desk_shown}
+use Rattle.node_ends.proofs.Words.{List, Seat, ap, desk_shown, option_map, slice_get, ◌∙◌}
 use Rattle.node_ends.proofs.Reading.{desk_is, is_there, is_none_there}
 use Rattle.node_ends.proofs.Opening.{opened}
 use Rattle.node_ends.proofs.ends.Ends.desk.Goals as goal

@@ -1,5 +1,4 @@
-use Rattle.std.proofs.Common.{arith}
-use Rattle.node_machine.specs.Node.{without_notice}
+use Rattle.node_ends.proofs.Words.{arith, without_notice}
 use Rattle.node_ends.proofs.Opening.{opened}
 use Rattle.node_ends.proofs.Seated.{becomes_here, still_beyond}
 use Rattle.node_ends.proofs.Beside.{notice_dropped}

@@ -1,11 +1,5 @@
-use Rattle.std.proofs.Common.{◌≡◌, List, arith, sym, ap, ◌∙◌, subst, false, true}
-use Rattle.std.specs.Prelude.{option_map, slice_get, slice_set}
-use Rattle.node_machine.specs.Node.{is_over_at, forgets}
-use Rattle.node_deeds.specs.Shown.{creation_of_row}
-use Rattle.node_ends.specs.declared.seat.Seat.{Seat}
-use Rattle.node_machine.specs.Parts.{Port}
-use Rattle.node_ends.specs.Desks.{asker_at, forgotten_at}
-use Rattle.node_ends.specs.Ends.{AreEnds}
+use Rattle.node_ends.proofs.Words.{AreEnds, List, Port, Seat, ap, arith, asker_at, creation_of_row, false, forgets, forgotten_at, is_over_at, option_map}
+use Rattle.node_ends.proofs.Words.{slice_get, slice_set, subst, sym, true, ◌∙◌, ◌≡◌}
 use Rattle.node_ends.proofs.Seated.{lent_here, becomes_here, at_place_as, at_place_still, still_beyond}
 use Rattle.node_ends.proofs.Beside.{creation_forgotten}
 use Rattle.node_ends.proofs.Noticing.{asker, asker_is, forgets_none, forgets_by, none_at_all}

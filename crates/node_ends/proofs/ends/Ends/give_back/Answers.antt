@@ -1,15 +1,6 @@
-use Rattle.std.proofs.Common.{◌≡◌, ℕ, List, refl, ap, ◌∙◌, subst, sym, arith}
-use Rattle.std.specs.Prelude.{Option, Some, None, slice_index_or, slice_set}
-use Rattle.block_pool.specs.Pool.{PoolState, Gives, KeepsOthers}
-use Rattle.link_end.specs.Ends.{Accounts}
-use Rattle.link_laws.specs.machine.Machine.{LinkEnd as Machine, turn}
-use Rattle.link_laws.specs.machine.Machine.Turn.{FetchMessage}
-use Rattle.node_machine.specs.Parts.{Port}
-use Rattle.node_machine.specs.Carrying.{after_turn, with_port}
-use Rattle.node_ends.specs.declared.seat.Seat.{Seat}
-use Rattle.node_ends.specs.declared.seat.Waiting.{Waiting}
-use Rattle.node_ends.specs.Holding.{HoldsEnd, HoldsSeat, Moves, chain_of}
-use Rattle.node_ends.specs.Ends.{AreEnds, SeatBecomes, place_in}
+use Rattle.node_ends.proofs.Words.{Accounts, AreEnds, FetchMessage, Gives, HoldsEnd, HoldsSeat, KeepsOthers, List, Machine, Moves, None, Option, PoolState}
+use Rattle.node_ends.proofs.Words.{Port, Seat, SeatBecomes, Some, Waiting, after_turn, ap, arith, chain_of, place_in, refl, slice_index_or, slice_set, subst}
+use Rattle.node_ends.proofs.Words.{sym, turn, with_port, ℕ, ◌∙◌, ◌≡◌}
 use Rattle.node_ends.proofs.Moving.{given_holds, given_moves, stays_beside, waiting_live}
 use Rattle.node_ends.proofs.Opening.{opened}
 use Rattle.node_ends.proofs.Changing.{lent_at, becomes_at, still_nowhere, turned}

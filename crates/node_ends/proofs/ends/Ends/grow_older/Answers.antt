@@ -1,9 +1,7 @@
-use Rattle.std.proofs.Common.{arith, subst}
-use Rattle.node_machine.specs.Node.{with_older}
+use Rattle.node_ends.proofs.Words.{IsYoung, arith, subst, with_older}
 use Rattle.node_ends.proofs.Opening.{opened}
 use Rattle.node_ends.proofs.Seated.{becomes_here, lent_here, still_beyond}
 use Rattle.node_ends.proofs.Beside.{older}
-use Rattle.node_ends.specs.Desks.{IsYoung}
 use Rattle.node_ends.proofs.Noticing.{is_young}
 use Rattle.node_ends.proofs.ends.Ends.grow_older.Goals as goal
 

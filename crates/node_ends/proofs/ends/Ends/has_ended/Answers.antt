@@ -1,8 +1,4 @@
-use Rattle.std.proofs.Common.{List, false, ap, ◌∙◌}
-use Rattle.std.specs.Prelude.{Option, slice_get}
-use Rattle.std.specs.Option.{option_map_or}
-use Rattle.node_machine.specs.Parts.{Port}
-use Rattle.node_ends.specs.declared.seat.Seat.{Seat}
+use Rattle.node_ends.proofs.Words.{List, Option, Port, Seat, ap, false, option_map_or, slice_get, ◌∙◌}
 use Rattle.node_ends.proofs.Reading.{flag_is, is_there, is_none_there}
 use Rattle.node_ends.proofs.Opening.{opened}
 use Rattle.node_ends.proofs.ends.Ends.has_ended.Goals as goal

@@ -1,9 +1,4 @@
-use Rattle.std.proofs.Common.{false, sym, ap, ◌∙◌}
-use Rattle.std.specs.Prelude.{Option}
-use Rattle.std.specs.Option.{option_map_or}
-use Rattle.link_laws.specs.sessions.Sessions.{is_up}
-use Rattle.node_machine.specs.Parts.{Port}
-use Rattle.node_ends.specs.Ends.{place_in}
+use Rattle.node_ends.proofs.Words.{Option, Port, ap, false, is_up, option_map_or, place_in, sym, ◌∙◌}
 use Rattle.node_ends.proofs.Changing.{nowhere, lent_at}
 use Rattle.node_ends.proofs.Opening.{opened}
 use Rattle.node_ends.proofs.ends.Ends.has_link.Goals as goal

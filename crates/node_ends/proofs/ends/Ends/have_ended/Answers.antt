@@ -1,8 +1,4 @@
-use Rattle.std.proofs.Common.{◌||◌, Bool, ap, ◌∙◌, rules, tests}
-use Rattle.std.specs.List.{list_any}
-use Rattle.std.proofs.lemmas.Iterator.{YieldsList-from_slice}
-use Rattle.std.proofs.lemmas.Iterator.Search.{any_from_yields_List}
-use Rattle.node_ends.specs.declared.seat.Seat.{Seat}
+use Rattle.node_ends.proofs.Words.{Bool, Seat, YieldsList-from_slice, any_from_yields_List, ap, list_any, rules, tests, ◌||◌, ◌∙◌}
 use Rattle.node_ends.proofs.Reading.{ended_are}
 use Rattle.node_ends.proofs.Opening.{opened}
 use Rattle.node_ends.proofs.ends.Ends.have_ended.Goals as goal

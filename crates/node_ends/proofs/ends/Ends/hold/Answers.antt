@@ -1,14 +1,5 @@
-use Rattle.std.proofs.Common.{◌≡◌, Bool, ap, ◌∙◌, subst, refl}
-use Rattle.block_pool.specs.Pool.{PoolState}
-use Rattle.link_laws.specs.machine.Machine.{LinkEnd as Machine, after_input, turn}
-use Rattle.link_laws.specs.machine.Machine.LinkInput.{FromNode}
-use Rattle.link_laws.specs.machine.Machine.Turn.{Hold}
-use Rattle.link_end.specs.declared.«end».End.{End}
-use Rattle.link_end.specs.Ends.{EndStandsFor}
-use Rattle.node_ends.specs.declared.seat.Seat.{Seat}
-use Rattle.node_ends.specs.Holding.{without_got}
-use Rattle.node_machine.specs.Carrying.{after_turn}
-use Rattle.node_ends.specs.Ends.{SeatBecomes, place_in, FewAreDue}
+use Rattle.node_ends.proofs.Words.{Bool, End, EndStandsFor, FewAreDue, FromNode, Hold, Machine, PoolState, Seat, SeatBecomes, after_input, after_turn, ap}
+use Rattle.node_ends.proofs.Words.{place_in, refl, subst, turn, without_got, ◌∙◌, ◌≡◌}
 use Rattle.node_ends.proofs.Opening.{opened}
 use Rattle.node_ends.proofs.Changing.{lent_at, becomes_at, still_nowhere, turned}
 use Rattle.node_ends.proofs.Moving.{boxes_hold, few_controls, stays_beside}

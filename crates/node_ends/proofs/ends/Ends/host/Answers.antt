@@ -1,6 +1,4 @@
-use Rattle.std.proofs.Common.{arith, ap}
-use Rattle.std.specs.Prelude.{option_map}
-use Rattle.node_machine.specs.Parts.{Port}
+use Rattle.node_ends.proofs.Words.{Port, ap, arith, option_map}
 use Rattle.node_ends.proofs.Opening.{opened}
 use Rattle.node_ends.proofs.Seated.{lent_here, none_beyond}
 use Rattle.node_ends.proofs.Changing.{host_is, told_there}

@@ -1,10 +1,4 @@
-use Rattle.std.proofs.Common.{false, sym, ap, ◌∙◌}
-use Rattle.std.specs.Prelude.{Option}
-use Rattle.std.specs.Option.{option_map_or}
-use Rattle.link_laws.specs.machine.Machine.{is_held}
-use Rattle.node_machine.specs.Parts.{Port}
-use Rattle.node_ends.specs.Ends.{place_in}
-use Rattle.node_ends.specs.Holding.{without_got}
+use Rattle.node_ends.proofs.Words.{Option, Port, ap, false, is_held, option_map_or, place_in, sym, without_got, ◌∙◌}
 use Rattle.node_ends.proofs.Opening.{opened}
 use Rattle.node_ends.proofs.Changing.{lent_at, nowhere}
 use Rattle.node_ends.proofs.ends.Ends.is_held.Goals as goal

@@ -1,11 +1,7 @@
-use Rattle.std.proofs.Common.{arith, ◌≡◌, ap, ap₂, sym, ◌∙◌, subst}
+use Rattle.node_ends.proofs.Words.{Machine, Port, Some, ap, ap₂, arith, subst, sym, without_got, ◌∙◌, ◌≡◌}
 use Rattle.node_ends.proofs.Opening.{opened}
 use Rattle.node_ends.proofs.Seated.{lent_here}
-use Rattle.std.specs.Prelude.{Some}
-use Rattle.link_laws.specs.machine.Machine.{LinkEnd as Machine}
 use Rattle.link_end.specs.Idle.{IsIdle}
-use Rattle.node_machine.specs.Parts.{Port}
-use Rattle.node_ends.specs.Holding.{without_got}
 use Rattle.node_ends.specs.Ends.{HasNoneDue}
 use Rattle.node_ends.proofs.ends.Ends.is_idle.Goals as goal
 

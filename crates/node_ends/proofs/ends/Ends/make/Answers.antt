@@ -1,6 +1,4 @@
-use Rattle.std.proofs.Common.{List, subst}
-use Rattle.node_ends.specs.declared.seat.Seat.{Seat}
-use Rattle.node_ends.specs.Making.{AddsNew}
+use Rattle.node_ends.proofs.Words.{AddsNew, List, Seat, subst}
 use Rattle.node_ends.proofs.Making.{new_ends}
 use Rattle.node_ends.proofs.ends.Ends.make.Goals as goal
 

@@ -1,11 +1,7 @@
-use Rattle.std.proofs.Common.{◌≡◌, ap, sym, ◌∙◌, subst}
-use Rattle.std.specs.Prelude.{Option, Some, None, Ok, IfSome, option_map}
-use Rattle.swp_base.specs.declared.control_frames.Control.{Control}
-use Rattle.swp_lpdu.specs.Controls.{lpdu_of, control_of}
-use Rattle.link_laws.specs.machine.Machine.{next_frame}
-use Rattle.node_machine.specs.Parts.{Port}
-use Rattle.node_ends.specs.Holding.{without_got}
-use Rattle.node_ends.specs.Ends.{has_sent, frame_at, place_in}
+use Rattle.node_ends.proofs.Words.{Control, IfSome, None, Ok, Option, Port, Some, ap, control_of, has_sent, next_frame, option_map, place_in, subst, sym}
+use Rattle.node_ends.proofs.Words.{without_got, ◌∙◌, ◌≡◌}
+use Rattle.swp_lpdu.specs.Controls.{lpdu_of}
+use Rattle.node_ends.specs.Ends.{frame_at}
 use Rattle.node_ends.proofs.Changing.{lent_at, becomes_at, nowhere, still_nowhere}
 use Rattle.node_ends.proofs.Sending.{sent_on, next_without}
 use Rattle.node_ends.proofs.Opening.{opened}

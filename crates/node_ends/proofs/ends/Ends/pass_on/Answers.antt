@@ -1,10 +1,5 @@
-use Rattle.std.proofs.Common.{rules, ◌≡◌, ◌++◌, length, take, drop, List, refl, sym, ap, ◌∙◌, subst}
-use Rattle.std.proofs.Math.Seq.{take-append_seam}
-use Rattle.link_laws.specs.machine.Machine.Turn.{Give, FetchMessage}
-use Rattle.node_machine.specs.Parts.{Port}
-use Rattle.node_machine.specs.Carrying.{with_port, after_turn}
-use Rattle.node_ends.specs.declared.seat.Seat.{Seat}
-use Rattle.node_ends.specs.Ends.{AreEnds, takes_at, place_in}
+use Rattle.node_ends.proofs.Words.{AreEnds, FetchMessage, Give, List, Port, Seat, after_turn, ap, drop, length, place_in, refl, rules, subst, sym, take}
+use Rattle.node_ends.proofs.Words.{take-append_seam, takes_at, with_port, ◌++◌, ◌∙◌, ◌≡◌}
 use Rattle.node_ends.proofs.Changing.{nowhere}
 use Rattle.node_ends.proofs.PassingOn.{none_there, none_after}
 use Rattle.node_ends.proofs.Relaying.{none_came}

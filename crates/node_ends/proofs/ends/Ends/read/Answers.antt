@@ -1,9 +1,4 @@
-use Rattle.std.proofs.Common.{[], ap, ◌∙◌}
-use Rattle.std.specs.Prelude.{Option}
-use Rattle.std.specs.Option.{option_map_or}
-use Rattle.node_machine.specs.Parts.{Port}
-use Rattle.node_ends.specs.Holding.{messages_waiting}
-use Rattle.node_ends.specs.Ends.{place_in}
+use Rattle.node_ends.proofs.Words.{Option, Port, [], ap, messages_waiting, option_map_or, place_in, ◌∙◌}
 use Rattle.node_ends.proofs.Changing.{nowhere, lent_at}
 use Rattle.node_ends.proofs.Moving.{waiting_live}
 use Rattle.node_ends.proofs.Opening.{opened}

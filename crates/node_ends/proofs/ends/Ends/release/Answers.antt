@@ -1,7 +1,4 @@
-use Rattle.std.proofs.Common.{ap, ◌∙◌, arith}
-use Rattle.link_laws.specs.machine.Machine.Turn.{Release}
-use Rattle.node_machine.specs.Carrying.{after_turn}
-use Rattle.node_ends.specs.Ends.{place_in}
+use Rattle.node_ends.proofs.Words.{Release, after_turn, ap, arith, place_in, ◌∙◌}
 use Rattle.node_ends.proofs.Opening.{opened}
 use Rattle.node_ends.proofs.Changing.{lent_at, becomes_at, owner_lent, still_nowhere, low_place}
 use Rattle.node_ends.proofs.ends.Ends.release.Goals as goal

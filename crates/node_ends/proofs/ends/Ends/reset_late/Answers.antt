@@ -1,6 +1,5 @@
-use Rattle.std.proofs.Common.{◌∙◌, arith, sym, ap, subst}
-use Rattle.node_machine.specs.Node.{reset_late}
-use Rattle.node_ends.specs.Ends.{late_told, FewAreDue}
+use Rattle.node_ends.proofs.Words.{FewAreDue, ap, arith, reset_late, subst, sym, ◌∙◌}
+use Rattle.node_ends.specs.Ends.{late_told}
 use Rattle.node_ends.proofs.Seated.{lent_here, becomes_here, still_beyond, none_beyond}
 use Rattle.node_ends.proofs.Opening.{opened}
 use Rattle.node_ends.proofs.ends.Ends.reset_late.Goals as goal

@@ -1,8 +1,4 @@
-use Rattle.std.proofs.Common.{◌∙◌, false, arith, sym, ap}
-use Rattle.std.specs.Prelude.{Option}
-use Rattle.std.specs.Option.{option_map_or}
-use Rattle.node_machine.specs.Parts.{Port}
-use Rattle.node_ends.specs.Ends.{rests}
+use Rattle.node_ends.proofs.Words.{Option, Port, ap, arith, false, option_map_or, rests, sym, ◌∙◌}
 use Rattle.node_ends.proofs.Opening.{opened}
 use Rattle.node_ends.proofs.Seated.{lent_here, none_beyond}
 use Rattle.node_ends.proofs.ends.Ends.rests.Goals as goal

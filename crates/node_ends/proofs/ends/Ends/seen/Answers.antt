@@ -1,11 +1,5 @@
-use Rattle.std.proofs.Common.{◌+◌, ◌≤◌, Bool, List, length, false, refl, sym, ap, ◌∙◌, subst, arith, length-set}
-use Rattle.std.proofs.lemmas.List.{length-map}
-use Rattle.link_laws.specs.sessions.Sessions.{is_up}
-use Rattle.node_deeds.specs.declared.desks.Desk.{Desk}
-use Rattle.node_deeds.specs.Cores.{AreSoundDesks}
-use Rattle.node_machine.specs.Parts.{Port}
-use Rattle.node_machine.specs.Controller.{has_link}
-use Rattle.node_ends.specs.declared.seat.Seat.{Seat}
+use Rattle.node_ends.proofs.Words.{AreSoundDesks, Bool, Desk, List, Port, Seat, ap, arith, false, has_link, is_up, length, length-map, length-set, refl, subst}
+use Rattle.node_ends.proofs.Words.{sym, ◌+◌, ◌∙◌, ◌≤◌}
 use Rattle.node_ends.proofs.Changing.{low_place}
 use Rattle.node_ends.proofs.Seated.{lent_here, as_many}
 use Rattle.node_ends.proofs.ByHost.{goes_on, goes_by, all_so_far}

@@ -1,9 +1,4 @@
-use Rattle.std.proofs.Common.{◌≡◌, ◌≤◌, List, map, take, length, false}
-use Rattle.link_laws.specs.sessions.Sessions.{is_up}
-use Rattle.block_pool.specs.Pool.{PoolState}
-use Rattle.node_machine.specs.Parts.{Port}
-use Rattle.node_ends.specs.declared.seat.Seat.{Seat}
-use Rattle.node_ends.specs.Ends.{AreEnds}
+use Rattle.node_ends.proofs.Words.{AreEnds, List, PoolState, Port, Seat, false, is_up, length, map, take, ◌≡◌, ◌≤◌}
 use Rattle.node_ends.proofs.ByHost.{StandSoFar}
 use Rattle.node_ends.proofs.ends.Ends.seen.Given as goal
 

@@ -1,15 +1,6 @@
-use Rattle.std.proofs.Common.{refl, sym, ap, ◌∙◌, subst}
-use Rattle.block_pool.specs.Pool.{PoolState}
-use Rattle.hcp_packet.specs.Packets.{IsSendable}
-use Rattle.link_laws.specs.machine.Machine.{LinkEnd as Machine, Message, after_input, turn}
-use Rattle.link_laws.specs.machine.Machine.LinkInput.{FromNode}
-use Rattle.link_laws.specs.machine.Machine.Turn.{Give}
-use Rattle.link_end.specs.declared.«end».End.{End}
-use Rattle.link_end.specs.Ends.{EndLeavesOthers, EndStandsFor}
-use Rattle.node_ends.specs.declared.seat.Seat.{Seat}
-use Rattle.node_ends.specs.Holding.{HoldsSeat, without_got}
-use Rattle.node_machine.specs.Carrying.{after_turn}
-use Rattle.node_ends.specs.Ends.{SeatBecomes, given_at, place_in}
+use Rattle.node_ends.proofs.Words.{End, EndLeavesOthers, EndStandsFor, FromNode, Give, HoldsSeat, IsSendable, Machine, Message, PoolState, Seat, SeatBecomes}
+use Rattle.node_ends.proofs.Words.{after_input, after_turn, ap, place_in, refl, subst, sym, turn, without_got, ◌∙◌}
+use Rattle.node_ends.specs.Ends.{given_at}
 use Rattle.node_ends.proofs.Changing.{nowhere, lent_at, becomes_at, still_nowhere, turned}
 use Rattle.node_ends.proofs.Opening.{opened}
 use Rattle.node_ends.proofs.Turning.{give_got, give_without, told_length, where_refused, none_written}

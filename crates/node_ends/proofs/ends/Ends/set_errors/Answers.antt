@@ -1,6 +1,4 @@
-use Rattle.std.proofs.Common.{ap, ◌∙◌}
-use Rattle.node_machine.specs.Parts.{Port}
-use Rattle.node_ends.specs.Ends.{place_in}
+use Rattle.node_ends.proofs.Words.{Port, ap, place_in, ◌∙◌}
 use Rattle.node_ends.proofs.Opening.{opened}
 use Rattle.node_ends.proofs.Changing.{becomes_at, still_nowhere}
 use Rattle.node_ends.proofs.Beside.{errors_set}

@@ -1,8 +1,4 @@
-use Rattle.std.proofs.Common.{ap, ◌∙◌}
-use Rattle.std.specs.Prelude.{option_map}
-use Rattle.node_machine.specs.Parts.{Port}
-use Rattle.node_deeds.specs.Shown.{notice_shown}
-use Rattle.node_ends.specs.Ends.{place_in}
+use Rattle.node_ends.proofs.Words.{Port, ap, notice_shown, option_map, place_in, ◌∙◌}
 use Rattle.node_ends.proofs.Opening.{opened}
 use Rattle.node_ends.proofs.Changing.{becomes_at, still_nowhere}
 use Rattle.node_ends.proofs.Beside.{notice_set}

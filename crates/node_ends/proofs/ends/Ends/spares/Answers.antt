@@ -1,9 +1,4 @@
-use Rattle.std.proofs.Common.{ℕ, ◌<◌, ◌∙◌, ap, sym, length, length-set, subst, arith}
-use Rattle.block_pool.specs.Pool.{spare_of}
-use Rattle.link_laws.specs.machine.Machine.{spare}
-use Rattle.link_end.proofs.NodeLemmas.{spare_is}
-use Rattle.node_machine.specs.Parts.{Port}
-use Rattle.node_ends.specs.Holding.{without_got}
+use Rattle.node_ends.proofs.Words.{Port, ap, arith, length, length-set, spare, spare_is, spare_of, subst, sym, without_got, ℕ, ◌<◌, ◌∙◌}
 use Rattle.node_ends.proofs.Opening.{opened}
 use Rattle.node_ends.proofs.Seated.{lent_here, owner_here, as_many}
 use Rattle.node_ends.proofs.ByHost.{goes_on, goes_by, all_so_far, everywhere}

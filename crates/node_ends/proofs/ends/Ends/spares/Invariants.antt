@@ -1,7 +1,4 @@
-use Rattle.std.proofs.Common.{◌≡◌, List, length}
-use Rattle.link_laws.specs.machine.Machine.{spare}
-use Rattle.node_machine.specs.Parts.{Port}
-use Rattle.node_ends.specs.Ends.{AreEnds}
+use Rattle.node_ends.proofs.Words.{AreEnds, List, Port, length, spare, ◌≡◌}
 use Rattle.node_ends.proofs.ByHost.{StandSoFar}
 use Rattle.node_ends.proofs.ends.Ends.spares.Given as goal
 

@@ -1,11 +1,4 @@
-use Rattle.std.proofs.Common.{◌∙◌, arith, sym, ap, subst}
-use Rattle.std.specs.Prelude.{Some, option_map}
-use Rattle.link_laws.specs.machine.Machine.{report}
-use Rattle.link_laws.specs.machine.Machine.LinkInput.{Tick}
-use Rattle.link_end.specs.Reports.{report_told}
-use Rattle.node_machine.specs.Parts.{Port}
-use Rattle.node_machine.specs.Node.{has_come}
-use Rattle.node_ends.specs.Ends.{FewAreDue}
+use Rattle.node_ends.proofs.Words.{FewAreDue, Port, Some, Tick, ap, arith, has_come, option_map, report, report_told, subst, sym, ◌∙◌}
 use Rattle.node_ends.proofs.Seated.{lent_here, becomes_here, still_beyond, none_beyond}
 use Rattle.node_ends.proofs.Opening.{opened}
 use Rattle.node_ends.proofs.ends.Ends.tick.Goals as goal

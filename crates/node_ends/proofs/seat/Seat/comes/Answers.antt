@@ -1,18 +1,11 @@
-use Rattle.std.proofs.Common.{refl, sym, ap, ◌∙◌, subst}
-use Rattle.std.specs.Prelude.{Some}
-use Rattle.link_laws.specs.machine.Machine.{LinkInput, Role, lpdu_input}
-use Rattle.link_laws.specs.machine.Machine.LinkInput.{Reset, Start, Stop}
-use Rattle.swp_act.specs.declared.ActEvent.TheVariants.{Start as ActStart}
+use Rattle.node_ends.proofs.Words.{ActStart, LinkInput, LinkReport, Reset, Role, SeatBecomes, Some, Start, Stop, ap, has_come, lpdu_input, refl, subst, sym}
+use Rattle.node_ends.proofs.Words.{without_got, ◌∙◌}
 use Rattle.link_end.specs.Roles.{MayStart}
-use Rattle.link_end.specs.declared.report.LinkReport.{LinkReport}
-use Rattle.node_machine.specs.Node.{has_come}
-use Rattle.node_ends.specs.Ends.{SeatBecomes}
 use Rattle.node_ends.proofs.Counting.{reset_done}
 use Rattle.node_ends.proofs.Fetching.{lpdu_is_outside}
 use Rattle.node_ends.proofs.Coming.{reset_so, start_told_apart, stop_told_apart}
 use Rattle.node_ends.proofs.Keeping.{takes, refuses, not_refused, why_refused, side_takes, frame_is}
 use Rattle.node_ends.proofs.Moving.{few_controls}
-use Rattle.node_ends.specs.Holding.{without_got}
 use Rattle.node_ends.proofs.seat.Seat.comes.Goals as goal
 
 pub reset-requires : goal.reset-requires

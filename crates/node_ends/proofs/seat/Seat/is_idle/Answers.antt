@@ -1,5 +1,4 @@
-use Rattle.std.proofs.Common.{◌==◌, ◌&&◌, not, length, sym, ap, ◌∙◌}
-use Rattle.link_laws.specs.machine.Machine.{is_held}
+use Rattle.node_ends.proofs.Words.{ap, is_held, length, not, sym, ◌&&◌, ◌==◌, ◌∙◌}
 use Rattle.node_ends.proofs.seat.Seat.is_idle.Goals as goal
 
 pub returns-then-not-is_over : goal.returns-then-not-is_over

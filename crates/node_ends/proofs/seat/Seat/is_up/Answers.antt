@@ -1,6 +1,4 @@
-use Rattle.std.proofs.Common.{sym, ap, ◌∙◌}
-use Rattle.link_laws.specs.sessions.Sessions.{is_up}
-use Rattle.node_ends.specs.Holding.{without_got}
+use Rattle.node_ends.proofs.Words.{ap, is_up, sym, without_got, ◌∙◌}
 use Rattle.node_ends.proofs.seat.Seat.is_up.Goals as goal
 
 pub returns-in-Up : goal.returns-in-Up

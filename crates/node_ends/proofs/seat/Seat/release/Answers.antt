@@ -1,9 +1,6 @@
-use Rattle.std.proofs.Common.{ℕ, ◌-◌, ◌<◌, length, refl, sym, ap, ◌∙◌, subst, arith}
-use Rattle.block_pool.specs.Pool.{used_of, aside_of}
-use Rattle.node_ends.specs.Holding.{without_got}
+use Rattle.node_ends.proofs.Words.{Release, ap, arith, aside_of, length, refl, subst, sym, used_of, without_got, ℕ, ◌-◌, ◌<◌, ◌∙◌}
 use Rattle.node_ends.proofs.Moving.{stays_beside}
 use Rattle.node_ends.proofs.Setting.{Counts, released_holds, none_released, counted_moves}
-use Rattle.link_laws.specs.machine.Machine.Turn.{Release}
 use Rattle.node_ends.proofs.Changing.{turned}
 use Rattle.node_ends.proofs.seat.Seat.release.Goals as goal
 

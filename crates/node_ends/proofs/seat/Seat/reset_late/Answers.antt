@@ -1,14 +1,5 @@
-use Rattle.std.proofs.Common.{◌≡◌, false, true, refl, sym, ap, ◌∙◌, subst}
-use Rattle.std.specs.Prelude.{None, if◌then◌else◌}
-use Rattle.link_laws.specs.machine.Machine.LinkInput.{Reset}
-use Rattle.link_end.specs.Reports.{reset_told}
-use Rattle.node_machine.specs.Parts.{Port}
-use Rattle.node_machine.specs.Node.{is_late}
-use Rattle.node_deeds.specs.Cores.{IsSoundDesk}
-use Rattle.node_deeds.specs.Shown.{desk_shown}
-use Rattle.node_ends.specs.declared.seat.Seat.{Seat}
-use Rattle.node_ends.specs.Holding.{where_done, acked_by_reset}
-use Rattle.node_ends.specs.Ends.{SeatStandsFor}
+use Rattle.node_ends.proofs.Words.{IsSoundDesk, None, Port, Reset, Seat, SeatStandsFor, acked_by_reset, ap, desk_shown, false, if◌then◌else◌, is_late, refl}
+use Rattle.node_ends.proofs.Words.{reset_told, subst, sym, true, where_done, ◌∙◌, ◌≡◌}
 use Rattle.node_ends.proofs.Moving.{stays_beside}
 use Rattle.node_ends.proofs.Counting.{reached_outside, reset_acked}
 use Rattle.node_ends.proofs.Noticing.{late_is, not_late, now_late}

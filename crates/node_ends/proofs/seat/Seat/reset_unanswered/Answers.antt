@@ -1,9 +1,5 @@
-use Rattle.std.proofs.Common.{◌≡◌, true, refl, sym, ap, ◌∙◌, subst}
-use Rattle.std.specs.Prelude.{None}
-use Rattle.link_laws.specs.machine.Machine.{after_input}
-use Rattle.link_laws.specs.machine.Machine.LinkInput.{Reset}
-use Rattle.node_ends.specs.declared.seat.Seat.{Seat}
-use Rattle.node_ends.specs.Holding.{HoldsSeat, Moves, acked_by_reset, where_done, without_got}
+use Rattle.node_ends.proofs.Words.{HoldsSeat, Moves, None, Reset, Seat, acked_by_reset, after_input, ap, refl, subst, sym, true, where_done, without_got, ◌∙◌}
+use Rattle.node_ends.proofs.Words.{◌≡◌}
 use Rattle.node_ends.proofs.Coming.{reset_so, still_holds}
 use Rattle.node_ends.proofs.Moving.{call_moves}
 use Rattle.node_ends.proofs.seat.Seat.reset_unanswered.Goals as goal

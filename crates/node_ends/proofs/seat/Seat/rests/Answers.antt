@@ -1,7 +1,4 @@
-use Rattle.std.proofs.Common.{◌≡◌, List, [], length, not, sym, ap, ◌∙◌}
-use Rattle.std.specs.Prelude.{◌==◌, ◌&&◌}
-use Rattle.link_laws.specs.machine.Machine.{Message, is_held}
-use Rattle.node_ends.specs.Holding.{messages_waiting, without_got}
+use Rattle.node_ends.proofs.Words.{List, Message, [], ap, is_held, length, messages_waiting, not, sym, without_got, ◌&&◌, ◌==◌, ◌∙◌, ◌≡◌}
 use Rattle.node_ends.proofs.Fetching.{none_waits}
 use Rattle.node_ends.proofs.seat.Seat.rests.Goals as goal
 

@@ -1,11 +1,7 @@
-use Rattle.std.proofs.Common.{ℕ, ◌+◌, ◌<◌, length, refl, sym, ap, ◌∙◌, subst, arith}
-use Rattle.std.proofs.lemmas.Bool.{true≢false}
-use Rattle.block_pool.specs.Pool.{PoolState, spare_of, used_of, aside_of}
-use Rattle.link_laws.specs.machine.Machine.{LinkEnd as Machine}
-use Rattle.node_ends.specs.Holding.{HoldsEnd, Moves, without_got}
+use Rattle.node_ends.proofs.Words.{HoldsEnd, Machine, Moves, PoolState, SetAside, ap, arith, aside_of, length, refl, spare_of, subst, sym, true≢false, used_of}
+use Rattle.node_ends.proofs.Words.{without_got, ℕ, ◌+◌, ◌<◌, ◌∙◌}
 use Rattle.node_ends.proofs.Moving.{stays_beside}
 use Rattle.node_ends.proofs.Setting.{Counts, set_holds, set_refused, set_counts, few_aside, counted_moves}
-use Rattle.link_laws.specs.machine.Machine.Turn.{SetAside}
 use Rattle.node_ends.proofs.Changing.{turned}
 use Rattle.node_ends.proofs.seat.Seat.set_aside.Goals as goal
 

@@ -1,12 +1,5 @@
-use Rattle.std.proofs.Common.{◌≡◌, sym, ap, ◌∙◌, subst}
-use Rattle.std.specs.Prelude.{Option, None, is_some}
-use Rattle.link_laws.specs.machine.Machine.{LinkEnd as Machine, after_input, lpdu_input, got_by, oldest}
-use Rattle.link_end.specs.declared.«end».End.{End}
-use Rattle.link_end.specs.Ends.{EndStandsFor}
-use Rattle.link_end.specs.declared.report.LinkReport.{LinkReport}
-use Rattle.link_end.proofs.AccountLemmas.{account_kept}
-use Rattle.node_ends.specs.declared.seat.Waiting.{Waiting}
-use Rattle.node_ends.specs.Holding.{HoldsEnd, without_got}
+use Rattle.node_ends.proofs.Words.{End, EndStandsFor, HoldsEnd, LinkReport, Machine, None, Option, Waiting, account_kept, after_input, ap, got_by, is_some}
+use Rattle.node_ends.proofs.Words.{lpdu_input, oldest, subst, sym, without_got, ◌∙◌, ◌≡◌}
 use Rattle.node_ends.proofs.Coming.{still_holds}
 use Rattle.node_ends.proofs.Moving.{call_moves}
 use Rattle.node_ends.proofs.Fetching.{fetches, may_take, none_got, none_came, none_waited, lpdu_told_apart, lpdu_is_outside, moves_on}

@@ -1,10 +1,4 @@
-use Rattle.std.proofs.Common.{refl, sym, ap, ◌∙◌, subst}
-use Rattle.std.specs.Prelude.{Some, is_some}
-use Rattle.link_laws.specs.machine.Machine.{LinkEnd as Machine, whole_acked}
-use Rattle.link_laws.specs.machine.Machine.LinkInput.{Tick}
-use Rattle.link_end.specs.declared.report.LinkReport.{LinkReport}
-use Rattle.node_ends.specs.declared.seat.Seat.{Seat}
-use Rattle.node_ends.specs.Holding.{HoldsEnd, without_got, kept_number}
+use Rattle.node_ends.proofs.Words.{HoldsEnd, LinkReport, Machine, Seat, Some, Tick, ap, is_some, kept_number, refl, subst, sym, whole_acked, without_got, ◌∙◌}
 use Rattle.node_ends.proofs.Moving.{stays_beside}
 use Rattle.node_ends.proofs.Coming.{same_apart, tick_told_apart}
 use Rattle.node_ends.proofs.Counting.{reached_outside}

@@ -1,13 +1,4 @@
-use Rattle.std.proofs.Common.{ℕ, ap, map, sym, ◌∙◌}
-use Rattle.std.specs.Prelude.{Option, Some, None}
-use Rattle.swp_base.specs.InMemory.{Memory}
-use Rattle.link_laws.specs.messages.Links.{NumberedEnd}
-use Rattle.node_machine.specs.Parts.{Desk, Running}
-use Rattle.node_machine.specs.world.World.{port_for}
-use Rattle.node_core.specs.declared.node.Node.{Node}
-use Rattle.node_core.specs.Running.{RunsAs}
-use Rattle.node_sites.specs.declared.power.Power.TheVariants.{On}
-use Rattle.node_sites.specs.Powers.{IsNodePlace}
+use Rattle.node_sites.proofs.Words.{Desk, IsNodePlace, Memory, Node, None, NumberedEnd, On, Option, Running, RunsAs, Some, ap, map, port_for, sym, ℕ, ◌∙◌}
 use Rattle.node_sites.proofs.Powers.{counted, plain, while_off}
 use Rattle.node_sites.proofs.power.Power.loses_frame.Goals as goal
 

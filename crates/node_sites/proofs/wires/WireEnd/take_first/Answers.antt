@@ -1,6 +1,4 @@
-use Rattle.std.proofs.Common.{sym, ◌∙◌}
-use Rattle.std.specs.Prelude.{None, Some}
-use Rattle.link_wires.proofs.Wires.{IsTakenOff}
+use Rattle.node_sites.proofs.Words.{IsTakenOff, None, Some, sym, ◌∙◌}
 use Rattle.node_sites.proofs.Arrivals.{none_taken, one_taken}
 use Rattle.node_sites.proofs.wires.WireEnd.take_first.Goals as goal
 

@@ -1,6 +1,4 @@
-use Rattle.std.proofs.Common.{◌∙◌}
-use Rattle.std.proofs.lemmas.Bool.{eq-eqb, ne_eqb}
-use Rattle.node_world.proofs.Words.{lines_played, nodes_behind}
+use Rattle.node_world.proofs.Words.{eq-eqb, lines_played, ne_eqb, nodes_behind, ◌∙◌}
 use Rattle.node_world.proofs.WorldsStepped.{found_behind, controller_kept, host_kept, host_is_there}
 use Rattle.node_world.proofs.worlds.NodeWorld.into_memory.Goals as goal
 

@@ -1,7 +1,4 @@
-use Rattle.std.proofs.Common.{List, ℕ, ◌==◌, refl, ap, ◌∙◌}
-use Rattle.node_world.proofs.Words.{Off, mask_of}
-use Rattle.std.specs.List.{list_any}
-use Rattle.gate_admin.specs.View.{hosts_where}
+use Rattle.node_world.proofs.Words.{List, Off, ap, hosts_where, list_any, mask_of, refl, ℕ, ◌==◌, ◌∙◌}
 use Rattle.node_world.proofs.WorldsStepped.{stands_at_first}
 use Rattle.node_world.proofs.worlds.NodeWorld.new.Goals as goal
 

@@ -1,8 +1,5 @@
-use Rattle.std.proofs.Common.{◌≡◌, ◌+◌, length, arith, refl}
-use Rattle.std.proofs.lemmas.List.{with_items_is}
-use Rattle.std.specs.Vec.{with_items}
+use Rattle.node_world.proofs.Words.{arith, length, lines_played, nodes_behind, refl, with_items, with_items_is, ◌+◌, ◌≡◌}
 use Rattle.node_world.specs.declared.worlds.NodeWorld.{NodeWorld}
-use Rattle.node_world.proofs.Words.{lines_played, nodes_behind}
 use Rattle.node_world.proofs.WorldsStepped.{may_be_gone, round_answered, round_told_so, rounds_few}
 use Rattle.node_world.proofs.worlds.NodeWorld.round.Goals as goal
 

@@ -1,5 +1,4 @@
-use Rattle.std.proofs.Common.{◌≡◌, ◌≤◌, length, arith}
-use Rattle.node_world.proofs.Words.{frames_at, lines_played, nodes_behind}
+use Rattle.node_world.proofs.Words.{arith, frames_at, length, lines_played, nodes_behind, ◌≡◌, ◌≤◌}
 use Rattle.node_world.proofs.RoundsGo.{few_on_way}
 use Rattle.node_world.proofs.WorldsStepped.{in_order_behind}
 use Rattle.node_world.proofs.worlds.NodeWorld.standing.Goals as goal

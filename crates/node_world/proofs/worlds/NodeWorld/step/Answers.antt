@@ -1,15 +1,7 @@
-use Rattle.std.proofs.Common.{◌≡◌, ◌+◌, List, length, arith, refl, sym, subst}
-use Rattle.std.proofs.lemmas.List.{with_items_is}
-use Rattle.std.specs.Prelude.{Option, None, Result, Ok, IfOk}
-use Rattle.std.specs.Vec.{with_items}
-use Rattle.swp_base.specs.declared.outside.NoMemory.{NoMemory}
-use Rattle.link_wires.specs.declared.finding.Misread.{Misread}
-use Rattle.nv_journal.proofs.Appending.{on_err}
-use Rattle.node_machine.specs.world.World.{NodeWorld as Machine}
-use Rattle.node_sites.specs.declared.noted.Noted.{Noted}
-use Rattle.node_world.specs.Whole.{IsMisreadIn}
+use Rattle.node_world.proofs.Words.{Header, HostSite, IfOk, IsMisreadIn, Line, LinePlayed, List, Machine, MayPlay, Misread, NoMemory, None, Noted, Ok, Option}
+use Rattle.node_world.proofs.Words.{Play, Power, Result, WorldIs, arith, length, line_step, lines_played, misread_in, nodes_behind, on_err, refl, subst, sym}
+use Rattle.node_world.proofs.Words.{with_items, with_items_is, ◌+◌, ◌≡◌}
 use Rattle.node_world.specs.declared.worlds.NodeWorld.{NodeWorld}
-use Rattle.node_world.proofs.Words.{Header, HostSite, Line, LinePlayed, MayPlay, Play, Power, WorldIs, line_step, lines_played, misread_in, nodes_behind}
 use Rattle.node_world.proofs.LinesGo.{is_sound, sound_reads}
 use Rattle.node_world.proofs.WorldsStepped.{may_be_said, stands_answered, entries_answered, steps_few}
 use Rattle.node_world.proofs.worlds.NodeWorld.step.Goals as goal

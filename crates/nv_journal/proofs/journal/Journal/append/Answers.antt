@@ -1,10 +1,6 @@
-use Rattle.std.proofs.Common.{Bool, true, false, ℕ, List, rules, arith}
+use Rattle.nv_journal.proofs.Words.{AreMade, Bool, HasRoomForBody, LeftByCut, List, Says, State, append_writes, arith, false, made_in_part, made_whole, rules}
+use Rattle.nv_journal.proofs.Words.{true, ℕ}
 use Rattle.swp_base.specs.Outside.{IsWritten}
-use Rattle.journal_laws.specs.declared.state.State.{State}
-use Rattle.journal_laws.specs.Writes.{AreMade}
-use Rattle.journal_laws.specs.Operations.{append_writes, HasRoomForBody, LeftByCut}
-use Rattle.journal_laws.proofs.Planned.{made_whole, made_in_part}
-use Rattle.nv_journal.specs.Kept.{Says}
 use Rattle.nv_journal.proofs.Appending.{says_after, records_after, all_or_nothing, left_by_cut, on_err}
 use Rattle.nv_journal.proofs.journal.Journal.append.Goals as goal
 

@@ -1,7 +1,6 @@
-use Rattle.std.proofs.Common.{◌≡◌, ◌<◌, ◌+◌, ◌-◌, ◌∙◌, arith, min, true, false, Some, slice_range, refl, sym, ap, subst}
-use Rattle.journal_laws.specs.Journal.{next_place, left}
+use Rattle.nv_journal.proofs.Words.{Some, ap, arith, false, left, min, next_place, no_reads, one_more_read, refl, slice_range, subst, sym, true, ◌+◌, ◌-◌, ◌<◌}
+use Rattle.nv_journal.proofs.Words.{◌∙◌, ◌≡◌}
 use Rattle.nv_journal.specs.Kept.{IsGate}
-use Rattle.journal_laws.proofs.ReadFirst.{no_reads, one_more_read}
 use Rattle.nv_journal.proofs.Compacting.{not_ok}
 use Rattle.nv_journal.proofs.Standing.{at_end, has_room, body_there, next_there, next_is_gate}
 use Rattle.nv_journal.proofs.journal.Journal.body.Goals as goal

@@ -1,8 +1,4 @@
-use Rattle.std.proofs.Common.{◌*◌, ◌<◌, ◌≤◌, sym, ap, ◌∙◌, subst, arith}
-use Rattle.journal_laws.specs.declared.state.State.{State}
-use Rattle.journal_laws.specs.Journal.{records}
-use Rattle.journal_laws.specs.Operations.{compact_writes}
-use Rattle.journal_laws.proofs.Planned.{made_whole, made_in_part}
+use Rattle.nv_journal.proofs.Words.{State, ap, arith, compact_writes, made_in_part, made_whole, records, subst, sym, ◌*◌, ◌<◌, ◌∙◌, ◌≤◌}
 use Rattle.journal_laws.proofs.Reading.{few_records}
 use Rattle.nv_journal.proofs.Appending.{left_by_cut}
 use Rattle.nv_journal.proofs.Compacting.{says_after, records_after, all_or_nothing}

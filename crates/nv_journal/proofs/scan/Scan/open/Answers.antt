@@ -1,25 +1,17 @@
-use Rattle.std.proofs.Common.{◌≡◌, ◌≢◌, ◌⊎◌, inl, inr, ℕ, ◌≤◌, ◌==◌, ◌||◌, Bool, true, false, cond, List, [], length, drop, Option, Some, None, IsTrue, is_some}
-use Rattle.std.proofs.Common.{not, sym, refl, ap, ap₂, ◌∙◌, subst, arith}
-use Rattle.std.specs.Option.{option_map_or}
-use Rattle.std.proofs.lemmas.Bool.{true≢false}
+use Rattle.std.proofs.Common.{not, ◌≢◌}
 use Rattle.std.proofs.lemmas.Bool.Decides.{nat_tests}
-use Rattle.nv_journal.specs.declared.JournalFault.TheVariants.{UnknownFormat, BadRecord}
-use Rattle.nv_journal.specs.Faults.{fault, is_known, IsKnown}
-use Rattle.nv_journal.specs.Kept.{Says}
-use Rattle.nv_journal.specs.Scanning.{head_at, begun_in, begun_scan, IsPassed, SaysSoFar}
+use Rattle.nv_journal.proofs.Words.{BadRecord, Bool, Head, IsPassed, IsTrue, Journal, List, None, Option, Says, SaysSoFar, Side, Some, State, UnknownFormat, []}
+use Rattle.nv_journal.proofs.Words.{ap, ap₂, arith, bank, cond, current, drop, false, fault, found_from, gate_at, head, inl, inr, is_opened_gate, is_some}
+use Rattle.nv_journal.proofs.Words.{journal, journal_in_use, length, length-bank, no_journal, option_map_or, other, reads_up_to, records, refl, subst, sym}
+use Rattle.nv_journal.proofs.Words.{true, true≢false, unformatted, ℕ, ◌==◌, ◌||◌, ◌∙◌, ◌≡◌, ◌≤◌, ◌⊎◌}
+use Rattle.nv_journal.specs.Faults.{IsKnown, is_known}
+use Rattle.nv_journal.specs.Scanning.{begun_in, begun_scan, head_at}
 use Rattle.nv_journal.proofs.scan.Scan.open.Goals as goal
 use Rattle.nv_journal.proofs.scan.Scan.open.Goals.{else-state-ne1-via-then-state-ne1+else-state-ne2, else-state-ne1-via-else-state-ne1}
-use Rattle.journal_laws.specs.declared.banks.Side.{Side}
 use Rattle.journal_laws.specs.declared.banks.Side.TheVariants.{First, Second}
-use Rattle.journal_laws.specs.declared.state.Head.{Head}
-use Rattle.journal_laws.specs.declared.state.State.{State}
-use Rattle.journal_laws.specs.Banks.{other, bank, is_opened_gate, head, newer, current}
-use Rattle.journal_laws.specs.Records.{found_from}
-use Rattle.journal_laws.specs.Journal.{Journal, unformatted, journal, state_by, gate_at, records}
-use Rattle.journal_laws.proofs.Places.{length-bank}
+use Rattle.journal_laws.specs.Banks.{newer}
+use Rattle.journal_laws.specs.Journal.{state_by}
 use Rattle.journal_laws.proofs.Reading.{behind-none}
-use Rattle.journal_laws.proofs.InUse.{journal_in_use, no_journal}
-use Rattle.journal_laws.proofs.ReadFirst.{reads_up_to}
 
 -- A pass in front of the first record.
 head_at_side : (c : List ℕ) (side : Side) → head_at (head c First) (head c Second) side ≡ head c side

@@ -1,5 +1,4 @@
-use Rattle.std.proofs.Common.{◌≡◌, ◌-◌, ◌≤◌, IsTrue}
-use Rattle.nv_journal.specs.Scanning.{IsReadSoFar}
+use Rattle.nv_journal.proofs.Words.{IsReadSoFar, IsTrue, ◌-◌, ◌≡◌, ◌≤◌}
 use Rattle.nv_journal.proofs.scan.Scan.pass_all.Given as goal
 
 abbrev pub invariant-records : goal.invariant-records

@@ -1,6 +1,4 @@
-use Rattle.std.proofs.Common.{◌≡◌, ◌+◌, ◌-◌, ◌≤◌, length, ap, ap₂, ◌∙◌, subst, arith}
-use Rattle.journal_laws.specs.Journal.{next_gate}
-use Rattle.nv_journal.specs.Scanning.{IsFilled}
+use Rattle.nv_journal.proofs.Words.{IsFilled, ap, ap₂, arith, length, next_gate, subst, ◌+◌, ◌-◌, ◌∙◌, ◌≡◌, ◌≤◌}
 use Rattle.nv_journal.proofs.Appending.{on_err}
 use Rattle.nv_journal.proofs.PassedSteps.{filled_so_far, failed_so_far, filled_len, piece_says}
 use Rattle.nv_journal.proofs.scan.Scan.read_on.Goals as goal

@@ -1,8 +1,5 @@
-use Rattle.std.proofs.Common.{sym, ap, ◌∙◌, arith}
-use Rattle.journal_laws.specs.Journal.{records}
+use Rattle.nv_journal.proofs.Words.{ap, arith, format_writes, made_in_part, made_whole, records, sym, ◌∙◌}
 use Rattle.nv_journal.specs.Kept.{KeptMemory}
-use Rattle.journal_laws.specs.Operations.{format_writes}
-use Rattle.journal_laws.proofs.Planned.{made_whole, made_in_part}
 use Rattle.nv_journal.proofs.Appending.{left_by_cut}
 use Rattle.nv_journal.proofs.Formatting.{none_of, says_formatted, format_all_or_nothing, no_records_then}
 use Rattle.nv_journal.proofs.scan.Scan.start.Goals as goal

@@ -1,6 +1,4 @@
-use Rattle.std.proofs.Common.{◌+◌, take, drop, length-drop, refl, ap₂, ◌∙◌, arith}
-use Rattle.journal_laws.specs.Records.{index_len}
-use Rattle.nv_journal.specs.Gates.{gate_of}
+use Rattle.nv_journal.proofs.Words.{ap₂, arith, drop, gate_of, index_len, length-drop, refl, take, ◌+◌, ◌∙◌}
 use Rattle.nv_journal.proofs.PassedSteps.{closed_so_far, ended_so_far, faulty_so_far, record_so_far, says_then}
 use Rattle.nv_journal.proofs.scan.Scan.step.Goals as goal
 

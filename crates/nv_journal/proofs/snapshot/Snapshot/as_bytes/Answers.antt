@@ -1,6 +1,4 @@
-use Rattle.std.proofs.Common.{length, ap, ◌∙◌}
-use Rattle.journal_laws.specs.Records.{used}
-use Rattle.nv_journal.specs.Snapshots.{bodies_of}
+use Rattle.nv_journal.proofs.Words.{ap, bodies_of, length, used, ◌∙◌}
 use Rattle.nv_journal.proofs.Snapshotting.{size_of_bytes}
 use Rattle.nv_journal.proofs.snapshot.Snapshot.as_bytes.Goals as goal
 

@@ -1,6 +1,4 @@
-use Rattle.std.proofs.Common.{◌≡◌, ◌+◌, ◌∷◌, ◌++◌, [], length, sym, ap, ◌∙◌, subst, arith, append_assoc, rules}
-use Rattle.journal_laws.specs.Records.{record_bytes}
-use Rattle.nv_journal.specs.Snapshots.{bodies_of, AreRecords}
+use Rattle.nv_journal.proofs.Words.{AreRecords, [], ap, append_assoc, arith, bodies_of, length, record_bytes, rules, subst, sym, ◌++◌, ◌+◌, ◌∙◌, ◌∷◌, ◌≡◌}
 use Rattle.nv_journal.proofs.Snapshotting.{one_more_body, still_records, size_of_bytes, few_bodies}
 use Rattle.nv_journal.proofs.snapshot.Snapshot.push.Goals as goal
 

@@ -1,8 +1,5 @@
 -- The first of some bytes are taken at once.
-use Rattle.std.proofs.Common.{◌≡◌, ◌∙◌, ◌++◌, [], reverse, take, ap, subst}
-use Rattle.std.proofs.lemmas.List.{take-take}
-use Rattle.lone_laws.specs.alone.Ends.{bytes_bring}
-use Rattle.lone_laws.specs.alone.Ends.EndForm.{OnLine}
+use Rattle.one_end.proofs.Words.{OnLine, [], ap, bytes_bring, reverse, subst, take, take-take, ◌++◌, ◌∙◌, ◌≡◌}
 use Rattle.one_end.specs.Reading.{LineStandsFor}
 use Rattle.one_end.proofs.line.LineReader.pass.Goals as goal
 

@@ -1,9 +1,10 @@
 -- Periods with bits are taken at once.
-use Rattle.std.proofs.Common.{◌≡◌, ◌≢◌, ◌∙◌, ℕ, suc, ◌+◌, ◌-◌, ◌/◌, ◌%◌, ◌^◌, ◌<◌, ◌≤◌, Bool, true, false, List, [], ◌∷◌, ◌++◌, Option, Some, length, reverse}
-use Rattle.std.proofs.Common.{take, refl, sym, ap, subst, arith, rules}
-use Rattle.std.specs.Prelude.{◌==◌, ◌&&◌, is_some, if◌then◌else◌}
+use Rattle.std.proofs.Common.{rules, ◌/◌, ◌^◌, ◌≢◌}
+use Rattle.std.specs.Prelude.{if◌then◌else◌}
 use Rattle.std.specs.List.{cons_option}
 use Rattle.std.proofs.lemmas.List.{length-take-le}
+use Rattle.one_end.proofs.Words.{Bool, List, LoneCause, OnLine, Option, Some, StartComes, StopComes, TickComes, [], ap, arith, bytes_bring, false, is_some}
+use Rattle.one_end.proofs.Words.{length, refl, reverse, subst, suc, sym, take, true, ℕ, ◌%◌, ◌&&◌, ◌++◌, ◌+◌, ◌-◌, ◌<◌, ◌==◌, ◌∙◌, ◌∷◌, ◌≡◌, ◌≤◌}
 use lib.Count.{count_leading_zeros}
 use Rattle.swp_line.specs.declared.period.Period.{Period}
 use Rattle.swp_line.specs.Periods.{period_at}
@@ -19,11 +20,7 @@ use Rattle.swp_decode.specs.declared.line.Wire.TheVariants.{S1, S2}
 use Rattle.swp_decode.specs.Readings.{symbol_on, AreBits}
 use Rattle.swp_decode.proofs.FurtherFrames.{reverse_onto, bits_of_word, AreBits-part}
 use Rattle.swp_decode.proofs.Marks.{IsNext, next_place, below_sooner}
-use Rattle.lone_laws.specs.alone.Lone.{LoneCause}
-use Rattle.lone_laws.specs.alone.Lone.LoneCause.{TickComes, StartComes, StopComes}
 use Rattle.lone_laws.specs.alone.Ends.{wire_read, symbols_read, reading_brings, has_bits, is_deactivation, is_unstarted, comes_if, periods_among, line_brings}
-use Rattle.lone_laws.specs.alone.Ends.{bytes_bring}
-use Rattle.lone_laws.specs.alone.Ends.EndForm.{OnLine}
 use Rattle.one_end.specs.Reading.{wire_of}
 use Rattle.one_end.proofs.line.LineReader.pass_bits.Goals as goal
 

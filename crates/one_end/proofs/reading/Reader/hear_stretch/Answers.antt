@@ -1,6 +1,5 @@
 -- Bytes come, up to the first one that brings something.
-use Rattle.std.proofs.Common.{◌∙◌, ◌+◌, ◌-◌, [], List, ℕ, length, take, get_or, sym, subst, arith}
-use Rattle.one_end.specs.Reading.{causes_brought}
+use Rattle.one_end.proofs.Words.{List, [], arith, causes_brought, get_or, length, subst, sym, take, ℕ, ◌+◌, ◌-◌, ◌∙◌}
 use Rattle.one_end.proofs.Bringing.{nothing_brought}
 use Rattle.one_end.proofs.Running.{HasReadOn, nothing_read, one_read, passed_further, heard_further}
 use Rattle.one_end.proofs.reading.Reader.hear_stretch.Goals as goal

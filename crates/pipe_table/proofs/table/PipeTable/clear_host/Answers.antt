@@ -1,8 +1,6 @@
-use Rattle.std.proofs.Common.{List, not, rules, subst, sym, ◌∙◌, ap}
+use Rattle.pipe_table.proofs.Words.{ArePipeRows, AreRows-filter, List, PipeRow, ap, not, pid_of, rules, subst, sym, ◌∙◌}
 use Rattle.arrayvec.proofs.ArrayVecLemmas.{filter-from_retain}
-use Rattle.pipe_table.specs.declared.row.PipeRow.{PipeRow}
-use Rattle.pipe_table.specs.PipeRows.{rows_without_host, ArePipeRows, pid_of, joins_host}
-use Rattle.sorted_rows.proofs.RowLemmas.{AreRows-filter}
+use Rattle.pipe_table.specs.PipeRows.{joins_host, rows_without_host}
 use Rattle.pipe_table.proofs.table.PipeTable.clear_host.Goals as goal
 
 pub invariant_of-self : goal.invariant_of-self

@@ -1,8 +1,4 @@
-use Rattle.std.proofs.Common.{◌≡◌, List, length, subst, sym, ap, ◌∙◌}
-use Rattle.std.proofs.lemmas.List.{length-map}
-use Rattle.arrayvec.proofs.ArrayVecLemmas.{items-with_items}
-use Rattle.pipe_table.specs.declared.row.PipeRow.{PipeRow}
-use Rattle.pipe_table.specs.PipeRows.{ArePipeRows, all_closed}
+use Rattle.pipe_table.proofs.Words.{ArePipeRows, List, PipeRow, all_closed, ap, items-with_items, length, length-map, subst, sym, ◌∙◌, ◌≡◌}
 use Rattle.pipe_table.proofs.TableLemmas.{ArePipeRows-all_closed}
 use Rattle.pipe_table.proofs.table.PipeTable.close.Goals as goal
 

@@ -1,8 +1,7 @@
-use Rattle.std.proofs.Common.{◌∙◌, subst, ap, List}
-use Rattle.std.specs.Prelude.{Option, IsSome}
+use Rattle.std.specs.Prelude.{IsSome}
+use Rattle.pipe_table.proofs.Words.{List, Option, PipeRow, ap, pid_of, subst, ◌∙◌}
 use Rattle.sorted_rows.proofs.RowLemmas.{row_of-within}
-use Rattle.pipe_table.specs.declared.row.PipeRow.{PipeRow}
-use Rattle.pipe_table.specs.PipeRows.{pid_of, pipe_at}
+use Rattle.pipe_table.specs.PipeRows.{pipe_at}
 use Rattle.pipe_table.proofs.table.PipeTable.find.Goals as goal
 
 pub returns-clause-dynamic : goal.returns-clause-dynamic

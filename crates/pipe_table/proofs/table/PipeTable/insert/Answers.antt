@@ -1,6 +1,5 @@
-use Rattle.std.proofs.Common.{List, subst, sym, ap, ◌∙◌}
-use Rattle.pipe_table.specs.declared.row.PipeRow.{PipeRow}
-use Rattle.pipe_table.specs.PipeRows.{ArePipeRows, pid_of, with_pipe}
+use Rattle.pipe_table.proofs.Words.{ArePipeRows, List, PipeRow, ap, pid_of, subst, sym, ◌∙◌}
+use Rattle.pipe_table.specs.PipeRows.{with_pipe}
 use Rattle.sorted_rows.proofs.RowLemmas.{AreRows-with_row}
 use Rattle.pipe_table.proofs.table.PipeTable.insert.Goals as goal
 

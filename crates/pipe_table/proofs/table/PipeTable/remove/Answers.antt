@@ -1,7 +1,4 @@
-use Rattle.std.proofs.Common.{List, subst, sym, not, eqb}
-use Rattle.pipe_table.specs.declared.row.PipeRow.{PipeRow}
-use Rattle.pipe_table.specs.PipeRows.{ArePipeRows, pid_of}
-use Rattle.sorted_rows.proofs.RowLemmas.{AreRows-filter}
+use Rattle.pipe_table.proofs.Words.{ArePipeRows, AreRows-filter, List, PipeRow, eqb, not, pid_of, subst, sym}
 use Rattle.pipe_table.proofs.table.PipeTable.remove.Goals as goal
 
 pub invariant_of-self : goal.invariant_of-self

@@ -1,7 +1,4 @@
-use Rattle.std.proofs.Common.{◌++◌, ◌/◌, arith, sym, subst}
-use Rattle.std.specs.Fmt.{decimal}
-use Rattle.std.proofs.lemmas.Fmt.{decimal_digit}
-use Rattle.schedule_text.specs.Growth.{HoldsText}
+use Rattle.schedule_text.proofs.Names.{HoldsText, arith, decimal, decimal_digit, subst, sym, ◌++◌, ◌/◌}
 use Rattle.schedule_text.proofs.GrowthLemmas.{two_decimals, holds_decimals}
 use Rattle.schedule_text.proofs.text.Text.+digits.Goals as goal
 

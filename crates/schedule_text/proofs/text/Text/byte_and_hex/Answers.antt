@@ -1,8 +1,4 @@
-use Rattle.std.proofs.Common.{◌∷◌, ◌++◌, ◌∙◌, arith, ap₂, subst, append_assoc}
-use Rattle.hex.specs.Hex.{encode_upper}
-use Rattle.schedule_text.specs.Words.{spaced}
-use Rattle.schedule_text.specs.Entries.{byte_text}
-use Rattle.schedule_text.specs.Growth.{HoldsText}
+use Rattle.schedule_text.proofs.Names.{HoldsText, append_assoc, ap₂, arith, byte_text, encode_upper, spaced, subst, ◌++◌, ◌∙◌, ◌∷◌}
 use Rattle.schedule_text.proofs.GrowthLemmas.{encode-none, digits_from, holds_two, two_are}
 use Rattle.schedule_text.proofs.text.Text.byte_and_hex.Goals as goal
 

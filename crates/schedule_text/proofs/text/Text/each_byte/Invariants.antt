@@ -1,6 +1,4 @@
-use Rattle.std.proofs.Common.{List, ℕ, ◌∷◌, ◌++◌, map, take}
-use Rattle.schedule_text.specs.Entries.{byte_text}
-use Rattle.schedule_text.specs.Growth.{Start, HoldsWords}
+use Rattle.schedule_text.proofs.Names.{HoldsWords, List, Start, byte_text, map, take, ℕ, ◌++◌, ◌∷◌}
 use Rattle.schedule_text.proofs.text.Text.each_byte.Given as goal
 
 abbrev pub invariant-loop-byte : goal.invariant-loop-byte

@@ -1,6 +1,4 @@
-use Rattle.std.proofs.Common.{List, ℕ, ◌∷◌, ◌++◌, map, take}
-use Rattle.hex.specs.Hex.{encode_upper}
-use Rattle.schedule_text.specs.Growth.{Start, HoldsWords}
+use Rattle.schedule_text.proofs.Names.{HoldsWords, List, Start, encode_upper, map, take, ℕ, ◌++◌, ◌∷◌}
 use Rattle.schedule_text.proofs.text.Text.each_three.Given as goal
 
 abbrev pub invariant-loop-three : goal.invariant-loop-three

@@ -1,7 +1,4 @@
-use Rattle.std.proofs.Common.{◌∷◌, ◌++◌, ◌∙◌, arith, subst}
-use Rattle.schedule_text.specs.Words.{spaced}
-use Rattle.schedule_text.specs.Entries.{end_text}
-use Rattle.schedule_text.specs.Growth.{HoldsText}
+use Rattle.schedule_text.proofs.Names.{HoldsText, arith, end_text, spaced, subst, ◌++◌, ◌∙◌, ◌∷◌}
 use Rattle.schedule_text.proofs.GrowthLemmas.{holds_spaced, three_are}
 use Rattle.schedule_text.proofs.text.Text.end.Goals as goal
 

@@ -1,9 +1,4 @@
-use Rattle.std.proofs.Common.{[], ◌∷◌, ◌++◌, ◌∙◌, arith, sym, ap₂, subst}
-use Rattle.std.specs.Fmt.{decimal}
-use Rattle.std.proofs.lemmas.Fmt.{decimal_digit}
-use Rattle.schedule_text.specs.Words.{spaced}
-use Rattle.schedule_text.specs.Entries.{end_text}
-use Rattle.schedule_text.specs.Growth.{HoldsText}
+use Rattle.schedule_text.proofs.Names.{HoldsText, [], ap₂, arith, decimal, decimal_digit, end_text, spaced, subst, sym, ◌++◌, ◌∙◌, ◌∷◌}
 use Rattle.schedule_text.proofs.GrowthLemmas.{holds_two, three_are}
 use Rattle.schedule_text.proofs.text.Text.end_and_number.Goals as goal
 

@@ -1,6 +1,4 @@
-use Rattle.std.proofs.Common.{◌≡◌, ◌++◌, ◌*◌, take, length, ◌∙◌, ap, subst}
-use Rattle.hex.specs.Hex.{encode_upper}
-use Rattle.schedule_text.specs.Growth.{HoldsText}
+use Rattle.schedule_text.proofs.Names.{HoldsText, ap, encode_upper, length, subst, take, ◌*◌, ◌++◌, ◌∙◌, ◌≡◌}
 use Rattle.schedule_text.proofs.GrowthLemmas.{front_digits}
 use Rattle.schedule_text.proofs.text.Text.few_pairs.Goals as goal
 

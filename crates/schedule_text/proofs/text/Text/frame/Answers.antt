@@ -1,5 +1,4 @@
-use Rattle.std.proofs.Common.{[], ◌∙◌, arith, subst}
-use Rattle.schedule_text.specs.Growth.{HoldsText}
+use Rattle.schedule_text.proofs.Names.{HoldsText, [], arith, subst, ◌∙◌}
 use Rattle.schedule_text.proofs.GrowthLemmas.{encode-none, digits_from, three_words, three_are, four_are}
 use Rattle.schedule_text.proofs.text.Text.frame.Goals as goal
 

@@ -1,6 +1,4 @@
-use Rattle.std.proofs.Common.{◌∷◌}
-use Rattle.hex.specs.Hex.{encode_upper}
-use Rattle.schedule_text.specs.Words.{spaced}
+use Rattle.schedule_text.proofs.Names.{encode_upper, spaced, ◌∷◌}
 use Rattle.schedule_text.proofs.GrowthLemmas.{holds_word}
 use Rattle.schedule_text.proofs.text.Text.hex.Goals as goal
 

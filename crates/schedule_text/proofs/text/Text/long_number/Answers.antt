@@ -1,7 +1,4 @@
-use Rattle.std.proofs.Common.{[], ◌∷◌, ◌++◌, arith, sym, subst}
-use Rattle.std.specs.Fmt.{decimal}
-use Rattle.schedule_text.specs.Words.{spaced}
-use Rattle.schedule_text.specs.Growth.{HoldsText}
+use Rattle.schedule_text.proofs.Names.{HoldsText, [], arith, decimal, spaced, subst, sym, ◌++◌, ◌∷◌}
 use Rattle.schedule_text.proofs.GrowthLemmas.{holds_word, holds_spaced, three_decimals, four_decimals}
 use Rattle.schedule_text.proofs.text.Text.long_number.Goals as goal
 

@@ -1,6 +1,4 @@
-use Rattle.std.proofs.Common.{◌++◌, [], refl, sym, ◌∙◌, ap, ap₂, subst, append-nil, append_assoc, take-append-drop}
-use Rattle.hex.specs.Hex.{encode_upper}
-use Rattle.schedule_text.specs.Growth.{HoldsText}
+use Rattle.schedule_text.proofs.Names.{HoldsText, [], ap, append-nil, append_assoc, ap₂, encode_upper, refl, subst, sym, take-append-drop, ◌++◌, ◌∙◌}
 use Rattle.schedule_text.proofs.GrowthLemmas.{encode-nil, holds_digits}
 use Rattle.schedule_text.proofs.text.Text.many_pairs.Goals as goal
 

@@ -1,6 +1,4 @@
-use Rattle.std.proofs.Common.{◌≡◌, List, ℕ, ◌++◌, length}
-use Rattle.hex.specs.Hex.{encode_upper}
-use Rattle.schedule_text.specs.Growth.{Start, HoldsText}
+use Rattle.schedule_text.proofs.Names.{HoldsText, List, Start, encode_upper, length, ℕ, ◌++◌, ◌≡◌}
 use Rattle.schedule_text.proofs.text.Text.many_pairs.Given as goal
 
 -- the digits of a front of the bytes were appended

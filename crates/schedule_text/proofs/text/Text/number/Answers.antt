@@ -1,8 +1,4 @@
-use Rattle.std.proofs.Common.{◌∷◌, ◌++◌, arith, sym, subst}
-use Rattle.std.specs.Fmt.{decimal}
-use Rattle.std.proofs.lemmas.Fmt.{decimal_digit}
-use Rattle.schedule_text.specs.Words.{spaced}
-use Rattle.schedule_text.specs.Growth.{HoldsText}
+use Rattle.schedule_text.proofs.Names.{HoldsText, arith, decimal, decimal_digit, spaced, subst, sym, ◌++◌, ◌∷◌}
 use Rattle.schedule_text.proofs.GrowthLemmas.{holds_spaced, two_decimals}
 use Rattle.schedule_text.proofs.text.Text.number.Goals as goal
 

@@ -1,6 +1,4 @@
-use Rattle.std.proofs.Common.{List, ℕ, ◌∷◌, ◌++◌, map, take}
-use Rattle.std.specs.Fmt.{decimal}
-use Rattle.schedule_text.specs.Growth.{Start, HoldsWords}
+use Rattle.schedule_text.proofs.Names.{HoldsWords, List, Start, decimal, map, take, ℕ, ◌++◌, ◌∷◌}
 use Rattle.schedule_text.proofs.text.Text.numbers.Given as goal
 
 abbrev pub invariant-loop-number : goal.invariant-loop-number

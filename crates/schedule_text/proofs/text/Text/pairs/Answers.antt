@@ -1,7 +1,4 @@
-use Rattle.std.proofs.Common.{◌++◌, [], ◌∷◌, take, get_or, sym, ◌∙◌, ap, subst, append-nil}
-use Rattle.std.proofs.lemmas.List.{take_more}
-use Rattle.hex.specs.Hex.{encode_upper}
-use Rattle.schedule_text.specs.Growth.{HoldsText}
+use Rattle.schedule_text.proofs.Names.{HoldsText, [], ap, append-nil, encode_upper, get_or, subst, sym, take, take_more, ◌++◌, ◌∙◌, ◌∷◌}
 use Rattle.schedule_text.proofs.GrowthLemmas.{encode-nil, holds_digits}
 use Rattle.schedule_text.proofs.text.Text.pairs.Goals as goal
 

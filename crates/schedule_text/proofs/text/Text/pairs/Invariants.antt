@@ -1,6 +1,4 @@
-use Rattle.std.proofs.Common.{List, ℕ, ◌++◌, take}
-use Rattle.hex.specs.Hex.{encode_upper}
-use Rattle.schedule_text.specs.Growth.{Start, HoldsText}
+use Rattle.schedule_text.proofs.Names.{HoldsText, List, Start, encode_upper, take, ℕ, ◌++◌}
 use Rattle.schedule_text.proofs.text.Text.pairs.Given as goal
 
 abbrev pub invariant-loop-byte : goal.invariant-loop-byte

@@ -1,5 +1,4 @@
-use Rattle.std.proofs.Common.{List, ℕ, ◌∷◌, ◌++◌, take}
-use Rattle.schedule_text.specs.Growth.{Start, HoldsWords}
+use Rattle.schedule_text.proofs.Names.{HoldsWords, List, Start, take, ℕ, ◌++◌, ◌∷◌}
 use Rattle.schedule_text.specs.Parts.{parts_words}
 use Rattle.schedule_text.proofs.text.Text.parts.Given as goal
 

@@ -1,6 +1,5 @@
 -- What waited stands in the vector, and the bytes behind it.
-use Rattle.std.proofs.Common.{◌≡◌, ℕ, List, [], ◌++◌, refl, sym, ap, ap₂, ◌∙◌, append-nil}
-use Rattle.schedule_text.specs.Growth.{all_text}
+use Rattle.schedule_text.proofs.Names.{List, [], all_text, ap, append-nil, ap₂, refl, sym, ℕ, ◌++◌, ◌∙◌, ◌≡◌}
 use Rattle.schedule_text.proofs.GrowthLemmas.{holds_more}
 use Rattle.schedule_text.proofs.text.Text.push_behind.Goals as goal
 

@@ -1,7 +1,5 @@
 -- There is no memory for the bytes.
-use Rattle.std.proofs.Common.{sym, subst}
-use Rattle.schedule_text.specs.declared.text.Text.{Text}
-use Rattle.schedule_text.specs.Growth.{HoldsText}
+use Rattle.schedule_text.proofs.Names.{HoldsText, Text, subst, sym}
 use Rattle.schedule_text.proofs.text.Text.push_few.Goals.{then-remaining_capacity-bytes, else-remaining_capacity-bytes}
 use Rattle.schedule_text.proofs.text.Text.push_few.Goals as goal
 

@@ -1,5 +1,4 @@
-use Rattle.std.proofs.Common.{[], ◌∷◌, ◌++◌}
-use Rattle.schedule_text.specs.Words.{spaced}
+use Rattle.schedule_text.proofs.Names.{[], spaced, ◌++◌, ◌∷◌}
 use Rattle.schedule_text.proofs.GrowthLemmas.{holds_word}
 use Rattle.schedule_text.proofs.text.Text.word.Goals as goal
 

@@ -1,8 +1,5 @@
 -- The bytes stand behind what there was, or it is as it was.
-use Rattle.std.proofs.Common.{[], ◌∙◌, refl, length, subst}
-use Rattle.std.proofs.lemmas.List.{take_at}
-use Rattle.std.proofs.lemmas.Result.{on_ok_weaker, on_err_weaker}
-use Rattle.schedule_text.specs.Growth.{start_in, HoldsText}
+use Rattle.schedule_text.proofs.Names.{HoldsText, [], length, on_err_weaker, on_ok_weaker, refl, start_in, subst, take_at, ◌∙◌}
 use Rattle.schedule_text.proofs.transcript.Transcript.append.Goals as goal
 
 whole : (c : goal.After-finish) → HoldsText (start_in c.args.self.now.items) c.args.bytes.now c.push.new.self

@@ -1,6 +1,4 @@
-use Rattle.std.proofs.Common.{subst, sym, []}
-use Rattle.shdlc_core.specs.Kept.{ShdlcStandsFor}
-use Rattle.shdlc_core.specs.Machine.{up_with}
+use Rattle.shdlc_core.proofs.Words.{ShdlcStandsFor, [], subst, sym, up_with}
 use Rattle.shdlc_core.proofs.shdlc.Shdlc.begin.Goals as goal
 
 pub returns : goal.returns

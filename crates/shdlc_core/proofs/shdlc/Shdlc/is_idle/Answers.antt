@@ -1,6 +1,4 @@
-use Rattle.std.proofs.Common.{◌≡◌, true, sym, ap, ◌∙◌}
-use Rattle.shdlc_core.specs.Kept.{KeptEnd, ShdlcStandsFor}
-use Rattle.shdlc_core.specs.Machine.{EndState}
+use Rattle.shdlc_core.proofs.Words.{EndState, KeptEnd, ShdlcStandsFor, ap, sym, true, ◌∙◌, ◌≡◌}
 use Rattle.shdlc_core.proofs.Idle.{IsIdle, idle_of, idle_ticked, idle_frames}
 use Rattle.shdlc_core.proofs.shdlc.Shdlc.is_idle.Goals as goal
 

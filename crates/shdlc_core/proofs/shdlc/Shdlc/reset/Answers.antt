@@ -1,5 +1,4 @@
-use Rattle.std.proofs.Common.{refl, subst, sym, ◌∙◌}
-use Rattle.shdlc_core.specs.Kept.{ShdlcStandsFor}
+use Rattle.shdlc_core.proofs.Words.{ShdlcStandsFor, refl, subst, sym, ◌∙◌}
 use Rattle.shdlc_core.proofs.Steps.{reset_with-other}
 use Rattle.shdlc_core.proofs.shdlc.Shdlc.reset.Goals as goal
 

@@ -1,7 +1,6 @@
-use Rattle.std.proofs.Common.{min, ap, subst, sym, [], ◌∷◌, ◌++◌, ◌∙◌}
+use Rattle.shdlc_core.proofs.Words.{ShdlcStandsFor, [], ap, min, subst, sym, up_with, ◌++◌, ◌∙◌, ◌∷◌}
 use Rattle.shdlc_core.specs.declared.answers.Due.TheVariants.{Ua}
-use Rattle.shdlc_core.specs.Kept.{ShdlcStandsFor}
-use Rattle.shdlc_core.specs.Machine.{due_left, up_with}
+use Rattle.shdlc_core.specs.Machine.{due_left}
 use Rattle.shdlc_core.proofs.shdlc.Shdlc.restart.Goals as goal
 
 pub returns-clause-stands : goal.returns-clause-stands

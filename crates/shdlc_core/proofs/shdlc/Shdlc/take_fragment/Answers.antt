@@ -1,7 +1,4 @@
-use Rattle.std.proofs.Common.{◌≡◌, ◌+◌, ◌-◌, Some, subst, sym, arith, ◌∙◌}
-use Rattle.shdlc_core.specs.declared.answers.LinkState.TheVariants.{Up}
-use Rattle.shdlc_core.specs.Kept.{ShdlcStandsFor}
-use Rattle.shdlc_core.specs.Machine.{place_of}
+use Rattle.shdlc_core.proofs.Words.{ShdlcStandsFor, Some, Up, arith, place_of, subst, sym, ◌+◌, ◌-◌, ◌∙◌, ◌≡◌}
 use Rattle.shdlc_core.proofs.Steps.{taken-fragment, take_answer-fragment, answer-acked}
 use Rattle.shdlc_core.proofs.shdlc.Shdlc.take_fragment.Goals as goal
 

@@ -1,6 +1,4 @@
-use Rattle.std.proofs.Common.{refl, subst, sym}
-use Rattle.shdlc_core.specs.Kept.{ShdlcStandsFor}
-use Rattle.shdlc_core.specs.Machine.{waiting_from}
+use Rattle.shdlc_core.proofs.Words.{ShdlcStandsFor, refl, subst, sym, waiting_from}
 use Rattle.shdlc_core.proofs.shdlc.Shdlc.wait.Goals as goal
 
 pub returns-clause-stands : goal.returns-clause-stands

@@ -1,12 +1,6 @@
-use Rattle.std.proofs.Common.{min, ◌≤◌, ◌≡◌, ◌<◌, ◌∙◌, ◌+◌, ◌++◌, ℕ, length, take, sym, ap, arith, rules}
-use Rattle.std.specs.Int.RustNames.{bit_or}
+use Rattle.swp_decode.proofs.Names.{S1, S2, ap, arith, bit_or, length, length-take-le, min, mod-eq_of_lt, or_lt, rules, signal, sym, take, word_bits, ℕ, ◌++◌}
+use Rattle.swp_decode.proofs.Names.{◌+◌, ◌<◌, ◌∙◌, ◌≡◌, ◌≤◌}
 use lib.Count.{count_leading_zeros}
-use Rattle.std.proofs.Math.Nat.{mod-eq_of_lt}
-use Rattle.std.proofs.lemmas.List.{length-take-le}
-use Rattle.std.proofs.lemmas.Nat.{or_lt}
-use Rattle.swp_frame.specs.Words.{word_bits}
-use Rattle.swp_decode.specs.declared.line.Wire.TheVariants.{S1, S2}
-use Rattle.swp_decode.specs.Readings.{signal}
 use Rattle.swp_decode.proofs.FurtherFrames.{quiet_between, quiet_further, quiet_none, AreBits-part, bits_of_word, stands_behind, frame_of_word, frames_between}
 use Rattle.swp_decode.proofs.FurtherFrames.{frames_through}
 use Rattle.swp_decode.proofs.Marks.{next_of, not_past, none_before, below_sooner, marks_left}

@@ -1,9 +1,5 @@
-use Rattle.std.proofs.Common.{ℕ, List, ◌≡◌, ◌-◌, ◌*◌, ◌%◌, ◌^◌, ◌≤◌, length, take}
-use Rattle.std.specs.Int.RustNames.{bit_or}
-use Rattle.swp_frame.specs.Words.{word_bits}
-use Rattle.swp_decode.specs.Readings.{ReadSymbol, readings_on}
-use Rattle.swp_decode.specs.Frames.{frames_with}
-use Rattle.swp_decode.specs.Kept.{ReadsSignal, DecoderStandsFor, NoMarkEnds}
+use Rattle.swp_decode.proofs.Names.{DecoderStandsFor, List, NoMarkEnds, ReadSymbol, ReadsSignal, bit_or, frames_with, length, readings_on, take, word_bits, ℕ}
+use Rattle.swp_decode.proofs.Names.{◌%◌, ◌*◌, ◌-◌, ◌^◌, ◌≡◌, ◌≤◌}
 use Rattle.swp_decode.proofs.decoder.Decoder.hear_bits.Given as goal
 
 -- The marks before a place were taken. Each wire was read at least through its last mark before that place.

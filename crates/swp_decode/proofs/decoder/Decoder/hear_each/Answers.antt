@@ -1,7 +1,4 @@
-use Rattle.std.proofs.Common.{◌∙◌, ◌++◌, ◌∷◌, ◌<◌, length, get_or, reverse, take, ap, subst, arith}
-use Rattle.swp_decode.specs.declared.line.Wire.TheVariants.{S1, S2}
-use Rattle.swp_decode.specs.Frames.{frame_given}
-use Rattle.swp_decode.specs.Kept.{DecoderStandsFor}
+use Rattle.swp_decode.proofs.Names.{DecoderStandsFor, S1, S2, ap, arith, frame_given, get_or, length, reverse, subst, take, ◌++◌, ◌<◌, ◌∙◌, ◌∷◌}
 use Rattle.swp_decode.proofs.FurtherFrames.{reverse-more, frames_behind-more}
 use Rattle.swp_decode.proofs.decoder.Decoder.hear_each.Goals as goal
 

@@ -1,6 +1,4 @@
-use Rattle.std.proofs.Common.{ℕ, List, ◌++◌, ◌≡◌, ◌+◌, ◌*◌, ◌≤◌, length, reverse, take}
-use Rattle.swp_decode.specs.Frames.{frames_with}
-use Rattle.swp_decode.specs.Kept.{DecoderStandsFor}
+use Rattle.swp_decode.proofs.Names.{DecoderStandsFor, List, frames_with, length, reverse, take, ℕ, ◌*◌, ◌++◌, ◌+◌, ◌≡◌, ◌≤◌}
 use Rattle.swp_decode.proofs.decoder.Decoder.hear_each.Given as goal
 
 abbrev pub invariant-loop-byte : goal.invariant-loop-byte

@@ -1,9 +1,5 @@
-use Rattle.std.proofs.Common.{◌≡◌, ◌∙◌, Some, None, length, ap, subst, sym, arith}
-use Rattle.swp_line.specs.declared.period.Period.TheVariants.{Deactivated}
-use Rattle.swp_line.specs.Periods.{period_at}
-use Rattle.swp_decode.specs.declared.line.Wire.TheVariants.{S1, S2}
-use Rattle.swp_decode.specs.Readings.{symbol_on, signal, with_reading}
-use Rattle.swp_decode.specs.Kept.{ReadsSignal}
+use Rattle.swp_decode.proofs.Names.{Deactivated, None, ReadsSignal, S1, S2, Some, ap, arith, length, period_at, signal, subst, sym, symbol_on, with_reading}
+use Rattle.swp_decode.proofs.Names.{◌∙◌, ◌≡◌}
 use Rattle.swp_decode.proofs.decoder.Decoder.step.Goals as goal
 
 pub returns-in-Some-Deactivated-clause-stands : goal.returns-in-Some-Deactivated-clause-stands

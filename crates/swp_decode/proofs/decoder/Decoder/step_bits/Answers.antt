@@ -1,18 +1,7 @@
-use Rattle.std.proofs.Common.{min, ◌≤◌, ◌≡◌, ◌<◌, ◌∙◌, ◌+◌, ◌-◌, ◌++◌, ℕ, List, false, length, take, get_or, Some, sym, ap, ap₂, arith, append-nil, rules}
-use Rattle.std.specs.Int.RustNames.{bit_or}
+use Rattle.swp_decode.proofs.Names.{List, ReadSymbol, S1, S2, Some, Wire, Word, ap, append-nil, ap₂, arith, bit, bit_or, false, get_or, length, length-take-le}
+use Rattle.swp_decode.proofs.Names.{line_with, lines_with, low_bits-at, min, mod-eq_of_lt, or_lt, readings_on, rules, signal, sym, symbol_of, take, word_bits}
+use Rattle.swp_decode.proofs.Names.{ℕ, ◌++◌, ◌+◌, ◌-◌, ◌<◌, ◌∙◌, ◌≡◌, ◌≤◌}
 use lib.Count.{count_leading_zeros}
-use Rattle.std.proofs.Math.Nat.{mod-eq_of_lt}
-use Rattle.std.proofs.lemmas.List.{length-take-le}
-use Rattle.std.proofs.lemmas.Nat.{or_lt}
-use Rattle.swp_base.specs.Bits.{bit}
-use Rattle.swp_frame.specs.Signal.{symbol_of}
-use Rattle.swp_frame.specs.Words.{word_bits}
-use Rattle.swp_frame.specs.declared.word.Word.{Word}
-use Rattle.swp_frame.proofs.Places.{low_bits-at}
-use Rattle.swp_decode.specs.declared.line.Wire.{Wire}
-use Rattle.swp_decode.specs.declared.line.Wire.TheVariants.{S1, S2}
-use Rattle.swp_decode.specs.Readings.{ReadSymbol, signal, readings_on}
-use Rattle.swp_decode.specs.Decoded.{line_with, lines_with}
 use Rattle.swp_decode.proofs.FurtherFrames.{quiet_between, quiet_further, quiet_none, AreBits-part, AreQuietBetween, bits_of_word, lines_between, lines_through}
 use Rattle.swp_decode.proofs.FurtherFrames.{stands_behind}
 use Rattle.swp_decode.proofs.Marks.{next_of, not_past, none_before, below_sooner, marks_left}

@@ -1,7 +1,4 @@
-use Rattle.std.proofs.Common.{◌∙◌, ◌++◌, ◌∷◌, ◌<◌, length, get_or, reverse, take, ap, subst, arith}
-use Rattle.swp_decode.specs.declared.line.Wire.TheVariants.{S1, S2}
-use Rattle.swp_decode.specs.Decoded.{line_at}
-use Rattle.swp_decode.specs.Kept.{DecoderStandsFor}
+use Rattle.swp_decode.proofs.Names.{DecoderStandsFor, S1, S2, ap, arith, get_or, length, line_at, reverse, subst, take, ◌++◌, ◌<◌, ◌∙◌, ◌∷◌}
 use Rattle.swp_decode.proofs.FurtherFrames.{reverse-more, lines_behind-more}
 use Rattle.swp_decode.proofs.decoder.Decoder.step_each.Goals as goal
 

@@ -1,5 +1,4 @@
-use Rattle.std.proofs.Common.{◌+◌, ◌∙◌, ◌++◌, sym, ap, subst, append-nil}
-use Rattle.swp_decode.specs.Kept.{ReadsSignal}
+use Rattle.swp_decode.proofs.Names.{ReadsSignal, ap, append-nil, subst, sym, ◌++◌, ◌+◌, ◌∙◌}
 use Rattle.swp_decode.proofs.FurtherFrames.{quiet_more, quiet_none, quiet_line_at, readings_more}
 use Rattle.swp_decode.proofs.signal.SignalReader.decode_mark_at.Goals as goal
 

@@ -1,9 +1,4 @@
-use Rattle.std.proofs.Common.{◌+◌, ◌-◌, ◌∙◌, ◌++◌, Some, sym, ap, subst, take, append-nil}
-use Rattle.swp_base.specs.Bits.{bit}
-use Rattle.swp_frame.specs.Signal.{symbol_of}
-use Rattle.swp_frame.specs.Words.{word_bits}
-use Rattle.swp_decode.specs.Kept.{ReadsSignal}
-use Rattle.swp_decode.specs.Readings.{readings_on}
+use Rattle.swp_decode.proofs.Names.{ReadsSignal, Some, ap, append-nil, bit, readings_on, subst, sym, symbol_of, take, word_bits, ◌++◌, ◌+◌, ◌-◌, ◌∙◌}
 use Rattle.swp_decode.proofs.FurtherFrames.{quiet_more, quiet_none, quiet_line_at, readings_more, silent_frame}
 use Rattle.swp_decode.proofs.signal.SignalReader.hear_mark_at.Goals as goal
 

@@ -1,8 +1,5 @@
-use Rattle.std.proofs.Common.{◌+◌, sym, ap, subst, ◌∙◌, take}
-use Rattle.swp_frame.specs.Signal.{HasNoMark}
-use Rattle.swp_frame.specs.Words.{word_bits, IsPartBehind}
-use Rattle.swp_decode.specs.Readings.{symbols, readings_on}
-use Rattle.swp_decode.specs.Kept.{ReadsSignal}
+use Rattle.swp_decode.proofs.Names.{HasNoMark, ReadsSignal, ap, readings_on, subst, sym, symbols, take, word_bits, ◌+◌, ◌∙◌}
+use Rattle.swp_frame.specs.Words.{IsPartBehind}
 use Rattle.swp_decode.proofs.FurtherFrames.{readings_further, run_behind_readings, quiet_between}
 use Rattle.swp_decode.proofs.signal.SignalReader.read_between.Goals as goal
 

@@ -1,8 +1,7 @@
-use Rattle.std.proofs.Common.{◌∙◌, Some, unwrap_or, ap, sym, subst}
+use Rattle.swp_decode.proofs.Names.{Some, ap, subst, sym, symbols, unwrap_or, ◌∙◌}
 use Rattle.swp_frame.specs.Kept.{DeframerStandsFor}
 use Rattle.swp_frame.specs.Words.{part_bits}
 use Rattle.swp_frame.proofs.Places.{ends_in}
-use Rattle.swp_decode.specs.Readings.{symbols}
 use Rattle.swp_decode.proofs.FurtherFrames.{symbols-readings_on, start_of-readings_on, front_at_end}
 use Rattle.swp_decode.proofs.signal.SignalReader.read_part.Goals as goal
 use Rattle.swp_decode.proofs.signal.SignalReader.read_part.Goals.{then-ones-part, else-ones-part}

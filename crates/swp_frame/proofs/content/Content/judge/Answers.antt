@@ -1,8 +1,6 @@
-use Rattle.std.proofs.Common.{◌≡◌, ◌∙◌, ◌++◌, ◌+◌, ◌-◌, ◌*◌, ◌/◌, ◌%◌, ◌^◌, ℕ, ap, sym, arith, w64, length, take, drop, length-append, take-append-drop}
-use Rattle.std.specs.Int.{to_be_bytes}
-use Rattle.swp_frame.specs.Content.{judged_bytes}
+use Rattle.swp_frame.proofs.Words.{ap, arith, drop, judged_bytes, length, length-append, run_bits, sym, take, take-append-drop, to_be_bytes, w64, ℕ, ◌%◌, ◌*◌}
+use Rattle.swp_frame.proofs.Words.{◌++◌, ◌+◌, ◌-◌, ◌/◌, ◌^◌, ◌∙◌, ◌≡◌}
 use Rattle.swp_frame.specs.Found.{fed_lying_in}
-use Rattle.swp_frame.specs.Kept.{run_bits}
 use Rattle.swp_frame.proofs.ContentLemmas.{length-end, judged_whole, content_bytes, take_within}
 use Rattle.swp_frame.proofs.content.Content.judge.Goals as goal
 

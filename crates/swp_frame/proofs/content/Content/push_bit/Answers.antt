@@ -1,9 +1,6 @@
-use Rattle.std.proofs.Common.{◌≡◌, ◌∙◌, ◌∷◌, [], Bool, true, false, not, eqb, length, reverse, refl, sym, ap, subst}
-use Rattle.std.proofs.lemmas.List.{reverse-append}
+use Rattle.swp_frame.proofs.Words.{Bool, CountsLastZero, KeepsContent, [], ap, bit_0, bit_1, eqb, false, length, not, refl, reverse, reverse-append}
+use Rattle.swp_frame.proofs.Words.{spelled_number, subst, sym, symbol_of, true, unstuffed, ◌∙◌, ◌∷◌, ◌≡◌}
 use mir.Val.{bool_byte}
-use Rattle.swp_crc.specs.Division.{spelled_number}
-use Rattle.swp_frame.specs.Signal.{bit_0, bit_1, symbol_of, unstuffed}
-use Rattle.swp_frame.specs.Kept.{KeepsContent, CountsLastZero}
 use Rattle.swp_frame.proofs.Places.{added, zero_content, zero_counts}
 use Rattle.swp_frame.proofs.content.Content.push_bit.Goals as goal
 use Rattle.swp_frame.proofs.content.Content.push_bit.Goals.{then-bit, else-bit, then-bit-2, else-bit-2}

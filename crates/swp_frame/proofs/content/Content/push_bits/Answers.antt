@@ -1,6 +1,5 @@
-use Rattle.std.proofs.Common.{◌≡◌, ◌∙◌, ◌+◌, ◌-◌, ◌*◌, ◌/◌, ◌%◌, ◌^◌, ◌<◌, ◌≤◌, ◌++◌, ℕ, length, take, ap, ap₂, arith, w64, length-append}
-use Rattle.std.proofs.lemmas.Nat.{one_shl}
-use Rattle.std.specs.Int.{to_be_bytes}
+use Rattle.swp_frame.proofs.Words.{ap, ap₂, arith, length, length-append, one_shl, take, to_be_bytes, w64, ℕ, ◌%◌, ◌*◌, ◌++◌, ◌+◌, ◌-◌, ◌/◌, ◌<◌, ◌^◌, ◌∙◌, ◌≡◌}
+use Rattle.swp_frame.proofs.Words.{◌≤◌}
 use Rattle.swp_frame.specs.Kept.{whole_words}
 use Rattle.swp_frame.proofs.Places.{joined_fits, fits_word, no_wrap, to_top, upper_fits}
 use Rattle.swp_frame.proofs.ContentLemmas.{more_within, more_than_word}

@@ -1,8 +1,4 @@
-use Rattle.std.proofs.Common.{◌∙◌, reverse, subst}
-use Rattle.swp_frame.specs.Signal.{unstuffed}
-use Rattle.swp_frame.specs.Kept.{KeepsContent}
-use Rattle.swp_frame.specs.Words.{low_bits}
-use Rattle.std.proofs.Math.Nat.{mod-eq_of_lt}
+use Rattle.swp_frame.proofs.Words.{KeepsContent, low_bits, mod-eq_of_lt, reverse, subst, unstuffed, ◌∙◌}
 use Rattle.swp_frame.proofs.Places.{length-low_bits, number_of-low_bits}
 use Rattle.swp_frame.proofs.content.Content.push_part.Goals as goal
 

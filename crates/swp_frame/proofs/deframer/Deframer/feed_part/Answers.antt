@@ -1,7 +1,5 @@
-use Rattle.std.proofs.Common.{◌≡◌, ◌∙◌, List, Bool, ℕ, min, sym, ap, subst, arith}
-use Rattle.std.specs.Prelude.{option_map}
-use Rattle.swp_frame.specs.Signal.{Symbol, run_of, since_start, read_on}
-use Rattle.swp_frame.specs.Words.{run_after, part_bits, IsPartBehind}
+use Rattle.swp_frame.proofs.Words.{Bool, List, Symbol, ap, arith, min, option_map, part_bits, read_on, run_after, run_of, since_start, subst, sym, ℕ, ◌∙◌, ◌≡◌}
+use Rattle.swp_frame.specs.Words.{IsPartBehind}
 use Rattle.swp_frame.proofs.Places.{since_run, opened, closed, still_open, same_run}
 use Rattle.swp_frame.proofs.FurtherBits.{quiet_since, run_of-read_on}
 use Rattle.swp_frame.proofs.deframer.Deframer.feed_part.Goals as goal

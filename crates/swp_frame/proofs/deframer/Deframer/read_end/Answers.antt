@@ -1,8 +1,5 @@
-use Rattle.std.proofs.Common.{◌≡◌, ◌∙◌, ◌++◌, suc, sym, ap, arith, drop, reverse, subst}
-use Rattle.std.proofs.lemmas.Bool.{eq-eqb}
-use Rattle.swp_frame.specs.Signal.{run_of, since_start, unstuffed}
-use Rattle.swp_frame.specs.Content.{judged}
-use Rattle.swp_frame.specs.Kept.{before_run, run_bits, KeepsContent}
+use Rattle.swp_frame.proofs.Words.{KeepsContent, ap, arith, before_run, drop, eq-eqb, judged, reverse, run_bits, run_of, since_start, subst, suc, sym}
+use Rattle.swp_frame.proofs.Words.{unstuffed, ◌++◌, ◌∙◌, ◌≡◌}
 use Rattle.swp_frame.proofs.Places.{since_run, drop_run, since_bits, opened}
 use Rattle.swp_frame.proofs.deframer.Deframer.read_end.Goals as goal
 

@@ -1,6 +1,4 @@
-use Rattle.std.proofs.Common.{◌≡◌, ◌≢◌, ◌∙◌, ◌∷◌, [], suc, ap, arith}
-use Rattle.std.specs.Prelude.{option_map}
-use Rattle.swp_frame.specs.Signal.{symbol_of, run_of, since_start, read_on}
+use Rattle.swp_frame.proofs.Words.{[], ap, arith, option_map, read_on, run_of, since_start, suc, symbol_of, ◌∙◌, ◌∷◌, ◌≡◌, ◌≢◌}
 use Rattle.swp_frame.proofs.Places.{since_run, opened, still_open}
 use Rattle.swp_frame.proofs.FurtherBits.{no_mark_after, quiet_since}
 use Rattle.swp_frame.proofs.deframer.Deframer.read_plain.Goals as goal

@@ -1,7 +1,4 @@
-use Rattle.std.proofs.Common.{◌≡◌, ◌∙◌, min, ap, arith}
-use Rattle.swp_crc.specs.Division.{spelled_number}
-use Rattle.swp_frame.specs.Signal.{run_of}
-use Rattle.swp_frame.specs.Words.{word_bits}
+use Rattle.swp_frame.proofs.Words.{ap, arith, min, run_of, spelled_number, word_bits, ◌∙◌, ◌≡◌}
 use Rattle.swp_frame.proofs.Places.{same_put_in, same_marks}
 use Rattle.swp_frame.proofs.deframer.Deframer.word.Goals as goal
 

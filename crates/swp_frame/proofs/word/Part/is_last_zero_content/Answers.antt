@@ -1,7 +1,4 @@
-use Rattle.std.proofs.Common.{subst}
-use Rattle.swp_frame.specs.Signal.{run_of, read_on}
-use Rattle.swp_frame.specs.Kept.{CountsLastZero}
-use Rattle.swp_frame.specs.Words.{part_bits}
+use Rattle.swp_frame.proofs.Words.{CountsLastZero, part_bits, read_on, run_of, subst}
 use Rattle.swp_frame.proofs.Places.{ends_in, zero_at_end, kept_zero}
 use Rattle.swp_frame.proofs.word.Part.is_last_zero_content.Goals as goal
 

@@ -1,9 +1,5 @@
-use Rattle.std.proofs.Common.{◌≡◌, ◌∙◌, ℕ, suc, ◌+◌, ◌-◌, ◌*◌, ◌/◌, ◌%◌, ◌^◌, ◌<◌, ◌≤◌, ◌++◌, reverse, refl, sym, ap, ap₂, arith, w64}
-use Rattle.std.specs.Int.{trailing_zeros}
-use Rattle.std.proofs.Math.Pow.{pow_mono}
-use Rattle.std.proofs.lemmas.Nat.{one_shl}
-use Rattle.swp_frame.specs.Signal.{run_of, unstuffed}
-use Rattle.swp_frame.specs.Words.{low_bits, part_bits, places_put_in}
+use Rattle.swp_frame.proofs.Words.{ap, ap₂, arith, low_bits, one_shl, part_bits, places_put_in, pow_mono, refl, reverse, run_of, suc, sym, trailing_zeros}
+use Rattle.swp_frame.proofs.Words.{unstuffed, w64, ℕ, ◌%◌, ◌*◌, ◌++◌, ◌+◌, ◌-◌, ◌/◌, ◌<◌, ◌^◌, ◌∙◌, ◌≡◌, ◌≤◌}
 use Rattle.swp_frame.proofs.Places.{length-low_bits, low_bits-number_of, squeezed, upper_is, removed, without, without_none, without-put_in, length-put_in}
 use Rattle.swp_frame.proofs.Places.{kept_content, kept_of}
 use Rattle.swp_frame.proofs.word.Part.without_put_in.Goals as goal

@@ -1,5 +1,4 @@
-use Rattle.std.proofs.Common.{◌≡◌, ◌^◌, ◌<◌, ◌≤◌}
-use Rattle.swp_frame.specs.Words.{low_bits}
+use Rattle.swp_frame.proofs.Words.{low_bits, ◌<◌, ◌^◌, ◌≡◌, ◌≤◌}
 use Rattle.swp_frame.proofs.Places.{without}
 use Rattle.swp_frame.proofs.word.Part.without_put_in.Given as goal
 

@@ -1,13 +1,11 @@
-use Rattle.std.proofs.Common.{◌≡◌, ℕ, suc, zero, ◌+◌, ◌-◌, ◌*◌, ◌/◌, ◌%◌, ◌^◌, ◌<◌, ◌≤◌, min, Bool, true, false, not, ◌&&◌, cond, eqb, ltb, List, [], ◌∷◌, ◌++◌}
-use Rattle.std.proofs.Common.{length, map, take, drop, bit_and, refl, sym, ap, ap₂, ◌∙◌, subst, arith, eqb-true, length-append}
-use Rattle.std.proofs.Math.Nat.{mod-eq_of_lt}
+use Rattle.std.proofs.Common.{eqb-true, ltb}
 use Rattle.std.proofs.lemmas.Bool.{agree_below, agree_below_at, and_parts}
-use Rattle.std.proofs.lemmas.List.{length-map, length-take-le}
-use Rattle.std.proofs.lemmas.Nat.{and_block, mod_below, pow_pos}
+use Rattle.std.proofs.lemmas.Nat.{and_block}
+use Rattle.swp_frame.proofs.Words.{Bool, List, [], ap, ap₂, arith, bit_and, cond, drop, eqb, false, length, length-append, length-map, length-take-le, low_bits}
+use Rattle.swp_frame.proofs.Words.{map, min, mod-eq_of_lt, mod_below, not, places_of_marks, places_put_in, pow_pos, refl, spelled_number, subst, suc, sym, take}
+use Rattle.swp_frame.proofs.Words.{true, zero, ℕ, ◌%◌, ◌&&◌, ◌*◌, ◌++◌, ◌+◌, ◌-◌, ◌/◌, ◌<◌, ◌^◌, ◌∙◌, ◌∷◌, ◌≡◌, ◌≤◌}
 use mir.Val.{bool_byte}
-use Rattle.swp_crc.specs.Division.{spelled_number}
 use Rattle.swp_crc.proofs.Numbers.{number_of-lt, number_of-append, number_of-not}
-use Rattle.swp_frame.specs.Words.{low_bits, places_of_marks, places_put_in}
 use Rattle.swp_frame.proofs.Places.{length-low_bits, number_of-low_bits, low_bits-number_of, low_bits-between}
 use Rattle.swp_frame.proofs.word.Word.new.Goals as goal
 

@@ -1,6 +1,4 @@
-use Rattle.std.proofs.Common.{◌∙◌, ◌+◌, ◌-◌, ◌≤◌, ℕ, take, ap, sym, arith}
-use Rattle.swp_crc.specs.Division.{spelled_number}
-use Rattle.swp_frame.specs.Words.{low_bits, word_bits, places_put_in, run_after}
+use Rattle.swp_frame.proofs.Words.{ap, arith, low_bits, places_put_in, run_after, spelled_number, sym, take, word_bits, ℕ, ◌+◌, ◌-◌, ◌∙◌, ◌≤◌}
 use Rattle.swp_frame.proofs.Places.{low_bits-between, put_in_between}
 use Rattle.swp_frame.proofs.word.Word.part.Goals as goal
 

@@ -1,7 +1,4 @@
-use Rattle.std.proofs.Common.{◌≡◌, ◌++◌, ◌∷◌, [], ◌∙◌, List, take, take_all, ◌+◌, sym, ap, subst, append-nil, append_assoc}
-use Rattle.std.proofs.lemmas.List.{take_more}
-use Rattle.trace_model.specs.declared.entry.Entry.{Entry as Told}
-use Rattle.swp_tool.specs.Generated.{AreCountsOf}
+use Rattle.swp_tool.proofs.Words.{AreCountsOf, List, Told, [], ap, append-nil, append_assoc, subst, sym, take, take_all, take_more, ◌++◌, ◌+◌, ◌∙◌, ◌∷◌, ◌≡◌}
 use Rattle.swp_tool.proofs.counts.Counts.count_all.Goals as goal
 
 pub loop-entry-init : goal.loop-entry-init

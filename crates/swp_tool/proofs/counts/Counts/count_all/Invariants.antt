@@ -1,6 +1,4 @@
-use Rattle.std.proofs.Common.{◌++◌, List, take}
-use Rattle.trace_model.specs.declared.entry.Entry.{Entry as Told}
-use Rattle.swp_tool.specs.Generated.{AreCountsOf}
+use Rattle.swp_tool.proofs.Words.{AreCountsOf, List, Told, take, ◌++◌}
 use Rattle.swp_tool.proofs.counts.Counts.count_all.Given as goal
 
 -- the entries so far stand behind those before

@@ -1,15 +1,5 @@
-use Rattle.std.proofs.Common.{◌≡◌, ◌++◌, ◌∷◌, [], ◌∙◌, List, map, sym, ap, subst}
-use Rattle.trace_model.specs.declared.entry.Entry.{Entry as Told}
-use Rattle.trace_model.specs.declared.line.Header.{Header}
-use Rattle.trace_model.specs.declared.line.Line.{Line}
-use Rattle.drawn_schedule.specs.Schedule.{the_header}
-use Rattle.told_laws.specs.told.NodesTold.{nodes_told}
-use Rattle.lines_told.specs.lines.Below.{told_below}
-use Rattle.lines_told.specs.lines.Plays.{Play, lines_played}
-use Rattle.lines_told.specs.lines.Plays.Play.{Said}
-use Rattle.world.specs.Worlds.{IsWorldAt, world_header}
-use Rattle.swp_tool.specs.Transcripts.{nodes_history}
-use Rattle.swp_tool.specs.Generated.{AreCountsOf}
+use Rattle.swp_tool.proofs.Words.{AreCountsOf, Header, IsWorldAt, Line, List, Play, Said, Told, [], ap, lines_played, map, nodes_history, nodes_told, subst}
+use Rattle.swp_tool.proofs.Words.{sym, the_header, told_below, world_header, ◌++◌, ◌∙◌, ◌∷◌, ◌≡◌}
 use Rattle.swp_tool.proofs.Playing.{under_own_header}
 use Rattle.swp_tool.proofs.Summing.{line_counted, lines_run, run-append, run_room}
 use Rattle.swp_tool.proofs.generating.Generating.play.Goals as goal

@@ -1,7 +1,4 @@
-use Rattle.std.proofs.Common.{◌≡◌, ◌+◌, ◌++◌, ◌∷◌, [], ◌∙◌, List, take, sym, ap, subst}
-use Rattle.std.proofs.lemmas.List.{take_more}
-use Rattle.trace_model.specs.declared.line.Line.{Line}
-use Rattle.swp_tool.specs.Generated.{HasCounted}
+use Rattle.swp_tool.proofs.Words.{HasCounted, Line, List, [], ap, subst, sym, take, take_more, ◌++◌, ◌+◌, ◌∙◌, ◌∷◌, ◌≡◌}
 use Rattle.swp_tool.proofs.Summing.{few_run, harmless_at, all_run}
 use Rattle.swp_tool.proofs.generating.Generating.play_all.Goals as goal
 

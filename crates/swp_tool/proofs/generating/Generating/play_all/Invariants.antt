@@ -1,5 +1,4 @@
-use Rattle.std.proofs.Common.{take}
-use Rattle.swp_tool.specs.Generated.{HasCounted}
+use Rattle.swp_tool.proofs.Words.{HasCounted, take}
 use Rattle.swp_tool.proofs.generating.Generating.play_all.Given as goal
 
 -- the lines so far were run

@@ -1,9 +1,8 @@
 -- Where a line halts the replay, it halts however the piece goes on.
-use Rattle.std.proofs.Common.{◌≡◌, ◌++◌, ◌∷◌, [], List, ℕ, length, length-append, subst, sym, ap, ◌∙◌, append_assoc, arith}
-use Rattle.swp_tool.specs.Pieces.{HasRead, Halts, ended_line}
+use Rattle.swp_tool.proofs.Words.{Halt, Halts, HasRead, List, [], ap, append_assoc, arith, ended_line, length, length-append, subst, sym, ℕ, ◌++◌, ◌∙◌, ◌∷◌}
+use Rattle.swp_tool.proofs.Words.{◌≡◌}
 use Rattle.swp_tool.proofs.Cutting.{whole_line}
 use Rattle.swp_tool.proofs.Reading.{halts_more}
-use Rattle.swp_tool.specs.declared.replay.Halt.{Halt}
 use Rattle.swp_tool.proofs.RoundLemmas.{err_is}
 use Rattle.swp_tool.proofs.pieces.Pieces.feed.Goals as goal
 

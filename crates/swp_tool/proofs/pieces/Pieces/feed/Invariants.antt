@@ -1,5 +1,4 @@
-use Rattle.std.proofs.Common.{◌≡◌, ◌+◌, ◌≤◌, ◌++◌, length, List, ℕ}
-use Rattle.swp_tool.specs.Pieces.{HasRead, IsReading, bytes_left}
+use Rattle.swp_tool.proofs.Words.{HasRead, IsReading, List, bytes_left, length, ℕ, ◌++◌, ◌+◌, ◌≡◌, ◌≤◌}
 use Rattle.swp_tool.proofs.pieces.Pieces.feed.Given as goal
 
 -- lines in front of the piece were read, and have left fewer bytes to come

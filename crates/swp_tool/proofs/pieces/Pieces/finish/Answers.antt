@@ -1,6 +1,5 @@
 -- All lines were played, and the last line was gathered, or there is no header, or no memory.
-use Rattle.std.proofs.Common.{List, ℕ}
-use Rattle.std.proofs.lemmas.Result.{IfErr-weaker, on_ok_weaker}
+use Rattle.swp_tool.proofs.Words.{IfErr-weaker, List, on_ok_weaker, ℕ}
 use Rattle.swp_tool.proofs.Reading.{closed, halts_closing}
 use Rattle.swp_tool.proofs.RoundLemmas.{err_both}
 use Rattle.swp_tool.proofs.pieces.Pieces.finish.Goals as goal

@@ -1,7 +1,5 @@
 -- The bytes are kept, or the replay halts however they go on.
-use Rattle.std.proofs.Common.{◌++◌, subst, List, ℕ, arith, sym, append_assoc, map}
-use Rattle.std.specs.Str.Lines.{strip_carriage_return}
-use Rattle.swp_tool.specs.Pieces.{IsFrontTranscript}
+use Rattle.swp_tool.proofs.Words.{IsFrontTranscript, List, append_assoc, arith, map, strip_carriage_return, subst, sym, ℕ, ◌++◌}
 use Rattle.swp_tool.proofs.Texts.{tests_some}
 use Rattle.swp_tool.proofs.Reading.{halts_too_many_in, halts_too_long, front_so_far, played_transcript}
 use Rattle.swp_tool.proofs.pieces.Pieces.keep.Goals as goal

@@ -1,10 +1,7 @@
 -- The line that no LF has ended was played, or the replay halts at it.
-use Rattle.std.proofs.Common.{◌≡◌, ◌<◌, List, ℕ, [], length, ◌∙◌, subst, sym}
-use Rattle.swp_tool.specs.Schedules.{Schedule, and_line}
-use Rattle.swp_tool.specs.Replays.{HasPlayed, HaltsAt}
+use Rattle.swp_tool.proofs.Words.{HaltsAt, HasPlayed, IfErr-weaker, List, Schedule, [], and_line, length, on_ok_weaker, subst, sym, ℕ, ◌<◌, ◌∙◌, ◌≡◌}
 use Rattle.swp_tool.proofs.Texts.{tests_empty, tests_some}
 use Rattle.swp_tool.proofs.Reading.{played_all, played_rest, halts_at_rest}
-use Rattle.std.proofs.lemmas.Result.{IfErr-weaker, on_ok_weaker}
 use Rattle.swp_tool.proofs.RoundLemmas.{err_both}
 use Rattle.swp_tool.proofs.pieces.Pieces.play_rest.Goals as goal
 

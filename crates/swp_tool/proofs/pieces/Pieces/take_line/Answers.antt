@@ -1,14 +1,7 @@
 -- A line too many begins, or the line is played where it stands, or the bytes are kept and the line has ended, or the replay halts however
 -- the bytes go on.
-use Rattle.std.proofs.Common.{◌≡◌, ◌++◌, ◌∷◌, [], ◌∙◌, List, ℕ, ap, length-append, subst, append_assoc, arith}
-use Rattle.std.specs.Str.Lines.{strip_carriage_return}
-use Rattle.std.proofs.lemmas.Grind.{common_steps}
-use Rattle.std.proofs.lemmas.Result.{IfErr-weaker, on_ok_weaker}
-use Rattle.swp_tool.specs.declared.pieces.Pieces.{Pieces}
-use Rattle.swp_tool.specs.declared.replay.Halt.{Halt}
-use Rattle.swp_tool.specs.Pieces.{HasRead, Halts, ended_line}
-use Rattle.swp_tool.specs.Schedules.{Schedule, and_line}
-use Rattle.swp_tool.specs.Replays.{HasPlayed, HaltsAt}
+use Rattle.swp_tool.proofs.Words.{Halt, Halts, HaltsAt, HasPlayed, HasRead, IfErr-weaker, List, Pieces, Schedule, [], and_line, ap, append_assoc, arith}
+use Rattle.swp_tool.proofs.Words.{common_steps, ended_line, length-append, on_ok_weaker, strip_carriage_return, subst, ℕ, ◌++◌, ◌∙◌, ◌∷◌, ◌≡◌}
 use Rattle.swp_tool.proofs.Reading.{halts_at_line, halts_at_whole_line, halts_more, halts_too_many_in, read_line_ended, read_whole_line}
 use Rattle.swp_tool.proofs.RoundLemmas.{err_both, err_is}
 use Rattle.swp_tool.proofs.pieces.Pieces.take_line.Goals as goal

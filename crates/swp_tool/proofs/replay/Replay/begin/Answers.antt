@@ -1,9 +1,5 @@
-use Rattle.std.proofs.Common.{◌≡◌, ◌+◌, ◌++◌, [], List, refl, sym, ap, ◌∙◌, append-nil, arith}
-use Rattle.trace_model.specs.declared.entry.Entry.{Entry}
+use Rattle.swp_tool.proofs.Words.{Entry, Header, List, [], ap, append-nil, arith, entry_line, entry_lines, opening_told, refl, sym, ◌++◌, ◌+◌, ◌∙◌, ◌≡◌}
 use Rattle.trace_model.specs.declared.entry.Entry.TheVariants as entry
-use Rattle.trace_model.specs.declared.line.Header.{Header}
-use Rattle.schedule_text.specs.Entries.{entry_line, entry_lines}
-use Rattle.lines_told.specs.lines.Below.{opening_told}
 use Rattle.swp_tool.proofs.Playing.{began, begun_few, never_stepped}
 use Rattle.swp_tool.proofs.replay.Replay.begin.Goals as goal
 

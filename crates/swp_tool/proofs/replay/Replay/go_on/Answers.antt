@@ -1,21 +1,10 @@
 -- The text of the line and of what it caused stands behind that of the lines before it.
-use Rattle.std.proofs.Common.{◌≡◌, List, ℕ, ◌+◌, ◌++◌, ◌∷◌, [], refl, ap, sym, ◌∙◌, append_assoc, subst, arith}
-use Rattle.std.specs.Prelude.{Ok, None}
+use Rattle.swp_tool.proofs.Words.{Halt, HaltsBefore, HaltsOn, HasFew, HasPlayed, Header, IsWorldAt, Line, List, MayFollow, None, Ok, Play, Replay, Runs, Said}
+use Rattle.swp_tool.proofs.Words.{Schedule, WasStepped, [], and_said, ap, append_assoc, arith, entry_line, entry_lines, halt_of, lines_played, misread_below}
+use Rattle.swp_tool.proofs.Words.{plays_of, refl, schedule_told, subst, sym, told_below, world_header, ℕ, ◌++◌, ◌+◌, ◌∙◌, ◌∷◌, ◌≡◌}
 use Rattle.trace_model.specs.declared.entry.Entry.TheVariants as entry
-use Rattle.trace_model.specs.declared.line.Header.{Header}
-use Rattle.trace_model.specs.declared.line.Line.{Line}
-use Rattle.trace_model.specs.Lines.{MayFollow}
 use Rattle.schedule_text.specs.declared.read.Read.TheVariants as read
-use Rattle.schedule_text.specs.Entries.{entry_line, entry_lines}
-use Rattle.lines_told.specs.lines.Below.{told_below, misread_below}
-use Rattle.lines_told.specs.lines.Plays.{Play, lines_played, plays_of, schedule_told}
-use Rattle.lines_told.specs.lines.Plays.Play.{Said}
 use Rattle.lines_told.proofs.lines.Told.{no_more_rounds, one_said}
-use Rattle.world.specs.Worlds.{IsWorldAt, world_header}
-use Rattle.swp_tool.specs.declared.replay.Halt.{Halt}
-use Rattle.swp_tool.specs.declared.replay.Replay.{Replay}
-use Rattle.swp_tool.specs.Schedules.{Schedule, and_said}
-use Rattle.swp_tool.specs.Replays.{Runs, WasStepped, HasPlayed, HasFew, HaltsBefore, halt_of, HaltsOn}
 use Rattle.swp_tool.proofs.Playing.{few_more, has_room, has_rounds_left, settles_few, settles_not, settles_well, under_own_header, halts_on, went_on}
 use Rattle.swp_tool.proofs.Playing.{halted_there}
 use Rattle.swp_tool.proofs.Happened.{said_plays, said_text-push}

@@ -1,14 +1,7 @@
 -- What was read is what the bytes say, and the memory that is left over says nothing of what was played.
-use Rattle.std.proofs.Common.{◌≡◌, sym, subst}
-use Rattle.std.specs.Prelude.{Some, Ok, IsSomeAnd}
-use Rattle.std.proofs.lemmas.Result.{on_ok_weaker, IfErr-weaker}
-use Rattle.trace_model.specs.declared.line.Header.{Header}
-use Rattle.trace_model.specs.Lines.{MayFollow}
+use Rattle.swp_tool.proofs.Words.{HaltsBefore, HasPlayed, Header, IfErr-weaker, IsSomeAnd, MayFollow, Ok, Some, and_line, line_of, on_ok_weaker, subst, sym}
+use Rattle.swp_tool.proofs.Words.{world_header, ◌≡◌}
 use Rattle.schedule_text.specs.declared.read.Read.TheVariants as read
-use Rattle.schedule_text.specs.Lines.{line_of}
-use Rattle.world.specs.Worlds.{world_header}
-use Rattle.swp_tool.specs.Schedules.{and_line}
-use Rattle.swp_tool.specs.Replays.{HasPlayed, HaltsBefore}
 use Rattle.swp_tool.proofs.Playing.{line_said}
 use Rattle.swp_tool.proofs.replay.Replay.play.Goals as goal
 

@@ -1,7 +1,5 @@
-use Rattle.std.proofs.Common.{◌≡◌, ◌∙◌, sym, ap, arith}
-use Rattle.std.specs.Prelude.{Some}
 use Rattle.std.specs.Option.{option_copied}
-use Rattle.world.specs.declared.world_steps.World.{World}
+use Rattle.swp_tool.proofs.Words.{Some, World, ap, arith, sym, ◌∙◌, ◌≡◌}
 use Rattle.swp_tool.proofs.Playing.{stepped_more, header_of_world, line_of_world}
 use Rattle.swp_tool.proofs.replay.Replay.play_any.Goals as goal
 use Rattle.swp_tool.proofs.replay.Replay.play_any.Goals.{in-Some, in-None}

@@ -1,11 +1,7 @@
 -- What was gathered at the end stands behind what was written.
-use Rattle.std.proofs.Common.{◌≡◌, ◌++◌, List, ℕ, IsTrue, [], sym, ap, ◌∙◌, subst, take, refl, arith}
-use Rattle.std.proofs.lemmas.List.{append-nil}
-use Rattle.swp_words.specs.declared.status.Status.{Status}
-use Rattle.swp_tool.specs.Transcripts.{IsDoneText}
-use Rattle.swp_tool.specs.Runs.{IsSomeTranscript, Replayed, status_of}
+use Rattle.swp_tool.proofs.Words.{IsDoneText, IsSomeTranscript, IsTrue, List, Replayed, Status, [], ap, append-nil, arith, behind, refl, status_of, subst, sym}
+use Rattle.swp_tool.proofs.Words.{take, ℕ, ◌++◌, ◌∙◌, ◌≡◌}
 use Rattle.swp_tool.proofs.Ending.{of_err, of_ok, cut_short, finished_front, halted_at_end}
-use Rattle.swp_words.proofs.Taken.{behind}
 use Rattle.swp_tool.proofs.replaying.PiecesJob.close.Goals as goal
 
 pub returns-then-is_err-clause-ends : goal.returns-then-is_err-clause-ends

@@ -1,10 +1,8 @@
 -- What was gathered of the first bytes of a piece stands behind what was written.
-use Rattle.std.proofs.Common.{◌≡◌, ◌++◌, List, ℕ, IsTrue, [], length, length-append, sym, ap, ◌∙◌, append_assoc, subst, take, inl, arith, rules}
-use Rattle.swp_words.specs.declared.status.Status.{Status}
-use Rattle.swp_tool.specs.Pieces.{HasRead, IsFrontTranscript}
-use Rattle.swp_tool.specs.Runs.{Replayed, status_of}
+use Rattle.std.proofs.Common.{rules}
+use Rattle.swp_tool.proofs.Words.{HasRead, IsFrontTranscript, IsTrue, List, Replayed, Status, [], ap, append_assoc, arith, behind, inl, length, length-append}
+use Rattle.swp_tool.proofs.Words.{status_of, subst, sym, take, ℕ, ◌++◌, ◌∙◌, ◌≡◌}
 use Rattle.swp_tool.proofs.Ending.{of_err, of_ok, cut_short, left_behind, fed_front, halted_replayed}
-use Rattle.swp_words.proofs.Taken.{behind}
 use Rattle.swp_tool.proofs.replaying.PiecesJob.take.Goals as goal
 
 pub parts-preserved : goal.parts-preserved

@@ -1,7 +1,5 @@
 -- The first bytes of the piece came, and what they caused was written.
-use Rattle.std.proofs.Common.{◌≤◌, ◌+◌, ◌++◌, length, List, ℕ}
-use Rattle.swp_tool.specs.Pieces.{IsReading, bytes_left}
-use Rattle.swp_tool.specs.Runs.{IsUnderWay}
+use Rattle.swp_tool.proofs.Words.{IsReading, IsUnderWay, List, bytes_left, length, ℕ, ◌++◌, ◌+◌, ◌≤◌}
 use Rattle.swp_tool.proofs.replaying.PiecesJob.take.Given as goal
 
 abbrev pub invariant-parts : goal.invariant-parts

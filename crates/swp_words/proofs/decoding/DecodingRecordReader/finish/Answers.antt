@@ -1,5 +1,4 @@
-use Rattle.std.proofs.Common.{length}
-use Rattle.swp_decode.specs.Decoded.{last_line, record_lines}
+use Rattle.swp_words.proofs.Words.{last_line, length, record_lines}
 use Rattle.swp_words.proofs.Recording.{on_err, map_err, map_ok, enough_text, front_further, whole_gathered, count_read}
 use Rattle.swp_words.proofs.decoding.DecodingRecordReader.finish.Goals as goal
 

@@ -1,6 +1,4 @@
-use Rattle.std.proofs.Common.{length}
-use Rattle.std.specs.Prelude.{reverse}
-use Rattle.swp_decode.specs.Decoded.{record_lines}
+use Rattle.swp_words.proofs.Words.{length, record_lines, reverse}
 use Rattle.swp_words.proofs.Recording.{step_decodes}
 use Rattle.swp_words.proofs.decoding.DecodingRecordReader.take_byte.Goals as goal
 

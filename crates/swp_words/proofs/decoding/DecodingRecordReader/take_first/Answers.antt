@@ -1,6 +1,4 @@
-use Rattle.std.proofs.Common.{◌++◌, length, append_assoc}
-use Rattle.std.specs.Prelude.{reverse, take}
-use Rattle.swp_decode.specs.Decoded.{record_lines}
+use Rattle.swp_words.proofs.Words.{append_assoc, length, record_lines, reverse, take, ◌++◌}
 use Rattle.swp_words.proofs.Recording.{on_err, more_decoded}
 use Rattle.swp_words.proofs.decoding.DecodingRecordReader.take_first.Goals as goal
 

@@ -1,5 +1,4 @@
-use Rattle.std.proofs.Common.{length}
-use Rattle.swp_decode.specs.Decoded.{record_lines}
+use Rattle.swp_words.proofs.Words.{length, record_lines}
 use Rattle.swp_words.proofs.Recording.{map_ok}
 use Rattle.swp_words.proofs.decoding.DecodingRecordReader.write_out.Goals as goal
 

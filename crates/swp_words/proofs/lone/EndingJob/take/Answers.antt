@@ -1,9 +1,7 @@
 -- A piece comes to a node alone.
-use Rattle.std.proofs.Common.{◌++◌, ◌∙◌, Bool, List, ℕ, length, sym, subst, append_assoc, length-append, arith}
-use Rattle.one_end.specs.declared.one_end.OneEnd.{OneEnd}
-use Rattle.swp_words.specs.declared.status.Status.{Status}
+use Rattle.swp_words.proofs.Words.{Began, Bool, EndedAlone, List, OneEnd, Status, append_assoc, arith, length, length-append, subst, sym, ℕ, ◌++◌, ◌∙◌}
 use Rattle.swp_words.specs.declared.status.Status.TheVariants as status
-use Rattle.swp_words.specs.Ends.{Began, EndedInBytes, EndedAlone}
+use Rattle.swp_words.specs.Ends.{EndedInBytes}
 use Rattle.swp_words.proofs.Recording.{piece_fits}
 use Rattle.swp_words.proofs.lone.EndingJob.take.Goals as goal
 

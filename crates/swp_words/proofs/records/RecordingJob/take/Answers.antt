@@ -1,6 +1,5 @@
-use Rattle.std.proofs.Common.{[], ◌++◌, take, append-nil, subst, ◌∙◌, length}
+use Rattle.swp_words.proofs.Words.{EndedIn, IsFrontOfSome, [], append-nil, length, subst, take, ◌++◌, ◌∙◌}
 use Rattle.swp_words.specs.declared.status.Status.TheVariants as status
-use Rattle.swp_words.specs.Records.{EndedIn, IsFrontOfSome}
 use Rattle.swp_words.proofs.Recording.{ended_in, piece_fits}
 use Rattle.swp_words.proofs.Taken.{whole_taken}
 use Rattle.swp_words.proofs.records.RecordingJob.take.Goals as goal

@@ -1,6 +1,4 @@
-use Rattle.std.proofs.Common.{length}
-use Rattle.swp_decode.specs.Decoded.{last_line}
-use Rattle.swp_words.specs.Taps.{tap_lines}
+use Rattle.swp_words.proofs.Words.{last_line, length, tap_lines}
 use Rattle.swp_words.proofs.Recording.{on_err, map_err, map_ok, enough_text, front_further, whole_gathered}
 use Rattle.swp_words.proofs.Hearing.{count_heard}
 use Rattle.swp_words.proofs.tapping.TapOnRecordReader.finish.Goals as goal

@@ -1,8 +1,4 @@
-use Rattle.std.proofs.Common.{◌++◌, ◌∷◌, [], ap, ◌∙◌, sym, subst, append_assoc}
-use Rattle.std.specs.Prelude.{reverse}
-use Rattle.swp_decode.specs.declared.line.Wire.TheVariants.{S1, S2}
-use Rattle.swp_decode.specs.Frames.{record_frames, frame_given}
-use Rattle.swp_decode.specs.Kept.{DecoderStandsFor}
+use Rattle.swp_words.proofs.Words.{DecoderStandsFor, S1, S2, [], ap, append_assoc, frame_given, record_frames, reverse, subst, sym, ◌++◌, ◌∙◌, ◌∷◌}
 use Rattle.swp_words.proofs.Recording.{map_err, map_ok, newest}
 use Rattle.swp_words.proofs.Hearing.{byte_frames, front_as, heard_as}
 use Rattle.swp_words.proofs.tapping.TapOnRecordReader.take_byte.Goals as goal

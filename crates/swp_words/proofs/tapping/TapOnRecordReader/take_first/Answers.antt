@@ -1,8 +1,4 @@
-use Rattle.std.proofs.Common.{◌++◌, take, drop, ap, ◌∙◌, sym, subst}
-use Rattle.std.specs.Prelude.{reverse}
-use Rattle.std.proofs.lemmas.List.{reverse-append}
-use Rattle.swp_decode.specs.Frames.{record_frames}
-use Rattle.swp_decode.specs.Kept.{DecoderStandsFor}
+use Rattle.swp_words.proofs.Words.{DecoderStandsFor, ap, drop, record_frames, reverse, reverse-append, subst, sym, take, ◌++◌, ◌∙◌}
 use Rattle.swp_decode.proofs.FurtherFrames.{record_frames-append}
 use Rattle.swp_words.proofs.Taken.{whole_after}
 use Rattle.swp_words.proofs.Hearing.{front_as, heard_as}

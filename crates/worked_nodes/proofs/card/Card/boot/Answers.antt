@@ -1,7 +1,4 @@
-use Rattle.std.proofs.Common.{sym, ap, ◌∙◌, ◌∷◌, []}
-use Rattle.swp_base.specs.declared.link_terms.Role.TheVariants.{Uicc}
-use Rattle.hci_store.specs.Stored.{Stored}
-use Rattle.node_core.proofs.Asking.{begins_at_rest}
+use Rattle.worked_nodes.proofs.Words.{Stored, Uicc, [], ap, begins_at_rest, sym, ◌∙◌, ◌∷◌}
 use Rattle.worked_nodes.proofs.Fetching.{runs_behind, new_sent}
 use Rattle.worked_nodes.proofs.card.Card.boot.Goals as goal
 

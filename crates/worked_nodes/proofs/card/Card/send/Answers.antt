@@ -1,6 +1,4 @@
-use Rattle.std.proofs.Common.{sym, ap, ◌∙◌}
-use Rattle.hci_store.specs.Stored.{Stored}
-use Rattle.node_core.proofs.Asking.{begins_at_rest}
+use Rattle.worked_nodes.proofs.Words.{Stored, ap, begins_at_rest, sym, ◌∙◌}
 use Rattle.worked_nodes.proofs.Fetching.{runs_behind, asked_then}
 use Rattle.worked_nodes.proofs.card.Card.send.Goals as goal
 

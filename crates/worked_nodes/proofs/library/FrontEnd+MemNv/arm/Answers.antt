@@ -1,8 +1,5 @@
-use Rattle.std.proofs.Common.{subst}
+use Rattle.worked_nodes.proofs.Words.{Core, Node, Port, RunsAs, subst}
 use Rattle.swp_base.specs.declared.nv_memory.MemNv.{MemNv}
-use Rattle.node_machine.specs.Parts.{Core, Port}
-use Rattle.node_core.specs.declared.node.Node.{Node}
-use Rattle.node_core.specs.Running.{RunsAs}
 use Rattle.worked_nodes.proofs.library.«FrontEnd+MemNv».arm.Goals as goal
 
 pub returns-clause-runs : goal.returns-clause-runs

@@ -1,15 +1,6 @@
-use Rattle.std.proofs.Common.{◌≡◌, List, sym, ap, ◌∙◌, subst, refl}
-use Rattle.std.specs.Prelude.{None}
-use Rattle.trace_model.specs.declared.entry.Entry.{Entry}
-use Rattle.hci_store.specs.Stored.{Stored}
+use Rattle.worked_nodes.proofs.Words.{AtEnd, BeginsStep, Brings, Core, Entry, HasStepped, List, Node, None, Port, RunsAs, Stored, Work, ap, begins_at_rest}
+use Rattle.worked_nodes.proofs.Words.{refl, steps, subst, sym, ◌∙◌, ◌≡◌}
 use Rattle.link_laws.specs.machine.Machine.LinkInput.{Reset}
-use Rattle.node_machine.specs.Parts.{Core, Port, Work}
-use Rattle.node_machine.specs.Node.{steps}
-use Rattle.node_machine.specs.Node.NodeInput.{AtEnd}
-use Rattle.node_core.specs.declared.node.Node.{Node}
-use Rattle.node_core.specs.Bringing.{Brings}
-use Rattle.node_core.specs.Running.{RunsAs, BeginsStep, HasStepped}
-use Rattle.node_core.proofs.Asking.{begins_at_rest}
 use Rattle.worked_nodes.proofs.Fetching.{runs_behind, is_done, not_done, may_again, all_behind, none_behind, brings_also}
 use Rattle.worked_nodes.proofs.library.FrontEnd.reset.Goals as goal
 

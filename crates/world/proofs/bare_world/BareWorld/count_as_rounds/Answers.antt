@@ -1,5 +1,4 @@
-use Rattle.std.proofs.Common.{◌≡◌, ◌+◌, ◌-◌, sym, ap, ◌∙◌}
-use Rattle.world.proofs.Words.{bare_link_behind, lines_lead, lines_played, link_at}
+use Rattle.world.proofs.Words.{ap, bare_link_behind, lines_lead, lines_played, link_at, sym, ◌+◌, ◌-◌, ◌∙◌, ◌≡◌}
 use Rattle.world.proofs.BareWorlds.{plays_low}
 use Rattle.world.proofs.bare_world.BareWorld.count_as_rounds.Goals as goal
 

@@ -1,5 +1,4 @@
-use Rattle.std.proofs.Common.{refl}
-use Rattle.world.proofs.Words.{BareWorld}
+use Rattle.world.proofs.Words.{BareWorld, refl}
 use Rattle.world.proofs.BareWorlds.{Law, new_stands}
 use Rattle.world.proofs.bare_world.BareWorld.new.Goals as goal
 

@@ -1,5 +1,4 @@
-use Rattle.std.proofs.Common.{◌≡◌, ◌+◌, false, List, refl, ap}
-use Rattle.world.proofs.Words.{BareWorld, End, History, Play, WorldStandsFor, link_at}
+use Rattle.world.proofs.Words.{BareWorld, End, History, List, Play, WorldStandsFor, ap, false, link_at, refl, ◌+◌, ◌≡◌}
 use Rattle.world.proofs.RoundLemmas.{seen_at_controller}
 use Rattle.world.proofs.BareWorlds.{Law, WentRound, GoesRound, controller_of, round_goes, few_sent, few_rounds}
 use Rattle.world.proofs.bare_world.BareWorld.round.Goals as goal

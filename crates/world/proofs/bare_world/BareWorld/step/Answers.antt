@@ -1,6 +1,5 @@
-use Rattle.std.proofs.Common.{List, ◌≡◌, ◌+◌, true, false, refl, sym, ap, subst, ◌∙◌}
-use Rattle.std.specs.Prelude.{None}
-use Rattle.world.proofs.Words.{BareWorld, End, History, Link, Play, WorldStandsFor, end_for, link_at}
+use Rattle.world.proofs.Words.{BareWorld, End, History, Link, List, None, Play, WorldStandsFor, ap, end_for, false, link_at, refl, subst, sym, true, ◌+◌, ◌∙◌}
+use Rattle.world.proofs.Words.{◌≡◌}
 use Rattle.world.proofs.RoundLemmas.{seen_at_host, seen_at_controller}
 use Rattle.world.proofs.BareWorlds.{Law, WasStepped, Grows, controller_of, host_grows, controller_grows, few_sent, few_said, none_misread, one_misread}
 use Rattle.world.proofs.bare_world.BareWorld.step.Goals as goal

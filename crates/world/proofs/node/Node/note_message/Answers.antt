@@ -1,5 +1,4 @@
-use Rattle.std.proofs.Common.{ap}
-use Rattle.std.specs.Prelude.{option_map}
+use Rattle.world.proofs.Words.{ap, option_map}
 use Rattle.link_wires.proofs.Results.{none_is}
 use Rattle.world.proofs.Nodes.{HasFetched, fetches_none, fetches_one, fetched_live}
 use Rattle.world.proofs.node.Node.note_message.Goals as goal

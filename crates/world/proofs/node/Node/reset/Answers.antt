@@ -1,5 +1,4 @@
-use Rattle.std.proofs.Common.{refl, sym, ◌∙◌}
-use Rattle.link_laws.specs.machine.Machine.LinkInput.{Reset}
+use Rattle.world.proofs.Words.{Reset, refl, sym, ◌∙◌}
 use Rattle.link_laws.proofs.machine.Reports.{reset_got, reset_so}
 use Rattle.world.proofs.Nodes.{HasTakenInput, IsReported, is_sound, input_done, without_message, refused_reset, answered_reset, reset_so_kept}
 use Rattle.world.proofs.node.Node.reset.Goals as goal

@@ -1,8 +1,5 @@
-use Rattle.std.proofs.Common.{ap, sym, ◌∙◌}
-use Rattle.link_laws.specs.machine.Machine.{lpdu_input}
-use Rattle.world.proofs.Words.{Take, after_input, on_ok, report}
+use Rattle.world.proofs.Words.{Take, after_input, ap, lpdu_input, on_ok, report, sym, told_of, ◌∙◌}
 use Rattle.link_laws.proofs.machine.Reports.{take_so}
-use Rattle.link_end.specs.Reports.{report_told as told_of}
 use Rattle.link_end.proofs.AccountLemmas.{rests, rests_may_take}
 use Rattle.world.proofs.Nodes.{IsLeft, HasTakenInput, IsReported, is_sound, input_done, with_message, taken_input, can_fetch}
 use Rattle.world.proofs.node.Node.take.Goals as goal

@@ -1,7 +1,5 @@
-use Rattle.std.proofs.Common.{refl}
-use Rattle.link_laws.specs.machine.Machine.LinkInput.{Tick}
+use Rattle.world.proofs.Words.{Tick, on_ok, refl}
 use Rattle.link_laws.proofs.machine.Reports.{tick_so}
-use Rattle.world.proofs.Words.{on_ok}
 use Rattle.world.proofs.Nodes.{HasTakenInput, IsReported, is_sound, input_done, without_message, ticked_got}
 use Rattle.world.proofs.node.Node.tick.Goals as goal
 

@@ -1,6 +1,5 @@
-use Rattle.std.proofs.Common.{◌≡◌, rules}
-use Rattle.lines_told.specs.lines.Below.{memory_behind}
-use Rattle.world.proofs.Words.{lines_played}
+use Rattle.std.proofs.Common.{rules}
+use Rattle.world.proofs.Words.{lines_played, memory_behind, ◌≡◌}
 use Rattle.world.proofs.Playing.{world_kept}
 use Rattle.world.proofs.world_steps.World.into_memory.Goals as goal
 

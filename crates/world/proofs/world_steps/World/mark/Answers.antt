@@ -1,11 +1,9 @@
-use Rattle.std.proofs.Common.{◌≡◌, ℕ, ◌++◌, ◌+◌, ◌-◌, List, map, refl, sym, ap, subst, ◌∙◌}
-use Rattle.std.specs.Prelude.{Some, replicate}
+use Rattle.world.proofs.Words.{Below, Entry, List, MayCountBelow, MayOpen, OpenLine, Play, Round, Said, Some, World, ap, lines_said, map, refl, replicate}
+use Rattle.world.proofs.Words.{rounds_played, subst, sym, ℕ, ◌++◌, ◌+◌, ◌-◌, ◌∙◌, ◌≡◌}
 use Rattle.trace_model.specs.declared.entry.Entry.TheVariants.{Echo, Settled}
 use Rattle.trace_model.specs.declared.line.Line.TheVariants as line
-use Rattle.world.proofs.Words.{Below, Entry, Play, Round, Said, World, lines_said, rounds_played}
 use Rattle.node_world.proofs.WorldsStepped.{few_at_all}
-use Rattle.world.specs.declared.world_steps.OpenLine.{OpenLine}
-use Rattle.world.specs.Worlds.{MayBeMarked, MayClose, MayCountBelow, MayOpen}
+use Rattle.world.specs.Worlds.{MayBeMarked, MayClose}
 use Rattle.world.proofs.Below.{bare_counts, stands_nodes}
 use Rattle.world.proofs.Playing.{closes_at_most, closes_few, closes_for, closes_rounds, closes_said, may_count, opens, parts_done, plays_are}
 use Rattle.world.proofs.world_steps.World.mark.Goals as goal

@@ -1,12 +1,7 @@
-use Rattle.std.proofs.Common.{◌≡◌, ℕ, ◌+◌, ◌∷◌, ◌++◌, List, [], length, map, refl, ap, sym, subst, ◌∙◌, arith}
-use Rattle.std.specs.Prelude.{Some, Ok, OnOk}
-use Rattle.std.proofs.lemmas.Result.{IfErr-weaker, on_ok_weaker}
-use Rattle.world.proofs.Words.{IsFaultThere, Line, Play, Said, World, lines_played, told_below}
+use Rattle.world.proofs.Words.{Bare, IfErr-weaker, IsFaultThere, Line, List, Nodes, Ok, OnOk, OpenLine, Play, Said, Some, World, [], ap, arith, bare_entries}
+use Rattle.world.proofs.Words.{length, lines_played, map, on_ok_weaker, refl, subst, sym, told_below, ℕ, ◌++◌, ◌+◌, ◌∙◌, ◌∷◌, ◌≡◌}
 use Rattle.world.specs.declared.fault.WorldFault.TheVariants as fault
-use Rattle.world.specs.declared.world_steps.Below.TheVariants.{Bare, Nodes}
-use Rattle.world.specs.declared.world_steps.OpenLine.{OpenLine}
 use Rattle.node_world.specs.Worlds.{nodes_entries}
-use Rattle.world.specs.BareWorlds.{bare_entries}
 use Rattle.world.proofs.Below.{bare_faults, bare_may, bare_room, bare_stands, bare_tells, stands_nodes}
 use Rattle.world.proofs.Playing.{parts_with, within_legal, played_parts, said_within, part_sure, stands_with_part, never_undetected}
 use Rattle.world.proofs.world_steps.World.part.Goals as goal

@@ -1,5 +1,4 @@
-use Rattle.std.proofs.Common.{sym, ◌∙◌}
-use Rattle.world.proofs.Words.{BareWorld, Header}
+use Rattle.world.proofs.Words.{BareWorld, Header, sym, ◌∙◌}
 use Rattle.world.proofs.Below.{stands_bare, of_its_header, rests_bare}
 use Rattle.world.proofs.world_steps.World.quiet.Goals as goal
 

@@ -1,10 +1,6 @@
-use Rattle.std.proofs.Common.{[], ◌∷◌, ◌++◌, refl}
-use Rattle.std.proofs.lemmas.Result.{on_ok_weaker}
-use Rattle.world.proofs.Words.{Round, World}
-use Rattle.world.specs.declared.world_steps.Below.TheVariants.{Bare, Nodes}
+use Rattle.world.proofs.Words.{Bare, Nodes, Round, World, [], few_with_round, on_ok_weaker, refl, ◌++◌, ◌∷◌}
 use Rattle.world.proofs.Below.{bare_goes, bare_room_to_settle, bare_told, stands_nodes}
 use Rattle.world.proofs.Playing.{world_legal, round_fits, stands_with_round}
-use Rattle.lines_told.proofs.lines.Told.{few_with_round}
 use Rattle.world.proofs.world_steps.World.round.Goals as goal
 
 pub round-requires : goal.round-requires

@@ -1,5 +1,4 @@
-use Rattle.std.proofs.Common.{List, length, sym, ap, ◌∙◌}
-use Rattle.world.proofs.Words.{BareWorld, End, Header, OnWire}
+use Rattle.world.proofs.Words.{BareWorld, End, Header, List, OnWire, ap, length, sym, ◌∙◌}
 use Rattle.world.proofs.Below.{stands_bare, of_its_header, frames_bare}
 use Rattle.world.proofs.world_steps.World.standing.Goals as goal
 

@@ -1,10 +1,6 @@
-use Rattle.std.proofs.Common.{[], ◌∷◌, ◌++◌, arith, refl}
-use Rattle.std.proofs.lemmas.Result.{on_ok_weaker}
-use Rattle.world.proofs.Words.{Said, World}
-use Rattle.world.specs.declared.world_steps.Below.TheVariants.{Bare, Nodes}
+use Rattle.world.proofs.Words.{Bare, Nodes, Said, World, [], arith, few_with_said, on_ok_weaker, refl, ◌++◌, ◌∷◌}
 use Rattle.world.proofs.Below.{bare_faults, bare_may, bare_room, bare_stands, bare_sure, bare_tells, stands_nodes}
 use Rattle.world.proofs.Playing.{world_legal, line_fits, stands_with_line}
-use Rattle.lines_told.proofs.lines.Told.{few_with_said}
 use Rattle.world.proofs.world_steps.World.step.Goals as goal
 
 pub step-requires-clause-room : goal.step-requires-clause-room
