@@ -182,7 +182,7 @@ tick_sends who l ts a h r = go (is_open e.role) refl
 
 tick_notes : (who : End) (l : Link) (node : Node) → AreSendableTurns node.turns → Tells l.controller → Rests l.controller.side.shdlc
     → NoCut (tick_entries who l node) → TickNotes who l node
-tick_notes who l node a h r q = go node.ending refl
+tick_notes who l node a h r q = (by node.ending q)
   where
     e : LinkEnd
     e = l.controller.side
@@ -196,19 +196,13 @@ tick_notes who l node a h r q = go node.ending refl
     of : Ending → Node
     of ending = record { turns = node.turns; ending = ending }
 
-    Q : Ending → Type 0
-    Q ending = NoCut (tick_entries who l (of ending))
-
-    by : (ending : Ending) → Q ending → TickNotes who l (of ending)
+    by : (ending : Ending) → (NoCut (tick_entries who l (of ending))) → TickNotes who l (of ending)
     by CutOff p =
         absurd (cut_noted who k f node.turns (no_cut_parts (told_of who l.controller HasTick) (rest_entries who k f node.turns CutOff) p).1)
     by GoesOut p =
         let n = notes_input who l.controller HasTick k f node.turns in
         let sends = tick_sends who l node.turns a h r in
         grind arith
-
-    go : (ending : Ending) → node.ending ≡ ending → TickNotes who l node
-    go ending p = by node.ending q
 
 -- what a tick that isn't cut off is over fragments
 tick_power : (e : LinkEnd) (ts : List Turn) (ending : Ending) → ending ≡ GoesOut → HasItsTick (core_tick e ts ending)

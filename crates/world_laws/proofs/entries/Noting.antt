@@ -2,9 +2,9 @@
 use Rattle.std.specs.Prelude.{is_some, nat_lt, ◌||◌}
 use Rattle.world_laws.proofs.Words.{Acked, ActEvent, ActStart, ActStop, Active, AllKeepPower, AreSendableTurns, AsksReset, Bool, Comes, ComesFirst, Control}
 use Rattle.world_laws.proofs.Words.{CoreDeliver, CoreEndEvent, CoreReset, CoreTurns, Cut, CutOff, EndEvent, Ending, FromHost, GaveUp, GoesOut, Got, IsAllowed}
-use Rattle.world_laws.proofs.Words.{IsOwn, Link, LinkEnd, LinkInput, List, Lose, Loss, Lost, Message, NextFrame, NoInput, None, NumberedEnd, OnWire, Option}
-use Rattle.world_laws.proofs.Words.{Report, Reset, Rests, Some, Start, Starts, Step, Stop, Stops, Take, TapReport, Tells, TooMany, TooOld, Turn, [], activated}
-use Rattle.world_laws.proofs.Words.{after_input, aged_entries, ap, append-nil, arith, by_list, by_option, by_test, cond, core_ending, core_first}
+use Rattle.world_laws.proofs.Words.{IsOwn, Link, LinkEnd, LinkInput, List, Lose, Loss, Message, NextFrame, NoInput, None, NumberedEnd, OnWire, Option}
+use Rattle.world_laws.proofs.Words.{Report, Reset, Rests, Some, Start, Starts, Step, Stop, Stops, Take, TapReport, Tells, TooMany, Turn, [], activated}
+use Rattle.world_laws.proofs.Words.{after_input, aged_entries, ap, append-nil, arith, by_list, by_option, by_test, core_ending, core_first}
 use Rattle.world_laws.proofs.Words.{core_happens_here, core_here, core_of, core_reset, core_restart, core_step, core_take, core_turns, deactivated}
 use Rattle.world_laws.proofs.Words.{emitted_turns, ended_by, false, far, first_lost, frames_by, frames_heard, frames_out, got_by, got_turns, gots_noted}
 use Rattle.world_laws.proofs.Words.{here_entries, if_so, is_clf, is_cut, left_after, length, list_any, map, moved, number_of, option_to_list, or_parts}
@@ -77,13 +77,10 @@ notes_told who n r acked =
     (notes_then b (a ++ g) [] [] [] rs (silent_all (GaveUp who) (option_to_list r.gave_up) (λ x. record { frames = refl; gots = refl }))
     (notes_then a g [] [] [] rs (silent_so (nat_lt 0 r.acked) (Acked who n acked) (record { frames = refl; gots = refl })) (notes_got who n r.got)))))
 
-notes_turn : (who : End) (n : ℕ) (e : LinkEnd) (t : Turn) → Silent (turn_entry who n e t)
-notes_turn who n e t = grind arith
-
 notes_turns : (who : End) (n : ℕ) (e : LinkEnd) (ts : List Turn) → Silent (turn_entries who n e ts)
 notes_turns who n e [] = silent_none
 notes_turns who n e (t ∷ ts) =
-    notes_then (turn_entry who n e t) (turn_entries who n (turn e t) ts) [] [] [] [] (notes_turn who n e t) (notes_turns who n (turn e t) ts)
+    notes_then (turn_entry who n e t) (turn_entries who n (turn e t) ts) [] [] [] [] (grind arith) (notes_turns who n (turn e t) ts)
 
 pub silent_first : (who : End) (why : Loss) (w : List OnWire) → Silent (first_lost who why w)
 silent_first who why w = grind arith
@@ -93,10 +90,7 @@ silent_pushed who w = by_test (nat_lt 64 (length w)) (λ q. rw q (silent_first w
 
 pub silent_aged : (who : End) (w : List OnWire) → Silent (aged_entries who w)
 silent_aged who [] = silent_none
-silent_aged who (x ∷ xs) = by (nat_lt x.age 4) (silent_aged who xs)
-  where
-    by : (b : Bool) → Silent (aged_entries who xs) → Silent (cond b (aged_entries who xs) (Lost who x.frame TooOld ∷ aged_entries who xs))
-    by b s = grind arith
+silent_aged who (x ∷ xs) = let h0 = silent_aged who xs in grind arith
 
 notes_puts : (who : End) (l : Link) (cs : List Control) → Notes (puts_entries who l cs) (frames_by (is_clf who) cs) []
 notes_puts who l [] = record { frames = refl; gots = refl }
@@ -161,9 +155,6 @@ pub record Ready (l : Link) : Type 0 where
   pub in_order : LinkInOrder l
   pub rests : Rests l.controller.side.shdlc
   pub from : FromHost (core_happens_here (core_of l) (CoreDeliver []))
-
-take_power : (e : LinkEnd) (c : Control) (ts : List Turn) → AllKeepPower (core_take e c ts)
-take_power e c ts = grind arith
 
 -- a reset
 reset_notes : (who : End) (l : Link) (window : Option ℕ) (ts : List Turn) → AreSendableTurns ts → Tells l.controller
@@ -298,7 +289,7 @@ frame_notes who l ts ending a b q = by_list l.to_controller
         let is = notes_input who n (Take x.frame) (left_after l x xs) f ts in
         notes_same who l (core_take e x.frame ts ++ []) (core_take e x.frame ts) u u (append-nil (core_take e x.frame ts)) refl
         (noted who l (core_take e x.frame ts) u (frames_out (turned f ts)) (got_now l x) (take_sends l ts x xs a comes)
-        (record { frames = is.frames; gots = is.gots }) (take_power e x.frame ts))
+        (record { frames = is.frames; gots = is.gots }) (grind arith))
 
 -- whatever happens at the controller's end
 pub here_notes : (who : End) (l : Link) (e : EndEvent) → IsAllowed l e → Ready l → NoCut (here_entries who l e)

@@ -1,9 +1,9 @@
 -- Each frame that an end puts on a link is read again from its LPDU, and what an end puts there and gets, over messages and over fragments.
 use Rattle.std.proofs.Common.{option_to_list}
 use Rattle.world_laws.proofs.Words.{Act, ActEvent, ActTake, Activation, AreSendableTurns, Asked, Bool, Clt, ComesFirst, Control, CoreActs, CoreDeliver}
-use Rattle.world_laws.proofs.Words.{CoreEndEvent, CoreIgnore, CoreLink, CoreLose, CoreReset, CoreStop, CoreTurn, CoreTurns, Due, EndState, Fragment, Heard, I}
+use Rattle.world_laws.proofs.Words.{CoreEndEvent, CoreIgnore, CoreLink, CoreLose, CoreReset, CoreStop, CoreTurn, CoreTurns, EndState, Fragment, Heard, I}
 use Rattle.world_laws.proofs.Words.{IsData, IsDown, IsUpNow, Link, LinkEnd, LinkState, List, Message, Mid, None, Now, Ok, OnWire, Option, Rej, Rnr, Rr, Rset, S}
-use Rattle.world_laws.proofs.Words.{Some, Srej, Take, Tells, Turn, Ua, [], act_answer, act_mid, activated, among, among_now, ap, append-nil, are_taken, arith}
+use Rattle.world_laws.proofs.Words.{Some, Srej, Take, Tells, Turn, Ua, [], act_answer, act_mid, activated, among_now, ap, append-nil, are_taken, arith}
 use Rattle.world_laws.proofs.Words.{brought_by, by_option, by_test, control_due, control_of, core_number_of, core_of, core_silent, core_take, core_turned}
 use Rattle.world_laws.proofs.Words.{core_turns, counted_is, drop, due_now, emitted_here, emitted_turns, expected, false, fetch_cases, fetched}
 use Rattle.world_laws.proofs.Words.{fragment_due-within, fragments_of, frame_due, frames_by, frames_now, frames_of, frames_out, frames_read, given_by, good_of}
@@ -80,9 +80,6 @@ short_at [] i x a q = cc
 short_at (y ∷ xs) zero x a q = let e : y ≡ x = (let z : Some y ≡ Some x = q in cc) in subst IsShort e a.0
 short_at (y ∷ xs) (suc i) x a q = short_at xs i x a.1 q
 
-control_written : (e : EndState) (d : Due) → IsWritten (control_due e d)
-control_written e d = grind arith
-
 record Next (e : EndState) (c : Control) : Type 0 where
   written : IsWritten c
   short : AreShort (fetched e).session.out
@@ -91,7 +88,7 @@ next_written : (e : EndState) (c : Control) → AreShort e.session.out → frame
 next_written e c a is =
     let P : EndState → Option Control → Type 0 = λ f o. o ≡ Some c → IsWritten c × AreShort f.session.out in
     let h = fetch_cases P e
-    (λ d ds p n. (subst IsWritten (same (control_due e d) c n) (control_written e d), a))
+    (λ d ds p n. (subst IsWritten (same (control_due e d) c n) (grind arith), a))
     (λ p q n. cc)
     (λ info p q n.
     let s = short_at e.session.out e.session.next info a (fragment_due-within e.session info q).1 in
@@ -107,21 +104,16 @@ frames_written (suc n) e a = by_option (frame_due e)
     (λ q. rw q tt)
     (λ c q. let h = next_written e c a q in rw q (h.written, frames_written n (fetched e) h.short))
 
-acts_written : (o : Option Activation) → AreWritten (frames_now o)
-acts_written o = grind arith
-
 -- what goes out of an end with this frame of activation
 pub out_is : (o : Option Activation) (g : LinkEnd) (s : EndState) → g.acts ≡ due_now o → g.shdlc ≡ s → frames_out g ≡ frames_now o ++ frames_of most_frames s
-out_is o g s acts is =
-    ap (λ a. among 0 a (frames_of most_frames g.shdlc)) acts
-    ∙ (ap (λ f. among 0 (due_now o) (frames_of most_frames f)) is ∙ among_now o (frames_of most_frames s))
+out_is o g s acts is = let h0 = due_now o in let h1 = among_now o (frames_of most_frames s) in grind arith
 
 -- what goes out of an end over messages
 pub out_written : (o : Option Activation) (g : LinkEnd) → Mid o g → AreWritten (frames_out g)
 out_written o g h =
     let short : AreShort g.shdlc.session.out = subst AreShort (sym h.says.out) (short_fragments g.sent) in
     subst AreWritten (sym (out_is o g g.shdlc h.acts refl))
-    (written-append (frames_now o) (frames_of most_frames g.shdlc) (acts_written o) (frames_written most_frames g.shdlc short))
+    (written-append (frames_now o) (frames_of most_frames g.shdlc) (grind arith) (frames_written most_frames g.shdlc short))
 
 -- ### Both sides
 
@@ -153,9 +145,6 @@ numbered n messages = map (λ m. (n, m.0, m.1)) messages
 abbrev pub brought : List Fragment → Option Fragment → List Message
 brought acc None = []
 brought acc (Some info) = brought_by acc info
-
-got_is : (n : ℕ) (acc : List Fragment) (o : Option Fragment) → got_with n acc o ≡ numbered n (brought acc o)
-got_is n acc o = grind arith
 
 drop_all : {X : Type 0} (xs : List X) → drop (length xs) xs ≡ []
 drop_all [] = refl
@@ -228,10 +217,6 @@ sends_same : (l : Link) (es fs : List CoreEndEvent) (out : List Control) (gets :
     → Sends l es out gets
 sends_same l es fs out gets q s = grind arith
 
-deliver_gets : (c : CoreLink) (us : List CoreTurn) (x : OnWire) (xs : List OnWire) → c.to_controller ≡ x ∷ xs
-    → got_here c (CoreDeliver us) ≡ got_with (core_number_of c.controller) c.controller.side.session.acc (take_answer c.controller.side x.frame).accepted
-deliver_gets c us x xs q = rw q refl
-
 pub take_sends : (l : Link) (ts : List Turn) (x : OnWire) (xs : List OnWire) → AreSendableTurns ts → ComesFirst l x xs
     → Sends l (core_take l.controller.side x.frame ts) (frames_out (turned (took l.controller.side x.frame) ts)) (got_now l x)
 take_sends l ts x xs a comes = go x.frame refl
@@ -263,7 +248,7 @@ take_sends l ts x xs a comes = go x.frame refl
         (take_open x.frame q o ∙ ap (λ g. CoreDeliver (core_turns g ts) ∷ []) is)
         (record {
           frames = append-nil (emitted_here c (CoreDeliver us)) ∙ (grind arith);
-          gets = append-nil (got_here c (CoreDeliver us)) ∙ (deliver_gets c us x xs comes.first ∙ gets);
+          gets = append-nil (got_here c (CoreDeliver us)) ∙ ((rw comes.first refl) ∙ gets);
           written = subst (λ g. AreWritten (frames_out (turned g ts))) (sym is) (out_written None (turned f ts) tm.mid);
         })
 
@@ -308,7 +293,7 @@ take_sends l ts x xs a comes = go x.frame refl
         let f = took_open e x s o sound in
         let acc : List Fragment = e.shdlc.session.acc in
         open_as (heard_end e x) (is_some (take_answer e.shdlc x.frame).ended) q o f.0 (heard_is e x comes.tells.now o)
-        (numbers x.frame refl acc ∙ (got_is n acc (take_answer e.shdlc x.frame).accepted
+        (numbers x.frame refl acc ∙ ((grind arith)
         ∙ ap (numbered n) (sym (got_open x.frame s o sound ∙ news_is e.shdlc x.frame sound))))
     shdlc false o s q =
         let f = took_closed e x.frame s o in closed_as e q o f.0 refl comes.tells.now (ap (numbered n) (sym (got_closed x.frame o)))
@@ -383,9 +368,6 @@ reset_sends l w ts a h q =
       written = out_written None (turned f ts) tm.mid;
     }
 
-silent_side : (c : CoreLink) (s : EndState) → (core_silent c s).controller.side ≡ s
-silent_side c s = grind arith
-
 pub restart_sends : (l : Link) (event : ActEvent) (ts : List Turn) → AreSendableTurns ts → Tells l.controller
     → let f : LinkEnd = activated (moved l.controller.side true (stopped l.controller.side.shdlc)) event in
     Sends l (CoreStop ∷ CoreActs (option_to_list (act_answer l.controller.side.role event).send) (core_turns f ts) ∷ []) (frames_out (turned f ts)) []
@@ -400,7 +382,7 @@ restart_sends l event ts a h =
     let is : (turned f ts).shdlc ≡ s = tm.is ∙ ap (λ z. core_turned z us) m.same in
     record {
       frames = append-nil (frames_now o ++ sent_then (core_silent (core_of l) (stopped e.shdlc)).controller.side us)
-          ∙ (ap (λ z. frames_now o ++ sent_then z us) (silent_side (core_of l) (stopped e.shdlc)) ∙ sym (out_is o (turned f ts) s tm.mid.acts is));
+          ∙ (ap (λ z. frames_now o ++ sent_then z us) (grind arith) ∙ sym (out_is o (turned f ts) s tm.mid.acts is));
       gets = refl;
       written = out_written o (turned f ts) tm.mid;
     }

@@ -6,7 +6,7 @@ use Rattle.world_laws.proofs.Words.{SafeLink, Session, ShdlcLink, ShdlcTurn, Som
 use Rattle.world_laws.proofs.Words.{arith, at_most_one, by_option, cases_eq, changed, cond, control_due, controls, controls_same, counted_at, ended_session}
 use Rattle.world_laws.proofs.Words.{eq-eqb, expected, false, fetch_cases, fetched, fits, fragment_due, fragment_due-within, frame_due, frames_in_order}
 use Rattle.world_laws.proofs.Words.{frames_of, hears_all, inl, inr, is_in_session, length, length-append, length-take-le, listed_at, map, map-append, max}
-use Rattle.world_laws.proofs.Words.{most_frames, nat_lt, ne_eqb, new_session, no_session, none_ended, of_end, of_none, of_up, phase_known, put_all-append}
+use Rattle.world_laws.proofs.Words.{most_frames, nat_lt, ne_eqb, no_session, none_ended, of_end, of_none, phase_known, put_all-append}
 use Rattle.world_laws.proofs.Words.{put_out, ready_by, refl, room, sent_next, shdlc_becomes, shdlc_number_of, shdlc_put, shdlc_put_all, shdlc_session_of}
 use Rattle.world_laws.proofs.Words.{shdlc_turn, shdlc_turned, slice_get, subst, suc, sym, take, take-append-le, tap_hears, tap_tells, tells_all, tells_more}
 use Rattle.world_laws.proofs.Words.{told_by, true, with_fragment, with_number, zero, ℕ, ◌%◌, ◌++◌, ◌+◌, ◌<◌, ◌==◌, ◌∙◌, ◌∷◌, ◌≡◌, ◌≤◌, ◌⊎◌}
@@ -59,8 +59,7 @@ session_other h k other = grind arith
 
 -- an end has no session with a number above the number of its side
 pub session_above : (h : NumberedShdlc) (m k : ℕ) → Below (m + 1) h.past → shdlc_number_of h < k → m < k → shdlc_session_of h k ≡ no_session
-session_above h m k past i j =
-    session_other h k (λ e. omega (arith, e)) ∙ none_ended (m + 1) k h.past (omega arith) past
+session_above h m k past i j = let h0 = session_other h k (λ e. omega (arith, e)) in let h1 = none_ended (m + 1) k h.past (omega arith) past in grind arith
 
 -- two sessions in which the same was accepted and sent
 pub record SameLists (x y : Session) : Type 0 where
@@ -85,11 +84,6 @@ alike_end n m up down past = of_end (SameAs n) n m up down past (alike_all n)
 pub alike_none : (n m : NumberedShdlc) → (n.side.phase ≡ Up → ⊥) → (m.side.phase ≡ Up → ⊥) → m.past ≡ n.past → Alike n m
 alike_none n m down down' past = of_none (SameAs n) n m down down' past (alike_all n)
 
--- one begins
-pub alike_begin : (n m : NumberedShdlc) (w : ℕ) → (n.side.phase ≡ Up → ⊥) → m.side.phase ≡ Up → m.past ≡ n.past → m.side.session ≡ new_session w
-    → ended_session n.past (shdlc_number_of m) ≡ no_session → Alike n m
-alike_begin n m w down up past new none = grind arith
-
 -- ### The end changes, and the tap hears nothing
 
 -- what of the end n has become m: its sessions with the numbers below p are kept
@@ -99,10 +93,6 @@ pub record Becomes (n m : NumberedShdlc) (p : ℕ) : Type 0 where
   pub took : m.took ≡ n.took
   pub past : Below p m.past
   pub phase : (m.side.phase ≡ Down → ⊥) → n.side.phase ≡ Down → ⊥
-
-pub tracks_on : {bare : Bool} {s t : TapSide} {n m f : NumberedShdlc} {to_n to_n' : List OnWire} → Becomes n m (s.number + 1)
-    → (m.side.phase ≡ Up → n.emitted ≤ t.number) → NoUa to_n' ⊎ (n.emitted ≤ t.number) → Tracks bare s t n f to_n → Tracks bare s t m f to_n'
-tracks_on b met told h = grind arith
 
 -- so where the near end has taken or sent no RSET
 pub tracks_far : {bare : Bool} {s s' t : TapSide} {n m f : NumberedShdlc} {to_f to_f' : List OnWire} → s'.number ≡ s.number → n.emitted ≤ m.emitted
@@ -194,13 +184,11 @@ pub record Goes (bare : Bool) (t : TapState) (n f : NumberedShdlc) (to_n to_f : 
 take_one : (xs : List Fragment) (i : ℕ) (x : Fragment) → slice_get xs i ≡ Some x → take (i + 1) xs ≡ take i xs ++ x ∷ []
 take_one [] i x q = cc
 take_one (y ∷ xs) zero x q = let e : y ≡ x = (let z : Some y ≡ Some x = q in cc) in rw e refl
-take_one (y ∷ xs) (suc i) x q =
-    let k : suc i + 1 ≡ suc (i + 1) = omega arith in
-    rw k (ap (λ v. y ∷ v) (take_one xs i x q))
+take_one (y ∷ xs) (suc i) x q = let h0 = take_one xs i x q in grind arith
 
 -- the session of an end that is Up goes on
 pub session_now : (m : NumberedShdlc) (k : ℕ) → m.side.phase ≡ Up → k ≡ shdlc_number_of m → shdlc_session_of m k ≡ m.side.session
-session_now m k up q = ap (shdlc_session_of m) q ∙ of_up m up
+session_now m k up q = ap (shdlc_session_of m) q ∙ (grind arith)
 
 -- the list of a side grows exactly by a fragment that was never sent before
 list_grows : (s : Session) (bound : ℕ) (info : Fragment) (so_far : List Fragment) → s.acked ≤ s.next → s.next ≤ s.reached → s.reached ≤ length s.out
@@ -394,19 +382,13 @@ each : (bare : Bool) (t : TapState) (l : ShdlcLink) (e : EndState) (c : Control)
 each bare t l e c is due g =
     fetch_cases (λ f o. o ≡ Some c → Each bare t l c f) e (λ d ds p n. absurd (let z = sym p ∙ due in cc)) (λ p q n. cc)
     (λ info p q n. let P : Control → Type 0 = λ k. Each bare t l k (record e { session = sent_next e.session }) in
-    subst P (same (I (e.session.next % 8) (expected e.session) info) c n) (one info q)) is
+    subst P (cc) (one info q)) is
   where
-    same : (k m : Control) → Some k ≡ Some m → k ≡ m
-    same k m q = cc
-
-    is_up : (info : Fragment) → fragment_due e.session ≡ Some info → e.phase ≡ Up
-    is_up info q = grind arith
-
     one : (info : Fragment) → fragment_due e.session ≡ Some info
         → Each bare t l (I (e.session.next % 8) (expected e.session) info) (record e { session = sent_next e.session })
     one info q =
         let x : OnWire = record { frame = I (e.session.next % 8) (expected e.session) info; age = 0; number = 0 } in
-        let s = goes_fragment x refl (is_up info q) q g in
+        let s = goes_fragment x refl (grind arith) q g in
         record { goes = s.0; told = s.1; due = due }
 
 -- all that is due has gone out, and this was told
@@ -514,9 +496,7 @@ goes_out bare t l e told h =
 -- an end with nothing to answer
 pub went_none : (bare : Bool) (t : TapState) (ts : List ShdlcTurn) (l : ShdlcLink) (e : EndState) → e.due ≡ [] → GoesAt bare t l e
     → Went bare t l (shdlc_turned e ts) []
-went_none bare t ts l e due g =
-    goes_out bare t l (shdlc_turned e ts) []
-    (turns_wait bare t l ts e [] ((grind arith)))
+went_none bare t ts l e due g = let h0 = goes_out bare t l (shdlc_turned e ts) [] (turns_wait bare t l ts e [] ((grind arith))) in grind arith
 
 -- an end with one control frame to send, which goes first, and tells this
 pub went_one : (bare : Bool) (t : TapState) (ts : List ShdlcTurn) (l : ShdlcLink) (e : EndState) (d : Due) (told : List (ℕ × ℕ × List ℕ)) → e.due ≡ d ∷ []

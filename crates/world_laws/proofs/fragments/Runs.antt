@@ -8,7 +8,7 @@ use Rattle.world_laws.proofs.Words.{false, frames_by, frames_of, given_up, got, 
 use Rattle.world_laws.proofs.Words.{is_up, is_waiting, ltb-false, map, map-append, most_frames, nat_lt, new_tap, no_session, nothing_out, passes_act, refl}
 use Rattle.world_laws.proofs.Words.{reports_to, reset_with, runs_timer, safe_aged, safe_event, safe_exchanged, safe_start, safe_turn, safe_turns, sans}
 use Rattle.world_laws.proofs.Words.{sent_again, sent_then, shdlc_after, shdlc_aged, shdlc_all_at_controller, shdlc_becomes, shdlc_exchanged, shdlc_happens}
-use Rattle.world_laws.proofs.Words.{shdlc_happens_at_controller, shdlc_number_of, shdlc_put, shdlc_put_all, shdlc_session_of, shdlc_silent}
+use Rattle.world_laws.proofs.Words.{shdlc_happens_at_controller, shdlc_number_of, shdlc_put, shdlc_put_all, shdlc_session_of}
 use Rattle.world_laws.proofs.Words.{shdlc_ticks_at_controller, shdlc_turned, stopped, subst, sym, take_answer, taken, tap_after, tap_after_frame, tap_exchanged}
 use Rattle.world_laws.proofs.Words.{tap_hears, tap_reports, tap_tells, tapped, tapped_from, tells_all, tick_answer, tick_if_waiting, tick_or_cut, ticked}
 use Rattle.world_laws.proofs.Words.{ticks_if_waiting, ticks_or_cut, took_other, took_with, true, waiting_from, with_shdlc_ended, ℕ, ◌++◌, ◌+◌, ◌∙◌, ◌∷◌, ◌≡◌}
@@ -17,7 +17,7 @@ use Rattle.link_laws.proofs.sessions.Steps.{took}
 use Rattle.link_laws.specs.sessions.Sessions.ShdlcEndEvent.{Cut, Deliver, Lose, Reset, Stop}
 use Rattle.link_laws.specs.sessions.Sessions.ShdlcLinkEvent.{AtController, AtHost, Tick}
 use Rattle.world_laws.proofs.fragments.Going.{Alike, Becomes, CanSend, GoesAt, Knows, KnowsLink, Tracks, Went, alike_end, alike_none, ever_sent, goes_of}
-use Rattle.world_laws.proofs.fragments.Going.{hears_all-append, knows_side, knows_wire, tells_all-append, tracks_on, went_none, went_one}
+use Rattle.world_laws.proofs.fragments.Going.{hears_all-append, knows_side, knows_wire, tells_all-append, went_none, went_one}
 use Rattle.world_laws.proofs.fragments.Taking.{Heard, got_now, knows_rset, takes_heard}
 use Rattle.world_laws.proofs.fragments.Wires.{NoUa, no_ua-aged, no_ua-from, no_ua-rest}
 
@@ -68,10 +68,6 @@ ignore_is : (l : ShdlcLink) (ts : List ShdlcTurn) (x : OnWire) (xs : List OnWire
     (shdlc_turned l.controller.side ts)
 ignore_is l ts x xs p q = rw (p, q) refl
 
-ignore_sends : (l : ShdlcLink) (ts : List ShdlcTurn) (x : OnWire) (xs : List OnWire) → l.controller.side.phase ≡ Down → l.to_controller ≡ x ∷ xs
-    → emitted_here l (Ignore ts) ≡ sent_then l.controller.side ts
-ignore_sends l ts x xs p q = rw (p, q) refl
-
 -- an end that is Down passes over a frame, but for the number of an RSET
 ignore_heard : (bare : Bool) (t : TapState) (ts : List ShdlcTurn) (l : ShdlcLink) → SafeLink 0 0 l → KnowsLink bare t l → HeardHere bare t l (Ignore ts)
 ignore_heard bare t ts l s h = go l.controller.side.phase refl l.to_controller refl
@@ -113,7 +109,7 @@ ignore_heard bare t ts l s h = go l.controller.side.phase refl l.to_controller r
     go Down q [] p = by_parts l [] (rw (q, p) refl) (rw (q, p) refl) same
     go Down q (x ∷ xs) p =
         let k : ShdlcLink = record l { to_controller = xs; controller = record n { took = took_with n.took x } } in
-        by_parts (shdlc_becomes k (shdlc_turned n.side ts)) (sent_then n.side ts) (ignore_is l ts x xs q p) (ignore_sends l ts x xs q p)
+        by_parts (shdlc_becomes k (shdlc_turned n.side ts)) (sent_then n.side ts) (ignore_is l ts x xs q p) (rw (q, p) refl)
         (went_heard k (shdlc_turned n.side ts) [] (down q x xs p))
 
 -- ### Frames of activation
@@ -212,7 +208,7 @@ reset_heard {kf} bare t ts l w s h = go l.controller.side.phase refl
 -- ### It is stopped
 
 stop_heard : {kn kf : ℕ} (bare : Bool) (t : TapState) (l : ShdlcLink) → SafeLink kn kf l → KnowsLink bare t l → HeardHere bare t l Stop
-stop_heard bare t l s h = record { knows = go l.controller.side.phase refl; tells = refl }
+stop_heard bare t l s h = record { knows = grind arith; tells = refl }
   where
     n : NumberedShdlc
     n = l.controller
@@ -226,9 +222,6 @@ stop_heard bare t l s h = record { knows = go l.controller.side.phase refl; tell
 
     no : (u : Down ≡ Up) → ⊥
     no u = cc
-
-    go : (p : LinkState) → n.side.phase ≡ p → KnowsLink bare t (shdlc_silent l q)
-    go p e = grind arith
 
 -- ### Turns and losses
 
@@ -415,7 +408,7 @@ knows_aged l h = record { near = aged h.near; far = aged h.far; rsets = h.rsets 
   where
     aged : {bare : Bool} {s u : TapSide} {n f : NumberedShdlc} {w : List OnWire} → Tracks bare s u n f w → Tracks bare s u n f (aged_wire w)
     aged {s = s} {u} {n} {w = w} h =
-        tracks_on (record { alike = λ k. record { acc = refl; sent = refl }; emitted = refl; took = refl; past = h.past; phase = λ d. d }) h.met (left h.told) h
+        (let h0 = (left h.told) in grind arith)
       where
         left : NoUa w ⊎ (n.emitted ≤ u.number) → NoUa (aged_wire w) ⊎ (n.emitted ≤ u.number)
         left (inl q) = inl (no_ua-aged w q)
@@ -476,13 +469,10 @@ run_heard bare (e ∷ es) t l i a s h =
     then_both m (shdlc_after m es) (emitted_event l e) (emitted m es) (got_event l e) (got m es) one.0
     (run_heard bare es (tap_after bare t (emitted_event l e)) m next.1 one.1 next.0 one.0.knows)
 
-start_known : (bare : Bool) (l : ShdlcLink) → IsShdlcStart l → StartsSo bare l → KnowsLink bare new_tap l
-start_known bare l a b = grind arith
-
 -- over a whole run from its beginning
 heard_from_start : (bare : Bool) (l : ShdlcLink) → IsShdlcStart l → StartsSo bare l → (events : List ShdlcLinkEvent) → AllShdlcAllowed events
     → NoneIsCut events → HeardBoth bare new_tap (shdlc_after l events) (emitted l events) (got l events)
-heard_from_start bare l i b events a c = run_heard bare events new_tap l a c (safe_start l i) (start_known bare l i b)
+heard_from_start bare l i b events a c = run_heard bare events new_tap l a c (safe_start l i) (grind arith)
 
 pub reported : (bare : Bool) (l : ShdlcLink) → IsShdlcStart l → StartsSo bare l → (events : List ShdlcLinkEvent) → AllShdlcAllowed events
     → NoneIsCut events → tapped bare (emitted l events) ≡ got l events

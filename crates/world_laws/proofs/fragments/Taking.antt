@@ -10,7 +10,7 @@ use Rattle.world_laws.proofs.Words.{subst, suc, sym, take, take_answer, taken, t
 use Rattle.world_laws.proofs.Words.{took_with, true, ua_told, up_with, with_number, with_shdlc_ended, zero, ℕ, ◌%◌, ◌++◌, ◌+◌, ◌<◌, ◌==◌, ◌∙◌, ◌∷◌, ◌≡◌, ◌≤◌}
 use Rattle.world_laws.proofs.Words.{◌⊎◌}
 use Rattle.link_laws.proofs.sessions.Steps.{took}
-use Rattle.world_laws.proofs.fragments.Going.{Alike, Becomes, CanSend, GoesAt, Knows, KnowsLink, Tracks, Went, alike_begin, can_send, count_up, ever_sent}
+use Rattle.world_laws.proofs.fragments.Going.{Alike, Becomes, CanSend, GoesAt, Knows, KnowsLink, Tracks, Went, can_send, count_up, ever_sent}
 use Rattle.world_laws.proofs.fragments.Going.{goes_answer, in_session, knows_side, session_above, session_ended, session_now, still_no_ua, tracks_far}
 use Rattle.world_laws.proofs.fragments.Going.{tracks_renumbered, went_none, went_one}
 use Rattle.world_laws.proofs.fragments.Wires.{NoUa, is_ua}
@@ -33,7 +33,7 @@ pub record Asks (n m f : NumberedShdlc) (s : TapSide) (to_n : List OnWire) (r : 
 pub knows_rset : {bare : Bool} {t : TapState} {n m f : NumberedShdlc} {to_n to_f : List OnWire} {r : ℕ} (x : OnWire) (w c : ℕ) → is_ua x.frame ≡ false
     → Asks n m f t.clf to_n r → Knows bare t n f to_n to_f r
     → Knows bare (tap_hears bare t (Rset w c)) m f to_n (fits (to_f ++ x ∷ [])) (r + 1)
-knows_rset {bare} {t} {n} {m} {f} {to_n} {to_f} {r} x w c plain a h = subst P (sym heard) (record { near = near; far = far; rsets = refl })
+knows_rset {bare} {t} {n} {m} {f} {to_n} {to_f} {r} x w c plain a h = subst P (sym (grind arith)) (record { near = near; far = far; rsets = refl })
   where
     not_up : m.side.phase ≡ Up → ⊥
     not_up u = let e = sym a.waits ∙ u in cc
@@ -46,9 +46,6 @@ knows_rset {bare} {t} {n} {m} {f} {to_n} {to_f} {r} x w c plain a h = subst P (s
 
     low : t.clf.number ≤ r
     low = omega (arith, h.near.upto, h.near.took, a.bound, a.far_bound)
-
-    heard : tap_hears bare t (Rset w c) ≡ record { clf = side; uicc = t.uicc; rsets = r + 1 }
-    heard = grind arith
 
     none : shdlc_session_of m (r + 1) ≡ no_session
     none = session_ended m not_up (r + 1) ∙ none_ended (t.clf.number + 1) (r + 1) m.past (omega (arith, low)) a.past
@@ -116,9 +113,6 @@ knows_ua {bare} {t} {n} {m} {f} {to_n} {to_n'} {to_f} {to_f'} {r} a told h = by_
     P : TapSide → Type 0
     P z = Knows bare (record t { clf = z }) m f to_n' to_f' r
 
-    far_up : t.uicc.number ≡ shdlc_number_of f
-    far_up = h.far.now (λ d. let g = sym a.waits ∙ d in cc)
-
     far_not_up : f.side.phase ≡ Up → ⊥
     far_not_up u = let e = sym a.waits ∙ u in cc
 
@@ -142,7 +136,7 @@ knows_ua {bare} {t} {n} {m} {f} {to_n} {to_n'} {to_f} {to_f'} {r} a told h = by_
           count = count;
           list = rw (listed, list) (h.near.list ∙ sym (a.alike t.uicc.number).sent);
           low = omega (arith, listed, h.near.low);
-          met = λ u. omega (arith, a.newest u, a.emitted, far_up);
+          met = λ u. omega (arith, a.newest u, a.emitted, h.far.now (λ d. let g = sym a.waits ∙ d in cc));
           told = tells told;
         }
 
@@ -547,5 +541,5 @@ takes_heard bare t ts l x xs s h = go (frame_cases x) e.phase refl
         let old : Below (shdlc_number_of n + 1) n.past = rw p at s.n_past in
         let none : ended_session n.past (shdlc_number_of m) ≡ no_session =
         none_ended (shdlc_number_of n + 1) (shdlc_number_of m) n.past (omega (arith, newest q no_wait, newer q)) old in
-        anew q false no_wait n.past h.near.past refl (alike_begin n m w no_up refl refl refl none)
+        anew q false no_wait n.past h.near.past refl (grind arith)
         (rw (q.frame, p, z, s.n_due) refl) (rw (q.frame, p, z) refl) (accepts_none e x.frame no_up)

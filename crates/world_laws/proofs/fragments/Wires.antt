@@ -1,5 +1,5 @@
 -- Whether a UA stands on a wire.
-use Rattle.world_laws.proofs.Words.{Bool, Control, List, OnWire, Ua, [], aged_wire, arith, by_test, drop, false, fits, length, nat_lt, or_parts, refl, sans}
+use Rattle.world_laws.proofs.Words.{Bool, Control, List, OnWire, Ua, [], aged_wire, arith, by_test, false, fits, length, nat_lt, or_parts, refl, sans}
 use Rattle.world_laws.proofs.Words.{true, uas, ◌++◌, ◌||◌, ◌∷◌, ◌≡◌}
 
 abbrev pub is_ua : Control → Bool
@@ -14,9 +14,6 @@ has_ua (x ∷ xs) = is_ua x.frame || has_ua xs
 abbrev pub NoUa : List OnWire → Type 0
 NoUa w = has_ua w ≡ false
 
-pub no_ua-drop : (w : List OnWire) → NoUa w → NoUa (drop 1 w)
-no_ua-drop w h = grind arith
-
 pub no_ua-rest : (x : OnWire) (xs : List OnWire) → NoUa (x ∷ xs) → NoUa xs
 no_ua-rest x xs h = (or_parts (is_ua x.frame) (has_ua xs) h).1
 
@@ -27,7 +24,7 @@ no_ua-push (y ∷ w) x q h =
     rw (p.0, no_ua-push w x q p.1) refl
 
 pub no_ua-fits : (w : List OnWire) → NoUa w → NoUa (fits w)
-no_ua-fits w h = by_test (nat_lt 64 (length w)) (λ q. rw q (no_ua-drop w h)) (λ q. rw q h)
+no_ua-fits w h = by_test (nat_lt 64 (length w)) (λ q. rw q (grind arith)) (λ q. rw q h)
 
 pub no_ua-aged : (w : List OnWire) → NoUa w → NoUa (aged_wire w)
 no_ua-aged [] h = refl
@@ -39,10 +36,4 @@ no_ua-aged (x ∷ xs) h = by_test (nat_lt x.age 4) (λ q. rw q (rw (p.0, no_ua-a
 -- as the handshake knows it
 pub no_ua-from : (w : List OnWire) → uas (sans w) ≡ [] → NoUa w
 no_ua-from [] h = refl
-no_ua-from (x ∷ xs) h = go x.frame refl (no_ua-from xs)
-  where
-    other : is_ua x.frame ≡ false → NoUa xs → NoUa (x ∷ xs)
-    other q e = rw (q, e) refl
-
-    go : (c : Control) → x.frame ≡ c → (uas (sans xs) ≡ [] → NoUa xs) → NoUa (x ∷ xs)
-    go c q later = grind arith
+no_ua-from (x ∷ xs) h = let h0 = no_ua-from xs in grind arith

@@ -4,11 +4,11 @@ use Rattle.world_laws.proofs.Words.{AllAllowed, AllOrdinaryOnLink, AreLinkRounds
 use Rattle.world_laws.proofs.Words.{FetchMessage, GoesOut, Host, IsFewWires, IsLinkRound, IsLinkUndisturbed, IsStart, Link, LinkEnd, LinkEvent, List, NextFrame}
 use Rattle.world_laws.proofs.Words.{OnWire, Side, Step, Take, Taken, Ticked, Ticks, Turn, [], after_causes, after_events-append, after_few, after_input}
 use Rattle.world_laws.proofs.Words.{after_link_events, after_steps, allowed-append, ap, arith, bare_link, bare_round_allowed, beside-put_all, cases_lt}
-use Rattle.world_laws.proofs.Words.{causes_of_round, causes_of_rounds, come_to_controller, come_to_host, cond, end_of, ended_by, event_at, event_of, events_at}
+use Rattle.world_laws.proofs.Words.{causes_of_round, causes_of_rounds, come_to_controller, come_to_host, end_of, ended_by, event_at, event_of, events_at}
 use Rattle.world_laws.proofs.Words.{exchanged, first_rest, fragments_left, frames_out, got_by_controller, got_by_host, happens, happens_at_controller, idle}
 use Rattle.world_laws.proofs.Words.{inl, inr, is_some, length, length-replicate, link_after, link_after_all, link_after_round, link_rests, map, map-append}
 use Rattle.world_laws.proofs.Words.{map-replicate, refl, replicate, rest_at_controller, rest_at_host, rounds_to_settle, settling_causes, settling_events}
-use Rattle.world_laws.proofs.Words.{steps_to_rest, subst, suc, sym, take_one, talk_now, times_among, times_ticked, took_with, true, turned, with_ended, zero, ℕ}
+use Rattle.world_laws.proofs.Words.{subst, suc, sym, take_one, talk_now, times_among, times_ticked, took_with, true, turned, with_ended, zero, ℕ}
 use Rattle.world_laws.proofs.Words.{◌*◌, ◌++◌, ◌+◌, ◌<◌, ◌∙◌, ◌∷◌, ◌≡◌, ◌≤◌}
 
 -- ## The rounds in which a link settles are rounds of the law of recovery
@@ -23,10 +23,7 @@ wire_after l x xs ts =
     let b : Bool = is_some (ended_by l.controller.side (Take x.frame)) in
     let k : Link = with_ended (record full { to_controller = xs }) b in
     let e : LinkEnd = turned (after_input l.controller.side (Take x.frame)) ts in
-    (beside-put_all (frames_out e) (record k { controller = record k.controller { took = took_with l.controller.took x } })).to_controller ∙ ended b
-  where
-    ended : (b : Bool) → (with_ended (record l { to_controller = xs }) b).to_controller ≡ xs
-    ended b = grind arith
+    (beside-put_all (frames_out e) (record k { controller = record k.controller { took = took_with l.controller.took x } })).to_controller ∙ (grind arith)
 
 -- so many frames come to the controller's end, where so many stand on its wire
 record Takes (l : Link) (es : List LinkEvent) (c h : ℕ) : Type 0 where
@@ -328,9 +325,7 @@ same_rounds (suc r) h k l =
 pub same_count : (n h k : ℕ) (l : Link) → rounds_to_settle n h l ≡ rounds_to_settle n k l
 same_count zero h k l = refl
 same_count (suc n) h k l =
-    let next : Link → ℕ = λ m. steps_to_rest link_rests (link_after_round k) n m in
-    ap (λ (s : ℕ). cond (link_rests l) 0 (suc s)) (same_count n h k (link_after_round h l) ∙ ap next (same_after h k l))
+    let h0 = link_after_round k in let h1 = link_rests l in let h2 = same_count n h k (link_after_round h l) in let h3 = same_after h k l in grind arith
 
 pub same_settling : (n h k : ℕ) (l : Link) → settling_events n h l ≡ settling_events n k l
-same_settling n h k l =
-    ap (λ (r : ℕ). map event_of (causes_of_rounds r h l)) (same_count n h k l) ∙ same_rounds (rounds_to_settle n k l) h k l
+same_settling n h k l = let h0 = same_count n h k l in let h1 = same_rounds (rounds_to_settle n k l) h k l in grind arith

@@ -35,9 +35,6 @@ use Rattle.trace_model.specs.declared.line.Line.TheVariants as saying
 round_same : (header : Header) (l : Link) → bare_round header l ≡ link_after_round (host_of header) l
 round_same header l = round_causes (host_of header) (end_of (host_of header) Controller ∷ end_of (host_of header) Host ∷ []) l
 
-after_alike : (f g : Link → Link) → ((l : Link) → f l ≡ g l) → (n : ℕ) (l : Link) → after_steps f n l ≡ after_steps g n l
-after_alike f g same n l = grind arith
-
 module _ (header : Header) (bare : header.hci ≡ false) where
   pub one_round : (before : List Line)
       → bare_link_behind header (before ++ round_behind header before) ≡ link_after_round (host_of header) (bare_link_behind header before)
@@ -60,7 +57,7 @@ module _ (header : Header) (bare : header.hci ≡ false) where
       let l : Link = bare_link_behind header (lines_played header plays) in
       bare_played_rounds header bare (rounds_to_rest header plays n) plays
       ∙ (ap (λ (r : ℕ). after_steps (bare_round header) r l) (as_many plays n)
-      ∙ (after_alike (bare_round header) (link_after_round h) (round_same header) (rounds_to_settle n h l) l
+      ∙ ((let h0 = (bare_round header) in let h1 = (link_after_round h) in let h2 = (round_same header) in let h3 = (rounds_to_settle n h l) in grind arith)
       ∙ (sym (settles n h l) ∙ after_causes (settling_causes n h l) l)))
 
 -- ### Behind the lines of a history

@@ -3,7 +3,7 @@ use Rattle.world_laws.proofs.Words.{AllByRecursion, AreBothReady, AreBothUpIn, A
 use Rattle.world_laws.proofs.Words.{AreUnheldNotes, AreUpWith, Bool, BothBrought, Follows, FollowsNodes, Header, History, IsHeader, IsLinkQuiet, IsNodeHeader}
 use Rattle.world_laws.proofs.Words.{IsPlayFor, IsPlayedLine, Line, Link, List, MayBegin, NodeHistory, Play, Round, Site, Some, [], all-append, all_entries}
 use Rattle.world_laws.proofs.Words.{and_parts, ap, arith, bare_lines, bare_link_behind, by_test, entries_since, false, fragments_noted, host_of, hosts_are}
-use Rattle.world_laws.proofs.Words.{hosts_stay_behind, in_range, is_settling, lines_may_be_played, lines_played, link_rests, node_entries, nodes_behind}
+use Rattle.world_laws.proofs.Words.{hosts_stay_behind, is_settling, lines_may_be_played, lines_played, link_rests, node_entries, nodes_behind}
 use Rattle.world_laws.proofs.Words.{playable, refl, replicate, rounds_for, rounds_to_rest, site_at, sites_rest, subst, sym, true, true≢false, ℕ, ◌&&◌, ◌*◌}
 use Rattle.world_laws.proofs.Words.{◌++◌, ◌+◌, ◌==◌, ◌∙◌, ◌∷◌, ◌≡◌, ◌≤◌}
 use Rattle.node_laws.specs.schedules.Ranges.{AreNodeLinesOf}
@@ -22,8 +22,7 @@ settles_not line rounds plain is = true≢false (sym (ap is_settling is) ∙ pla
 module _ (header : Header) where
   in_ranges : (lines : List Line) → AllByRecursion (IsPlayedLine header) lines → AreNodeLinesOf header lines
   in_ranges [] may = tt
-  in_ranges (line ∷ lines) may =
-      (in_range header line may.0.may_follow (λ rounds is. settles_not line rounds may.0.settles_not is), in_ranges lines may.1)
+  in_ranges (line ∷ lines) may = let h0 = in_ranges lines may.1 in grind arith
 
   pub played_playable : (lines : List Line) → AllByRecursion (IsPlayedLine header) lines → ArePlayable lines
   played_playable lines may = playable header lines (in_ranges lines may)
@@ -116,9 +115,6 @@ four a b c d e = grind arith
 pub link_quiet : (l : Link) → link_rests l ≡ true → IsLinkQuiet l
 link_quiet l r = grind arith
 
-pub link_resting : (l : Link) → IsLinkQuiet l → link_rests l ≡ true
-link_resting l q = grind arith
-
 -- ### Worlds
 
 pub sites_quiet : (sites : List Site) → sites_rest sites ≡ true → AllByRecursion (λ (s : Site). IsLinkQuiet s.link) sites
@@ -128,8 +124,7 @@ sites_quiet (s ∷ sites) r =
 
 pub sites_resting : (sites : List Site) → AllByRecursion (λ (s : Site). IsLinkQuiet s.link) sites → sites_rest sites ≡ true
 sites_resting [] a = refl
-sites_resting (s ∷ sites) a =
-    ap (λ (b : Bool). b && sites_rest sites) (link_resting s.link a.0) ∙ sites_resting sites a.1
+sites_resting (s ∷ sites) a = let h0 = sites_resting sites a.1 in grind arith
 
 pub site_quiet : (sites : List Site) (h : ℕ) (s : Site) → AllByRecursion (λ (x : Site). IsLinkQuiet x.link) sites → site_at sites h ≡ Some s
     → IsLinkQuiet s.link

@@ -1,9 +1,9 @@
 -- What a tap reports over a history of a world of nodes is what was got.
 use Rattle.world_laws.proofs.Words.{AreHosts, ArePlayable, Bool, End, Entry, FollowsNodes, Header, IsLine, IsLinkTold, IsSo, IsStrange, Line, Link, List}
-use Rattle.world_laws.proofs.Words.{NodeHistory, None, Noted, Occurrence, Option, Saying, [], ap, arith, by_test, cons_option, cuts_on, entries, entries_for}
+use Rattle.world_laws.proofs.Words.{NodeHistory, None, Noted, Occurrence, Option, Saying, [], ap, arith, cons_option, cuts_on, entries, entries_for}
 use Rattle.world_laws.proofs.Words.{entries_in, entries_of, false, filter_map, got_on, gots_noted, gots_on, history_so, hosts_are, is_cut, is_of, list_any}
 use Rattle.world_laws.proofs.Words.{lpdus_heard, lpdus_on, new_line, new_world, no_cut, occurrences_in, of_link, playable, put_on, refl, said, subst, sym}
-use Rattle.world_laws.proofs.Words.{tapped_lpdus, tells_of, true, untold, world_behind, ℕ, ◌++◌, ◌∙◌, ◌∷◌, ◌≡◌}
+use Rattle.world_laws.proofs.Words.{tapped_lpdus, true, world_behind, ℕ, ◌++◌, ◌∙◌, ◌∷◌, ◌≡◌}
 use Rattle.node_laws.proofs.order.Sessions.{Whether, whether}
 use Rattle.node_laws.proofs.order.Sessions.Whether.{IsNone, Stands}
 use Rattle.world_laws.specs.histories.OnLinks.{AreOfLink}
@@ -25,9 +25,8 @@ module _ (h : ℕ) where
   of_link_alone : {X : Type 0} (f : Option (End × Saying) → Option X) → ((o : Option (End × Saying)) → is_of h o ≡ false → f o ≡ None) → (t : List Entry)
       → filter_map (λ x. f (said x)) t ≡ filter_map (λ x. f (said x)) (of_link h t)
   of_link_alone f none [] = refl
-  of_link_alone {X} f none (x ∷ t) = by_test (tells_of h x)
-      (λ r. rw r (ap (cons_option (f (said x))) (of_link_alone f none t)))
-      (λ r. rw r (ap (λ o. cons_option o (filter_map (λ y. f (said y)) t)) (none (said x) (untold h x r)) ∙ of_link_alone f none t))
+  of_link_alone {X} f none (x ∷ t) =
+      let h0 = cons_option (f (said x)) in let h1 = filter_map (λ y. f (said y)) t in let h2 = said x in let h3 = of_link_alone f none t in grind arith
 
   lpdus_alone : (t : List Entry) → lpdus_on h t ≡ lpdus_on h (of_link h t)
   lpdus_alone t = of_link_alone (put_on h) put_none t
@@ -50,8 +49,7 @@ told_reports h l t a uncut =
 
 -- no link has this number
 strange_reports : (h : ℕ) (t : List Entry) → of_link h t ≡ [] → tapped_lpdus false (lpdus_on h t) ≡ gots_on h t
-strange_reports h t none =
-    ap (tapped_lpdus false) (lpdus_alone h t ∙ ap (lpdus_on h) none) ∙ sym (gots_alone h t ∙ ap (gots_on h) none)
+strange_reports h t none = let h0 = gots_on h in let h1 = lpdus_on h in let h2 = gots_alone h t in let h3 = lpdus_alone h t in grind arith
 
 pub tap_reports_world : (header : Header) (lines : List Line) (t : NodeHistory) → FollowsNodes header lines t → AreHosts header.hosts.items
     → ArePlayable lines → (front back : List Occurrence) → occurrences_in t ≡ front ++ back → (h : ℕ) → list_any (cuts_on h) (entries_in front) ≡ false

@@ -3,13 +3,13 @@ use Rattle.world_laws.proofs.Words.{AllAllowed, AllByRecursion, AreBothReady, Ar
 use Rattle.world_laws.proofs.Words.{AreUnstarted, AsksReset, AtController, AtHost, Bool, Cause, Caused, Controller, Cut, End, EndEvent, Entry, Event}
 use Rattle.world_laws.proofs.Words.{FetchMessage, Follows, Give, Given, GoesOut, Header, History, HistoryStep, Hold, Host, IsBare, IsEndOf, IsHeader, IsLineOf}
 use Rattle.world_laws.proofs.Words.{IsLinkUndisturbed, IsPlayedLine, IsRun, IsUnderWay, Line, Link, LinkEnd, LinkEvent, List, MayFollow, NextFrame, NoInput}
-use Rattle.world_laws.proofs.Words.{None, Noted, NumberedEnd, OnWire, Option, Outcome, Play, Readied, Reset, Restarted, Round, Said, Side, Some, Step}
+use Rattle.world_laws.proofs.Words.{None, Noted, NumberedEnd, OnWire, Option, Play, Readied, Reset, Restarted, Round, Said, Side, Some, Step}
 use Rattle.world_laws.proofs.Words.{StepsFollow, Take, Taken, Tick, Ticked, Turn, WasLost, WasReset, [], after_causes, after_input, after_link_events, again}
 use Rattle.world_laws.proofs.Words.{aged, all_entries, all_events, allowed_parts, ap, append-nil, append_assoc, arith, bare_link, bare_link_behind}
-use Rattle.world_laws.proofs.Words.{bare_round_lines, becomes, beside-put_all, busy_after, by_option, by_test, causes_in, causes_of, causes_of_round}
-use Rattle.world_laws.proofs.Words.{causes_of_rounds, causes_on, cond, controller_heard, damage_causes, drop, drop-append_seam, end_of, ended_by, entries}
+use Rattle.world_laws.proofs.Words.{bare_round_lines, becomes, beside-put_all, busy_after, by_test, causes_in, causes_of, causes_of_round}
+use Rattle.world_laws.proofs.Words.{causes_of_rounds, causes_on, cond, controller_heard, drop, drop-append_seam, end_of, ended_by, entries}
 use Rattle.world_laws.proofs.Words.{entries_for, entries_since, entry_of, eq-eqb, event_of, events_at, events_in, events_of, exchanged, false, first_entries}
-use Rattle.world_laws.proofs.Words.{first_verdict, flat_map-append, fold, frames_out, frames_to, happens, happens_at_controller, heard, heard-append}
+use Rattle.world_laws.proofs.Words.{flat_map-append, fold, frames_out, frames_to, happens, happens_at_controller, heard, heard-append}
 use Rattle.world_laws.proofs.Words.{host_ended, host_heard, host_of, if◌then◌else◌, is_clear, is_left_busy, is_run, is_settling, is_some, length, lines-append}
 use Rattle.world_laws.proofs.Words.{lines_played, link_after, link_after_all, link_after_line, link_after_lines, link_after_round, link_events, list_any, map}
 use Rattle.world_laws.proofs.Words.{map-append, not, notes_of, of_allowed, of_can, outcome_of, plain_trace, played_more, plays_of, plays_of_line, refl, refusal}
@@ -18,7 +18,6 @@ use Rattle.world_laws.proofs.Words.{session_number, session_up, settling_causes,
 use Rattle.world_laws.proofs.Words.{taken_of, takes_on, taking_on, ticks_at_controller, took_with, true, true≢false, turn, turned, unwrap_or, with_ended, zero}
 use Rattle.world_laws.proofs.Words.{ℕ, ◌&&◌, ◌++◌, ◌==◌, ◌∙◌, ◌∷◌, ◌≡◌}
 use Rattle.history.proofs.legal.Settled.{only_one}
-use Rattle.history.specs.Damage.{Verdict}
 use Rattle.node_laws.proofs.order.Watches.{is_cut}
 use Rattle.world_laws.proofs.links.RoundCauses.{rounds_are}
 use Rattle.world_laws.proofs.schedules.NotedQuiet.{as_many, happened_leads, one_round, settled_link}
@@ -203,8 +202,7 @@ cause_readies at_host l (Given e m) =
     (λ k. with_turn (Give m) (λ b. b) k (turned_ready k.controller.side (Give m ∷ []) k.controller.side.shdlc.ready refl))
     ∙ either (same_side e.at_host at_host) (ready_at at_host l)
 cause_readies at_host l (Taken e) =
-    at_one at_host e.at_host l (Step NextFrame (FetchMessage ∷ []) GoesOut) (λ b. b) (λ k. frame_readied k (FetchMessage ∷ []) refl)
-    ∙ either (same_side e.at_host at_host) (ready_at at_host l)
+    let h0 = at_one at_host e.at_host l (Step NextFrame (FetchMessage ∷ []) GoesOut) (λ b. b) (λ k. frame_readied k (FetchMessage ∷ []) refl) in grind arith
 cause_readies at_host l (WasLost e why) = grind arith
 cause_readies at_host l (WasReset e window) =
     at_one at_host e.at_host l (Step (AsksReset window) [] GoesOut) (λ b. b) (reset_here window) ∙ either (same_side e.at_host at_host) (ready_at at_host l)
@@ -225,8 +223,7 @@ readied_by_all at_host before (c ∷ cs) = readied_by_all at_host (readied_by at
 
 causes_ready : (at_host : Bool) (cs : List Cause) (l : Link) → ready_at at_host (link_after_all l cs) ≡ readied_by_all at_host (ready_at at_host l) cs
 causes_ready at_host [] l = refl
-causes_ready at_host (c ∷ cs) l =
-    causes_ready at_host cs (link_after l c) ∙ ap (λ b. readied_by_all at_host b cs) (cause_readies at_host l c)
+causes_ready at_host (c ∷ cs) l = let h0 = causes_ready at_host cs (link_after l c) in let h1 = cause_readies at_host l c in grind arith
 
 -- rounds say nothing of it
 rounds_ready : (at_host : Bool) (h : ℕ) (l : Link) (cs : List Cause) → AreRoundCauses h l cs → (b : Bool) → readied_by_all at_host b cs ≡ b
@@ -239,18 +236,12 @@ rounds_ready at_host h l (_ ∷ cs) a b = absurd a.0
 
 -- a line causes nothing, or these causes
 by_refusal : (P : List Cause → Type 0) (h : ℕ) (l : Link) (line : Line) → P [] → P (causes_in l line) → P (causes_of (events_of (outcome_of h l line)))
-by_refusal P h l line none some = by_option (refusal l line)
-    (λ q. let is : outcome_of h l line ≡ Caused (events_at h l (causes_in l line)) = rw q refl in
-    subst (λ (o : Outcome). P (causes_of (events_of o))) (sym is) (subst P (sym (again h l (causes_in l line))) some))
-    (λ why q. grind arith)
+by_refusal P h l line none some = let h0 = refusal l line in let h1 = events_at h l (causes_in l line) in let h2 = again h l (causes_in l line) in grind arith
 
 repeated_ready : (at_host : Bool) (c : Cause) → ((b : Bool) → readied_by at_host b c ≡ b) → (n : ℕ) (b : Bool) → readied_by_all at_host b (replicate n c) ≡ b
 repeated_ready at_host c none zero b = refl
 repeated_ready at_host c none (suc n) b =
     repeated_ready at_host c none n (readied_by at_host b c) ∙ none b
-
-damage_ready : (at_host : Bool) (e : End) (v : Option Verdict) (b : Bool) → readied_by_all at_host b (damage_causes e v) ≡ b
-damage_ready at_host e v b = grind arith
 
 module _ (header : Header) (is : IsHeader header) (at_host : Bool) where
   abbrev here : End
@@ -277,7 +268,7 @@ module _ (header : Header) (is : IsHeader header) (at_host : Bool) where
   line_ready l (saying.Deliver e count) may plain =
       kept l (saying.Deliver e count) (repeated_ready at_host (Taken e) (λ b. refl) (taken_of count (frames_to l e)))
   line_ready l (saying.Damage e places) may plain =
-      kept l (saying.Damage e places) (damage_ready at_host e (first_verdict (frames_to l e) places.items))
+      kept l (saying.Damage e places) (λ b. grind arith)
   line_ready l (saying.Tick times) may plain = kept l (saying.Tick times) (repeated_ready at_host Ticked (λ b. refl) (unwrap_or times 1))
   line_ready l (saying.Busy e) may plain = cause_readies at_host l (Readied e false) ∙ sym (same e may.1 true (ready_at at_host l))
   line_ready l (saying.Ready e) may plain = cause_readies at_host l (Readied e true) ∙ sym (same e may.1 false (ready_at at_host l))
@@ -371,9 +362,7 @@ plain_uncut (e ∷ t) p = plain_uncut t p.1
 
 round_events : (h : ℕ) (l : Link) (cs : List Cause) → AreRoundCauses h l cs → AreRoundEvents (map event_of cs)
 round_events h l [] a = tt
-round_events h l (Taken e ∷ cs) a = by_test e.at_host
-    (λ q. rw q (tt, round_events h (link_after l (Taken e)) cs a.1))
-    (λ q. rw q (tt, round_events h (link_after l (Taken e)) cs a.1))
+round_events h l (Taken e ∷ cs) a = let h0 = link_after l (Taken e) in let h1 = round_events h (link_after l (Taken e)) cs a.1 in grind arith
 round_events h l (Ticked ∷ cs) a = (tt, round_events h (link_after l Ticked) cs a.1)
 round_events h l (_ ∷ cs) a = absurd a.0
 

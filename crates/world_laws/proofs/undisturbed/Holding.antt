@@ -30,9 +30,6 @@ reset_ready e w = by_test (is_waiting e) (λ q. rw q refl) (λ q. rw q refl)
 
 -- ### An end over messages
 
-moved_ready : (e : LinkEnd) (b : Bool) (s : EndState) → (moved e b s).shdlc.ready ≡ s.ready
-moved_ready e b s = grind arith
-
 activated_ready : (e : LinkEnd) (event : ActEvent) → (activated e event).shdlc.ready ≡ e.shdlc.ready
 activated_ready e event = grind arith
 
@@ -43,7 +40,7 @@ pub had_tick_ready : (e : LinkEnd) → (had_tick e).shdlc.ready ≡ e.shdlc.read
 had_tick_ready e = grind arith
 
 pub asked_ready : (e : LinkEnd) (window : Option ℕ) → (after_input e (Reset window)).shdlc.ready ≡ e.shdlc.ready
-asked_ready e window = by_option (reset_refusal e) (λ q. rw q (moved_ready e _ _ ∙ reset_ready e.shdlc (window_of e window))) (λ why q. rw q refl)
+asked_ready e window = by_option (reset_refusal e) (λ q. rw q ((grind arith) ∙ reset_ready e.shdlc (window_of e window))) (λ why q. rw q refl)
 
 -- ### Its node's turns
 
@@ -159,10 +156,7 @@ map_there P Q f host ports k one a = by_option (port_at ports k)
 with_there : (P : Port → Type 0) (j : ℕ) (f : Port → Port) → ((p : Port) → (f p).desk.host ≡ p.desk.host) → (ports : List Port) (k : ℕ)
     → ((p : Port) → P p → P (f p)) → There P (port_at ports k) → There P (port_at (with_port j f ports) k)
 with_there P j f host ports k one a =
-    map_there P P (λ p. changed_if (p.desk.host == j) f p) (λ p. changed_host (p.desk.host == j) f p host) ports k (λ p x. by (p.desk.host == j) p x) a
-  where
-    by : (b : Bool) (p : Port) → P p → P (changed_if b f p)
-    by b p x = grind arith
+    map_there P P (λ p. changed_if (p.desk.host == j) f p) (λ p. changed_host (p.desk.host == j) f p host) ports k (λ p x. grind arith) a
 
 -- while the power of a node is on
 abbrev pub IfOn : (Work → Type 0) → Work → Type 0
@@ -172,9 +166,6 @@ IfOn J w = w.cut ≡ false → J w
 abbrev IsNoHold : Turn → Type 0
 IsNoHold (Hold held) = ⊥
 IsNoHold _ = Unit {0}
-
-no_hold : (ready : Bool) (t : Turn) → IsNoHold t → ready_after ready t ≡ ready
-no_hold ready t n = grind arith
 
 -- whether this end takes fragments is told by its turns, where it took them before or didn't
 abbrev pub AreTold : Bool → Port → Type 0
@@ -216,7 +207,7 @@ module _ (k : ℕ) (ready : Bool) where
   kept_turn : (j : ℕ) (t : Turn) (w : Work) → IsNoHold t → Kept w → Kept (turn_at j t w)
   kept_turn j t w n a =
       with_there (KeepsHeld ready) j (after_turn t) (λ p. refl) w.ports k
-      (λ p x. record { told = told_after t p x.told; held = λ busy. x.held (sym (turn_ready p.side t ∙ no_hold p.side.shdlc.ready t n) ∙ busy) }) a
+      (λ p x. record { told = told_after t p x.told; held = λ busy. x.held (sym (turn_ready p.side t ∙ (grind arith)) ∙ busy) }) a
 
   kept_desk : (j : ℕ) (f : Desk → Desk) (w : Work) → ((d : Desk) → (f d).host ≡ d.host) → ((d : Desk) → (f d).holds ≡ d.holds) → Kept w
       → Kept (with_desk j f w)
@@ -257,14 +248,11 @@ module _ (k : ℕ) (ready : Bool) where
       go None q x = absurd x
       go (Some p) q x = by_test p.side.shdlc.ready
           (λ r. grind arith)
-          (λ r. let some : option_map_or (λ (p : Port). is_held p.side) (port_at w.ports k) false ≡ true = side_is ∙ ap not r in
+          (λ r. let some : option_map_or (λ (p : Port). is_held p.side) (port_at w.ports k) false ≡ true = (rw q refl) ∙ ap not r in
           let goes : lets_go k w ≡ turn_at k (Hold false) w = rw some refl in
           subst Kept (sym goes)
           (subst (There (KeepsHeld ready)) (sym (own_changed k (after_turn (Hold false)) (λ p. refl) w.ports p q))
           (record { told = told_after (Hold false) p x; held = λ busy. absurd (true≢false (sym (turn_ready p.side (Hold false)) ∙ busy)) })))
-        where
-          side_is : option_map_or (λ (p : Port). is_held p.side) (port_at w.ports k) false ≡ is_held p.side
-          side_is = rw q refl
 
   holds_own : (short : ℕ × ℕ) (w : Work) → Told w → Kept (holds_back k short w)
   holds_own short w a = go (port_at w.ports k) refl a

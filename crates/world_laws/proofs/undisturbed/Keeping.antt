@@ -241,7 +241,7 @@ module _ (h : ℕ) where
         (λ z. mapped None (λ (s : Site). record s { link = happens s.link (AtController (Step NoInput [] CutOff)) }) (λ s. refl)
         (grind arith))
         (λ z. changed w.controller n host_cut (λ s. refl)
-        (λ s there y a. (grind arith))
+        (λ s there y a. grind arith)
         (λ s a. a))
 
     memory_held : (n : ℕ) (m : Memory) → HeldIn (with_memory n m w)

@@ -55,9 +55,6 @@ noted_calm h (_ ∷ t) u c a b = noted_calm h t u.1 c a b
 ends_off : (h : ℕ) (o : Option (End × Saying)) → is_of h o ≡ false → ends_on h o ≡ false
 ends_off h o q = grind arith
 
-loses_off : (h : ℕ) (o : Option (End × Saying)) → is_of h o ≡ false → loses_on h o ≡ false
-loses_off h o q = grind arith
-
 module _ (h : ℕ) (f : Option (End × Saying) → Bool) (off : (o : Option (End × Saying)) → is_of h o ≡ false → f o ≡ false) where
   any_of : (t : List Entry) → list_any (λ x. f (said x)) t ≡ list_any (λ x. f (said x)) (of_link h t)
   any_of [] = refl
@@ -85,9 +82,7 @@ record IsTold (h : ℕ) (l : Link) (es : List LinkEvent) (u : List Entry) : Type
 
 one_told : (h : ℕ) (l : Link) (e : LinkEvent) (u : List Entry) → IsRoundEvent e → TellOf h l e u → StandsOf h l e u → AreUnstarted (event_entries l e)
     → IsTold h l (e ∷ []) u
-one_told h l e u round told stands unstarted =
-    let same : event_entries l e ≡ entries l (e ∷ []) = sym (append-nil (event_entries l e)) in
-    grind arith
+one_told h l e u round told stands unstarted = let h0 = append-nil (event_entries l e) in grind arith
 
 none_told : (h : ℕ) (l : Link) (es : List LinkEvent) (u : List Entry) → es ≡ [] → of_link h u ≡ [] → ((x : Standing) → standing h x u ≡ x) → IsTold h l es u
 none_told h l es u q none leaves = grind arith
@@ -104,7 +99,7 @@ calm_told h l es u t a =
     let notes : List Noted = entries l es in
     noted_calm h notes t.unstarted (no_cut h u notes a.powered t.stands)
     (sym (same_of h (ends_on h) (ends_off h) u (entries_for h notes) t.told) ∙ a.undisturbed.lasting)
-    (sym (same_of h (loses_on h) (loses_off h) u (entries_for h notes) t.told) ∙ a.undisturbed.lossless)
+    (sym (same_of h (loses_on h) (λ o q. grind arith) u (entries_for h notes) t.told) ∙ a.undisturbed.lossless)
 
 -- ## What a world of nodes notes as an end takes a frame is on each link what the law of one link notes of the event there
 
@@ -114,10 +109,7 @@ unstarted_then (x ∷ xs) ys a b = (a.0, unstarted_then xs ys a.1 b)
 
 shaped_so : (who : Side) (ending : Ending) (notes : List Noted) → IsShaped who ending notes → AreUnstarted notes
 shaped_so who ending notes s =
-    subst (λ z. AreUnstarted z) (sym s.is) (unstarted_then s.body (last_of who ending) (clear_unstarted s.body s.clear) (at_last ending))
-  where
-    at_last : (ending : Ending) → AreUnstarted (last_of who ending)
-    at_last ending = grind arith
+    subst (λ z. AreUnstarted z) (sym s.is) (unstarted_then s.body (last_of who ending) (clear_unstarted s.body s.clear) (grind arith))
 
 -- an end takes a frame, or its node has turns there
 frame_unstarted : (who : Side) (l : Link) (i : LinkInput) (ts : List Turn) (ending : Ending) (b : Bool)
@@ -128,9 +120,6 @@ frame_unstarted who l i ts ending true q =
 frame_unstarted who l i ts ending false q =
     let s = shaped_step who l NoInput ts ending None refl tt in
     subst (λ z. AreUnstarted z) (sym s.is) (shaped_so who ending s.rest s.shaped)
-
-frame_round : (b : Bool) (ts : List Turn) (ending : Ending) → IsRoundEvent (AtController (Step (cond b NextFrame NoInput) ts ending))
-frame_round b ts ending = grind arith
 
 -- ### A frame is taken
 
@@ -167,7 +156,7 @@ module _ (w : NodeWorld) (h : ℕ) (s : Site) (orderly : IsOrderly w) (found : s
           let node : HasEnds 0 (hosts_in w.sites) n = subst (IfItRuns 0 (hosts_in w.sites)) r orderly.controller in
           event_told h s.link (at h) es u (after_controller w k NextFrame work).1 (first ∙ (second ∙ ap (λ m. at m ∷ []) number_of_taking))
           (noted (after_controller w k NextFrame work) (rw (p, r) refl))
-          (one_told h s.link (at h) (after_controller w k NextFrame work).1 (frame_round (h == k) (turns_at work h) (ending_of work))
+          (one_told h s.link (at h) (after_controller w k NextFrame work).1 (grind arith)
           (controller_tells w n k NextFrame h s orderly node found i p) (controller_stands w n k NextFrame h s orderly node found i p)
           (frame_unstarted Controller s.link i (turns_at work h) (ending_of work) (h == k)
           (given w n k NextFrame h s orderly node found i p (h == k) refl)))
@@ -185,17 +174,11 @@ module _ (w : NodeWorld) (h : ℕ) (s : Site) (orderly : IsOrderly w) (found : s
       link : link_to w.sites h ≡ s.link
       link = link_is w.sites h s found
 
-      same : (s.host == h) ≡ true
-      same = eq-eqb s.host h number_of_taking
-
-      Steps : NodeWorld × List Entry → Type 0
-      Steps p = world_step w (Takes (end_h h)) ≡ p
-
-      noted : (p : NodeWorld × List Entry) → Steps p → u ≡ p.1
+      noted : (p : NodeWorld × List Entry) → (world_step w (Takes (end_h h)) ≡ p) → u ≡ p.1
       noted p q = ap (λ (z : NodeWorld × List Entry). z.1) q
 
       first : es ≡ site_takes s
-      first = let own = same in rw (found, own) refl
+      first = let own = eq-eqb s.host h number_of_taking in rw (found, own) refl
 
       go : (i : Option LinkInput) (c : Option Running) → input_of (exchanged s.link) NextFrame ≡ i → s.node ≡ c → IsTold h s.link es u
       go None c p r = grind arith
@@ -289,9 +272,6 @@ same_node a b turns p q = grind arith
 one_calm : (l : Link) (e : LinkEvent) → Calm (entries l (e ∷ [])) → Calm (event_entries l e)
 one_calm l e c = (calm_parts (event_entries l e) [] c).0
 
-tick_round : (b : Bool) (c d : Node) → IsRoundEvent (tick_event b c d)
-tick_round b c d = grind arith
-
 -- ### A tick
 
 module _ (hosts : List ℕ) (w : NodeWorld) (h : ℕ) (s : Site) (r : IsReached hosts w) (found : site_at w.sites h ≡ Some s) (up : AreBothUpNow s.link)
@@ -319,7 +299,7 @@ module _ (hosts : List ℕ) (w : NodeWorld) (h : ℕ) (s : Site) (r : IsReached 
   noted =
       let e : LinkEvent = tick_event t.late t.near t.far in
       calm_told h s.link (e ∷ []) (world_ticks w).1
-      (one_told h s.link e (world_ticks w).1 (tick_round t.late t.near t.far) t.told t.stands (tick_unstarted t.late s.link t.near t.far)) notes
+      (one_told h s.link e (world_ticks w).1 (grind arith) t.told t.stands (tick_unstarted t.late s.link t.near t.far)) notes
 
   abbrev x : Site
   x = record s { link = between t.late (aged s.link) t.near }

@@ -11,7 +11,7 @@ use Rattle.world_laws.proofs.Words.{before_there, began_by, by_test, came_up, co
 use Rattle.world_laws.proofs.Words.{core_exchanged, core_happens, core_happens_here, core_of, core_step, core_take, core_tick, core_tick_rest}
 use Rattle.world_laws.proofs.Words.{core_ticks_or_cut, core_turned, core_turns, counts_first, ended_by, entries, entries-append, entries_of_events}
 use Rattle.world_laws.proofs.Words.{event_entries, event_step, exchanged, false, far, first_entries, frames_out, goes_on, happens, heard, heard-append, if_so}
-use Rattle.world_laws.proofs.Words.{is_act, is_open, is_rset, left_after, length, length-append, list_any, list_any-append, loses_aged, ltb-true, map}
+use Rattle.world_laws.proofs.Words.{is_open, is_rset, left_after, length, length-append, list_any, list_any-append, loses_aged, ltb-true, map}
 use Rattle.world_laws.proofs.Words.{mid_moved, moved, no_losses, noted_aged, noted_all, noted_event, noted_here, noted_loss, noted_tick, noted_turns}
 use Rattle.world_laws.proofs.Words.{number_now, number_of, open_up, opened, option_to_list, or_none, overflows, pushed_out, put, put-core, put_entries}
 use Rattle.world_laws.proofs.Words.{puts_entries, refl, report, rest_entries, rests_of, safe_aged, safe_reached, sans, session_up, shdlc_moved, step_entries}
@@ -91,11 +91,7 @@ cut_troubles who k e ts calm = true≢false (calm_parts (turn_entries who _ e ts
 
 aged_lost : (who : End) (w : List OnWire) → loses_aged (sans w) ≡ true → list_any troubles (aged_entries who w) ≡ true
 aged_lost who [] q = absurd (true≢false (sym q))
-aged_lost who (x ∷ xs) q = go (nat_lt x.age 4) (is_act x.frame) refl refl (aged_lost who xs)
-  where
-    go : (a b : Bool) → nat_lt x.age 4 ≡ a → is_act x.frame ≡ b → (loses_aged (sans xs) ≡ true → list_any troubles (aged_entries who xs) ≡ true)
-        → list_any troubles (aged_entries who (x ∷ xs)) ≡ true
-    go a b r s later = grind arith
+aged_lost who (x ∷ xs) q = let h0 = aged_lost who xs in grind arith
 
 aged_calm : (who : End) (w : List OnWire) → Calm (aged_entries who w) → loses_aged (sans w) ≡ false
 aged_calm who w calm = by_test (loses_aged (sans w)) (λ q. absurd (true≢false (sym (aged_lost who w q) ∙ calm))) (λ q. q)
@@ -434,10 +430,6 @@ rest_none who k e ts ending =
 
 -- ### Events
 
--- an end that is up and whose session goes on begins none
-goes_on_of_begun : (e : LinkEnd) (c : Control) → Sound e → e.shdlc.phase ≡ IsUpNow → is_some (ended_by e (Take c)) ≡ false → began_by e (Take c) ≡ false
-goes_on_of_begun e c sound up none = grind arith
-
 none_ended : (who : End) (o : Option Cause) → Calm (map (Down who) (option_to_list o)) → is_some o ≡ false
 none_ended who o c = grind arith
 
@@ -460,7 +452,7 @@ frame_none who l ts ending sound up calm = go l.to_controller refl
         subst Unbegun (sym is) (
           refl,
           both_none (told_of who h (Take x.frame)) rest
-              (told_none who (number_of h) r (whole_acked (after_input e (Take x.frame))) (goes_on_of_begun e x.frame sound up none))
+              (told_none who (number_of h) r (whole_acked (after_input e (Take x.frame))) (grind arith))
               (rest_none who (left_after l x xs) (after_input e (Take x.frame)) ts ending),
         )
 

@@ -57,9 +57,6 @@ AreFewEvents (e ∷ f ∷ es) = ⊥
 few_ready : (l : Link) (es : List LinkEvent) → AreFewEvents es → AreBothReady l → AreBothReady (after_link_events l es) → AreReadyThroughout l es
 few_ready l es few a b = grind arith
 
-few_takes : (h : ℕ) (w : NodeWorld) (e : End) → AreFewEvents (link_events_in h w (Takes e))
-few_takes h w e = grind arith
-
 few_ticks : (h : ℕ) (w : NodeWorld) → AreFewEvents (link_events_in h w TimePassing)
 few_ticks h w = grind arith
 
@@ -208,7 +205,7 @@ module _ (h : ℕ) where
           let is = happens_first w (Takes e) causes c in
           let both = none_parts first.1 second.1 (ap (λ (o : Step). list_any (is_held_on h) (entries_in o.1)) (sym is) ∙ none) in
           let g = takes_go w e h s q in
-          let one = one_ready t w s (Takes e) q m tt (few_takes h w e) g both.0 in
+          let one = one_ready t w s (Takes e) q m tt (grind arith) g both.0 in
           let more = rest (t ++ entries_in first.1) g.later g.is one.moment both.1 in
           subst (λ o. StaysReady t s.link (events_on h w (Takes e ∷ causes)) o) (sym is)
           (subst (λ es. StaysReady t s.link es (second.0, first.1 ++ second.1)) (sym (on_first h w e causes c))

@@ -1,6 +1,6 @@
 -- While a link is undisturbed, no node of it loses power and no notice on it is late.
 use Rattle.world_laws.proofs.Words.{AsksReset, AtController, AtHost, Bool, CoreAtHost, CoreEnd, CoreEndEvent, CoreLink, CoreReset, CoreTurn, CutOff, Down}
-use Rattle.world_laws.proofs.Words.{Ending, GoesOut, IsLinkUndisturbed, Link, LinkEnd, LinkState, List, NextFrame, NoInput, Node, None, OnWire, Option, Some}
+use Rattle.world_laws.proofs.Words.{Ending, GoesOut, IsLinkUndisturbed, Link, LinkEnd, List, NextFrame, Node, None, OnWire, Option, Some}
 use Rattle.world_laws.proofs.Words.{Step, Ticks, TicksWithout, Turn, Up, Waiting, [], aged, ap, arith, began, by_test, core_after, core_aged, core_all}
 use Rattle.world_laws.proofs.Words.{core_all_here, core_event, core_exchanged, core_happens_here, core_of, core_reset, core_tick, core_tick_rest}
 use Rattle.world_laws.proofs.Words.{core_ticks_if_waiting, core_ticks_or_cut, core_turned, core_turns, false, is_open, is_waiting, map, new_end, not, refl}
@@ -9,14 +9,7 @@ use Rattle.link_laws.proofs.sessions.Ties.{turned-phase}
 use Rattle.lines_told.proofs.fragments.Law.{tick_host}
 use Rattle.lines_told.proofs.fragments.Wide.{silent_host}
 
-not_down : {p : LinkState} → p ≡ Down → p ≡ Up → ⊥
-not_down a b = let z = sym a ∙ b in cc
-
 -- ## A step
-
--- the controller takes a frame, or its node has turns
-pub idle_goes_out : (l : Link) (ts : List Turn) (ending : Ending) → IsLinkUndisturbed l (AtController (Step NoInput ts ending) ∷ []) → ending ≡ GoesOut
-idle_goes_out l ts ending u = grind arith
 
 pub take_goes_out : (l : Link) (ts : List Turn) (ending : Ending) (x : OnWire) (xs : List OnWire)
     → IsLinkUndisturbed (record l { to_controller = x ∷ xs }) (AtController (Step NextFrame ts ending) ∷ []) → ending ≡ GoesOut
@@ -50,11 +43,7 @@ near_tick_goes_out l ts us CutOff later p u =
     let d : Option (List CoreTurn) = core_tick l.host.side us later in
     let b = began (map CoreAtHost (core_tick_rest l.host.side us later) ++ []) u.2 in
     let same : (core_exchanged (core_ticks_or_cut d (core_exchanged x))).controller ≡ x.controller = near_after d x in
-    absurd (not_down (ap (λ (k : CoreEnd). k.side.phase) same ∙ near_cut l.controller.side ts (core_aged (core_of l)) p) b.controller_up)
-
-pub far_tick_goes_out : (l : Link) (ts us : List Turn) (ending later : Ending) → is_open l.host.side.role ≡ true
-    → IsLinkUndisturbed l (Ticks (record { turns = ts; ending = ending }) [] (record { turns = us; ending = later }) ∷ []) → later ≡ GoesOut
-far_tick_goes_out l ts us ending later p u = grind arith
+    absurd (let z = sym (ap (λ (k : CoreEnd). k.side.phase) same ∙ near_cut l.controller.side ts (core_aged (core_of l)) p) ∙ b.controller_up in cc)
 
 -- an end that doesn't wait waits after a reset
 reset_waits : (c : CoreLink) (w : ℕ) (ts : List CoreTurn) → is_waiting c.controller.side ≡ false
@@ -120,4 +109,4 @@ calm_tick l late c h p q u = by_test (late && not (is_waiting l.controller.side.
     absurd (not_late l c.turns p waits c.ending h v))
     (λ r. let is : tick_so l late c h ≡ Ticks c [] h = rw r refl in
     let v : IsLinkUndisturbed l (Ticks c [] h ∷ []) = subst (λ e. IsLinkUndisturbed l (e ∷ [])) is u in
-    record { is = is; near = near_tick_goes_out l c.turns h.turns c.ending h.ending p v; far = far_tick_goes_out l c.turns h.turns c.ending h.ending q v })
+    record { is = is; near = near_tick_goes_out l c.turns h.turns c.ending h.ending p v; far = grind arith })

@@ -35,21 +35,11 @@ none_happens w c causes q = rw q refl
 
 pub again : (w : NodeWorld) (causes : List Happening) → all_happen w (happened_in (all_happen w causes).1) ≡ all_happen w causes
 again w [] = refl
-again w (c ∷ causes) = by_test (can_happen w c)
-    (λ q. let first = happens_first w c causes q in
-    ap (λ (r : NodeWorld × List Occurrence). all_happen w (happened_in r.1)) first
-    ∙ (happens_first w c (happened_in (all_happen v causes).1) q ∙ (ap (with_first w c) (again (world_step w c).0 causes) ∙ sym first)))
-    (λ q. grind arith)
-  where
-    v : NodeWorld
-    v = (world_step w c).0
+again w (c ∷ causes) = let h0 = can_happen w c in let h1 = again (world_step w c).0 causes in grind arith
 
 pub each_can : (w : NodeWorld) (causes : List Happening) → AllCanHappen w (happened_in (all_happen w causes).1)
 each_can w [] = tt
-each_can w (c ∷ causes) = by_test (can_happen w c)
-    (λ q. subst (λ (r : NodeWorld × List Occurrence). AllCanHappen w (happened_in r.1)) (sym (happens_first w c causes q))
-    (q, each_can (world_step w c).0 causes))
-    (λ q. subst (λ (r : NodeWorld × List Occurrence). AllCanHappen w (happened_in r.1)) (sym (none_happens w c causes q)) tt)
+each_can w (c ∷ causes) = let h0 = can_happen w c in let h1 = each_can (world_step w c).0 causes in grind arith
 
 -- ### One list behind another
 
@@ -130,9 +120,7 @@ whole_settling n w = whole_rounds (world_rounds_to_settle n w) w
 
 wire_gone : (l : Link) (x : OnWire) (xs : List OnWire) (ts : List Turn) → l.to_controller ≡ x ∷ xs
     → (happens_at_controller l (Step NextFrame ts GoesOut)).to_controller ≡ xs
-wire_gone l x xs ts wire =
-    let P : List OnWire → Type 0 = λ w. (happens_at_controller (record l { to_controller = w }) (Step NextFrame ts GoesOut)).to_controller ≡ xs in
-    subst P (sym wire) (wire_after l x xs ts)
+wire_gone l x xs ts wire = let h0 = wire_after l x xs ts in grind arith
 
 -- a node that runs on wasn't cut off
 goes_out : (k : Work) → is_some (runs_on k) ≡ true → ending_of k ≡ GoesOut
@@ -343,10 +331,7 @@ may_be w c a = grind arith
 -- whatever the world, they are such causes
 takes_only : (k : ℕ) (w : NodeWorld) (e : End) → AllByRecursion IsTakeOrTick (happened_in (all_happen w (replicate k (Takes e))).1)
 takes_only zero w e = tt
-takes_only (suc k) w e = by_test (can_happen w (Takes e))
-    (λ q. subst (λ (r : NodeWorld × List Occurrence). AllByRecursion IsTakeOrTick (happened_in r.1))
-    (sym (happens_first w (Takes e) (replicate k (Takes e)) q)) (tt, takes_only k (world_step w (Takes e)).0 e))
-    (λ q. grind arith)
+takes_only (suc k) w e = let h0 = can_happen w (Takes e) in let h1 = takes_only k (world_step w (Takes e)).0 e in grind arith
 
 only-append : (a b : List Happening) → AllByRecursion IsTakeOrTick a → AllByRecursion IsTakeOrTick b → AllByRecursion IsTakeOrTick (a ++ b)
 only-append [] b p q = q
@@ -354,8 +339,7 @@ only-append (c ∷ a) b p q = (p.0, only-append a b p.1 q)
 
 only_both : (first later : NodeWorld × List Occurrence) → AllByRecursion IsTakeOrTick (happened_in first.1) → AllByRecursion IsTakeOrTick (happened_in later.1)
     → AllByRecursion IsTakeOrTick (happened_in (both first later).1)
-only_both first later p q =
-    subst (AllByRecursion IsTakeOrTick) (sym (causes-append first.1 later.1)) (only-append (happened_in first.1) (happened_in later.1) p q)
+only_both first later p q = let h0 = causes-append first.1 later.1 in let h1 = only-append (happened_in first.1) (happened_in later.1) p q in grind arith
 
 ends_only : (ends : List End) (w : NodeWorld) → AllByRecursion IsTakeOrTick (happened_in (ends_take_all w ends).1)
 ends_only [] w = tt
@@ -387,10 +371,7 @@ ticks_both first later = ap world_ticks_in (causes-append first.1 later.1) ∙ t
 
 no_ticks : (k : ℕ) (w : NodeWorld) (e : End) → world_ticks_in (happened_in (all_happen w (replicate k (Takes e))).1) ≡ 0
 no_ticks zero w e = refl
-no_ticks (suc k) w e = by_test (can_happen w (Takes e))
-    (λ q. ap (λ (r : NodeWorld × List Occurrence). world_ticks_in (happened_in r.1)) (happens_first w (Takes e) (replicate k (Takes e)) q) ∙ no_ticks k
-    (world_step w (Takes e)).0 e)
-    (λ q. ap (λ (r : NodeWorld × List Occurrence). world_ticks_in (happened_in r.1)) (none_happens w (Takes e) (replicate k (Takes e)) q))
+no_ticks (suc k) w e = let h0 = can_happen w (Takes e) in let h1 = no_ticks k (world_step w (Takes e)).0 e in grind arith
 
 no_ticks_of_ends : (ends : List End) (w : NodeWorld) → world_ticks_in (happened_in (ends_take_all w ends).1) ≡ 0
 no_ticks_of_ends [] w = refl
@@ -446,12 +427,9 @@ none_alike [] (y ∷ ys) h e q = absurd (cc e)
 none_alike (x ∷ xs) [] h e q = absurd (cc e)
 none_alike (x ∷ xs) (y ∷ ys) h e q = by_test (x.host == h)
     (λ p. let z : Some x ≡ None = rw p at q in absurd (cc z))
-    (λ p. let off : (y.host == h) ≡ false = ap (λ (k : ℕ). k == h) (sym one) ∙ p in
+    (λ p. let off : (y.host == h) ≡ false = ap (λ (k : ℕ). k == h) (sym (cc e)) ∙ p in
     rw off (none_alike xs ys h rest (rw p at q)))
   where
-    one : x.host ≡ y.host
-    one = cc e
-
     rest : hosts_in xs ≡ hosts_in ys
     rest = cc e
 
@@ -480,10 +458,7 @@ count_both first later = ap (length {A = Happening}) (causes-append first.1 late
 -- no more happens than is to happen
 at_most : (causes : List Happening) (w : NodeWorld) → length (happened_in (all_happen w causes).1) ≤ length causes
 at_most [] w = omega arith
-at_most (c ∷ causes) w = by_test (can_happen w c)
-    (λ q. let is = ap (λ (r : NodeWorld × List Occurrence). length (happened_in r.1)) (happens_first w c causes q) in
-    omega (arith, is, at_most causes (world_step w c).0))
-    (λ q. grind arith)
+at_most (c ∷ causes) w = let h0 = can_happen w c in let h1 = at_most causes (world_step w c).0 in grind arith
 
 end_few : (w : NodeWorld) (e : End) → AreFewOnWires w → length (happened_in (end_takes_all w e).1) ≤ 64
 end_few w e few =

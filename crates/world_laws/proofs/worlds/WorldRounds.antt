@@ -9,7 +9,7 @@ use Rattle.world_laws.proofs.Words.{can_happen, cases_lt, come_to_controller, co
 use Rattle.world_laws.proofs.Words.{core_events, drop, end_c, end_h, end_takes_all, ending_of, ends_allowed, ends_events, ends_go, ends_in_order, ends_take_all}
 use Rattle.world_laws.proofs.Words.{entries_in, eq-eqb, events_on, exchanged, false, far_now, fine_there, first_rest, fragments_counted, fragments_left}
 use Rattle.world_laws.proofs.Words.{fragments_noted, fragments_of, fragments_unacked, frames_at, frames_out, got_by_controller, got_by_host, happenings}
-use Rattle.world_laws.proofs.Words.{happens, history_so, host_number, host_work, hosts_in, in_parts, inl, input_of, inr, known_after, leb-true, length}
+use Rattle.world_laws.proofs.Words.{happens, history_so, host_number, host_work, hosts_in, in_parts, inl, input_of, inr, known_after, length}
 use Rattle.world_laws.proofs.Words.{link_events_in, link_rests, link_to, nat_le, near_now, new_clf, new_line, new_link_end, new_uicc, new_world, next_so}
 use Rattle.world_laws.proofs.Words.{occurrences_in, on_allowed, open_up, packet_count, refl, replicate, rest_at_controller, rest_at_host, round_allowed}
 use Rattle.world_laws.proofs.Words.{round_events, round_goes, rounds_allowed, rounds_events, rounds_go, rounds_of_world, site_at, site_host, site_takes}
@@ -20,7 +20,7 @@ use Rattle.world_laws.proofs.Words.{◌∷◌, ◌≡◌, ◌≤◌, ◌⊎◌}
 use Rattle.node_laws.proofs.order.Lines.{of_none}
 use Rattle.node_laws.proofs.rounds.Allowing.{AreOthers, Split, TickedOfLinkEvents as Ticked, ends-append, ends_of, events-append, order_is, split}
 use Rattle.world_laws.proofs.links.RoundCauses.{wire_after}
-use Rattle.world_laws.proofs.worlds.Endings.{calm_tick, host_take_goes_out, idle_goes_out, take_goes_out}
+use Rattle.world_laws.proofs.worlds.Endings.{calm_tick, host_take_goes_out, take_goes_out}
 use Rattle.trace_model.specs.declared.line.Line.TheVariants as line
 
 -- ## Where a link is undisturbed the rounds of a world of nodes are rounds of it
@@ -143,18 +143,12 @@ idle_step l ts =
 near_step : (l : Link) (x : OnWire) (xs : List OnWire) (ts : List Turn) → l.to_controller ≡ x ∷ xs
     → IsLinkStretch l (AtController (Step NextFrame ts GoesOut) ∷ []) 1 0 0
     × ((happens l (AtController (Step NextFrame ts GoesOut))).to_controller ≡ xs)
-near_step l x xs ts wire =
-    let P : List OnWire → Type 0 = λ w. IsLinkStretch (record l { to_controller = w }) (AtController (Step NextFrame ts GoesOut) ∷ []) 1 0 0
-    × ((happens (record l { to_controller = w }) (AtController (Step NextFrame ts GoesOut))).to_controller ≡ xs) in
-    subst P (sym wire) (record { ordinary = (tt, tt); at_controller = refl; at_host = refl; passes = refl }, wire_after l x xs ts)
+near_step l x xs ts wire = let h0 = wire_after l x xs ts in grind arith
 
 far_step : (l : Link) (x : OnWire) (xs : List OnWire) (ts : List Turn) → l.to_host ≡ x ∷ xs
     → IsLinkStretch l (AtHost (Step NextFrame ts GoesOut) ∷ []) 0 1 0
     × ((happens l (AtHost (Step NextFrame ts GoesOut))).to_host ≡ xs)
-far_step l x xs ts wire =
-    let P : List OnWire → Type 0 = λ w. IsLinkStretch (record l { to_host = w }) (AtHost (Step NextFrame ts GoesOut) ∷ []) 0 1 0
-    × ((happens (record l { to_host = w }) (AtHost (Step NextFrame ts GoesOut))).to_host ≡ xs) in
-    subst P (sym wire) (record { ordinary = (tt, tt); at_controller = refl; at_host = refl; passes = refl }, wire_after (exchanged l) x xs ts)
+far_step l x xs ts wire = let h0 = wire_after (exchanged l) x xs ts in grind arith
 
 -- ### What one frame that is taken is on the link
 
@@ -250,7 +244,7 @@ module _ (hosts : List ℕ) (h : ℕ) where
           → (es ≡ []) ⊎ ((ts : List Turn) × (ending : Ending) × (es ≡ AtController (Step NoInput ts ending) ∷ [])) → IsIdle s.link es
       first es calm (inl none) = subst (IsIdle s.link) (sym none) (idle_none s.link)
       first es calm (inr some) =
-          let out : some.1 ≡ GoesOut = idle_goes_out s.link some.0 some.1 (subst (IsLinkUndisturbed s.link) some.2 calm) in
+          let out : some.1 ≡ GoesOut = grind arith in
           subst (IsIdle s.link) (sym (some.2 ∙ ap (λ e. AtController (Step NoInput some.0 e) ∷ []) out)) (idle_step s.link some.0)
 
   -- the host's end of another link does
@@ -399,10 +393,6 @@ settled l start before a w h s q came n allowed rounds calm fits =
 
 -- ## The rounds of a world of nodes are rounds of each undisturbed link, so such a link of a settled world has brought all
 
--- so many frames stand on the wire to an end
-counted_near : (w : NodeWorld) (h : ℕ) (s : Site) → site_at w.sites h ≡ Some s → length (frames_at w (end_c h)) ≡ length s.link.to_controller
-counted_near w h s q = rw q refl
-
 counted_far : (w : NodeWorld) (h : ℕ) (s : Site) → site_at w.sites h ≡ Some s → length (frames_at w (end_h h)) ≡ length s.link.to_host
 counted_far w h s q = rw q refl
 
@@ -509,7 +499,7 @@ module _ (hosts : List ℕ) (h : ℕ) where
       -- the frames that are taken first
       let idle : IsIdle s.link f1 = others_take p.before w s r q (subst (λ n. AreOthers n p.before) number p.first) ends.calm_first in
       let m1 : ℕ = length (frames_at w1 (end_c h)) in
-      let is1 : m1 ≡ length g.later.link.to_controller = counted_near w1 h g.later g.is in
+      let is1 : m1 ≡ length g.later.link.to_controller = rw g.is refl in
       let wire1 : length g.later.link.to_controller ≡ length s.link.to_controller =
       ap (λ (l : Link). length l.to_controller) g.link ∙ ap (length {A = OnWire}) idle.wire in
       let near : IsLinkStretch g.later.link f2 m1 0 0 = near_many hosts h m1 w1 g.later r1 g.is (omega (arith, is1)) one.now in
@@ -586,10 +576,9 @@ world_settled header lines t follows are p front back q h s found n u fits =
 -- of the fragments of messages behind so many, those of the messages that are among these whole are left out
 left_behind : (sent : List Message) (n : ℕ) → length (fragments_of sent) ≤ n + length (fragments_of (drop (whole_among sent n) sent))
 left_behind [] n = omega arith
-left_behind (m ∷ ms) n = by_test (nat_le (packet_count (length m.1)) n)
-    (λ q. let fits : packet_count (length m.1) ≤ n = leb-true (packet_count (length m.1)) n q in
-    rw q (omega (arith, fragments_counted m ms, fits, left_behind ms (n - packet_count (length m.1)))))
-    (λ q. rw q (omega arith))
+left_behind (m ∷ ms) n =
+    let h0 = nat_le (packet_count (length m.1)) n in let h1 = packet_count (length m.1) in let h2 = fragments_counted m ms in
+    let h3 = left_behind ms (n - packet_count (length m.1)) in grind arith
 
 pub end_left : (t : List Entry) (e : End) (n : ℕ) (talk : Talk) → Says talk → IsReadOff t e n talk → undelivered talk.session ≤ fragments_unacked t e n
 end_left t e n talk says read =
