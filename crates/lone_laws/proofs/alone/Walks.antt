@@ -2,8 +2,8 @@
 -- in a step.
 use Rattle.lone_laws.proofs.Words.{AllByRecursion, AnsweredAlone, AreInTurn, Ascending, AtEachLoneEvent, AtEachNoted, Bool, Core, Deed, Done, Due, EndForm}
 use Rattle.lone_laws.proofs.Words.{Entry, Fact, FrameComes, FrameIsRefused, Heard, HearsFirstAlone, Held, InTurn, IsDueAlone, IsHeldAlone, IsRepliedAlone}
-use Rattle.lone_laws.proofs.Words.{IsResetAlone, List, LoneEvent, NodeInput, None, Noted, OnLine, Option, Port, Replied, Short, Side, Some, StartComes}
-use Rattle.lone_laws.proofs.Words.{StopComes, TickComes, TurnsAscendAlone, Work, [], arith, core_since, deeds_of, end_causes, entries_of_events_alone, entry_of}
+use Rattle.lone_laws.proofs.Words.{IsResetAlone, List, LoneEvent, NodeInput, None, OnLine, Option, Port, Replied, Short, Some, StartComes}
+use Rattle.lone_laws.proofs.Words.{StopComes, TickComes, TurnsAscendAlone, Work, [], arith, core_since, deeds_of, end_causes, entries_of_events_alone}
 use Rattle.lone_laws.proofs.Words.{entry_written, false, first_lack_since, holds_in, is_asked_down, is_done_alone, is_fact, is_reset_alone, is_short_alone}
 use Rattle.lone_laws.proofs.Words.{lack_since, list_any, noted_since, own_side, refl, replicate, reply_since, steps, sync_due, true, ℕ, ◌++◌, ◌∷◌, ◌≡◌}
 use Rattle.gate_admin.specs.View.{hosts_where}
@@ -11,8 +11,8 @@ use Rattle.journal_laws.specs.Records.{found_from}
 use Rattle.node_laws.proofs.answers.OneFact.{AllOthers, OnlyFails, all_others_hold, answers_found, answers_wanted, at_each, first_found, first_so, first_wanted}
 use Rattle.node_laws.proofs.answers.OneFact.{heard_so, itself, none_behind, rise_ascends, same_at, same_behind, turns_rise}
 use Rattle.node_laws.proofs.answers.OneFact.Fact.{Reset}
-use Rattle.node_laws.proofs.readings.Noting.{IsBeside, IsOwnNote, NotesSo, steps_note}
-use Rattle.node_laws.proofs.telling.Accounts.{AreMute, IsMute, deeds_mute}
+use Rattle.node_laws.proofs.readings.Noting.{NotesSo, steps_note}
+use Rattle.node_laws.proofs.telling.Accounts.{AreMute, deeds_mute}
 use Rattle.pipe_table.specs.PipeRows.{lowest_free}
 use Rattle.swp_base.specs.Bits.{bits_of_byte}
 use Rattle.lone_laws.proofs.alone.Examples.{c1_record, clf, uicc}
@@ -86,17 +86,9 @@ all_in_one = refl
 abbrev pub IsUnwritten : Entry → Type 0
 IsUnwritten x = (form : EndForm) (number : ℕ) → entry_written form number x ≡ []
 
-own_unwritten : (who : Side) (h : ℕ) (x : Noted) → IsOwnNote who x → AllByRecursion IsUnwritten (entry_of h x)
-own_unwritten who h x own = grind arith
-
-beside_unwritten : (n : ℕ) (x : Entry) → IsBeside n x → IsUnwritten x
-beside_unwritten n x own = grind arith
-
 mute_unwritten : (deeds : List Deed) → AreMute deeds → AllByRecursion (NotesSo IsUnwritten) deeds
 mute_unwritten [] all = tt
-mute_unwritten (d ∷ deeds) all = (one d all.0, mute_unwritten deeds all.1) where
-  one : (d : Deed) → IsMute d → NotesSo IsUnwritten d
-  one d i = grind arith
+mute_unwritten (d ∷ deeds) all = let h0 = mute_unwritten deeds all.1 in grind arith
 
 any_ends : (ports : List Port) → AllByRecursion (λ (p : Port). Unit {0}) ports
 any_ends [] = tt
@@ -104,8 +96,8 @@ any_ends (p ∷ ports) = (tt, any_ends ports)
 
 pub steps_unwritten : (input : NodeInput) (w : Work) → AllByRecursion IsUnwritten w.entries → AllByRecursion IsUnwritten (steps input w).entries
 steps_unwritten input w none =
-    (steps_note IsUnwritten w.core.node (own_side w.core) (λ h. Unit {0}) (λ h x at own. own_unwritten (own_side w.core) h x own)
-    (λ h pid message at form number. refl) (beside_unwritten w.core.node)
+    (steps_note IsUnwritten w.core.node (own_side w.core) (λ h. Unit {0}) (λ h x at own. grind arith)
+    (λ h pid message at form number. refl) (λ x own. grind arith)
     (λ core ports h m is. mute_unwritten (deeds_of core ports h m) (deeds_mute core ports h m)) input w
     (record { number = refl; side = refl; ends = any_ends w.ports; so = none })).so
 

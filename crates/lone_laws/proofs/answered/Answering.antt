@@ -4,7 +4,7 @@ use Rattle.lone_laws.proofs.Words.{AllByRecursion, BeginWithTurn, BeginsBehind, 
 use Rattle.lone_laws.proofs.Words.{LastsOverTurns, LinkInput, List, Lone, LoneCause, Message, Port, Running, Work, [], after_turn, ap, append-nil, append_assoc}
 use Rattle.lone_laws.proofs.Words.{arith, by_test, comes_so, count_of, deeds_of, emits_behind, end_of_node, end_of_node_alone, eqb, errors_found, false}
 use Rattle.lone_laws.proofs.Words.{first_lack_since, handles, holds_back, lack_since, lacking, lets, link_of_turn, lone_input, lpdu_of, map, noted_by_deeds}
-use Rattle.lone_laws.proofs.Words.{noted_of, noted_since, noting, oldest, option_map_or, port_at, refl, reply_since, session_now, session_with, subst, sym}
+use Rattle.lone_laws.proofs.Words.{noted_since, noting, oldest, option_map_or, port_at, refl, reply_since, session_now, session_with, subst, sym}
 use Rattle.lone_laws.proofs.Words.{takes_up, true, turn_at, unhandled_in, waiting_at, with_desk, ℕ, ◌++◌, ◌∙◌, ◌∷◌, ◌≡◌, ◌≤◌}
 use Rattle.trace_model.specs.declared.entry.Entry.TheVariants as entry
 use Rattle.lone_laws.proofs.answered.Replying.{AnswersOwn, AreUntil, IsMuteEntry, IsRepliedOwn, deeds_answer, entries_of_deeds, mute_then, mutes_then}
@@ -30,9 +30,6 @@ none_until (entry.Held f need spare ∷ later) emits mute begin each =
     (λ front back x q. each (entry.Held f need spare ∷ front) back x (ap (λ es. entry.Held f need spare ∷ es) q)))
 none_until (_ ∷ later) emits mute begin each = absurd (cc begin)
 
-hold_noted_none : (core : Core) (b : Bool) (o : Option Port) → option_map_or (noted_of core (Hold b)) o [] ≡ []
-hold_noted_none core b o = grind arith
-
 module _ (rest : Core) (number h : ℕ) (some : 1 ≤ h) (most : h ≤ 7) (s : ℕ) (t : List Entry) (its : eqb number 0 ≡ false → number ≡ h) where
   abbrev F : Core
   F = found rest number h some most s t
@@ -56,7 +53,7 @@ module _ (rest : Core) (number h : ℕ) (some : 1 ≤ h) (most : h ≤ 7) (s : �
   errs_hold : (k : ℕ) (b : Bool) (w : Work) → Errs w → Errs (turn_at k (Hold b) w)
   errs_hold k b w a =
       subst (λ es. ErrorsAre e (errors_found F) (t ++ (w.entries ++ es)) (desk_errors (turn_at k (Hold b) w).ports))
-      (sym (hold_noted_none w.core b (port_at w.ports k)))
+      (sym (grind arith))
       (subst (ErrorsAre e (errors_found F) (t ++ (w.entries ++ []))) (sym (errors_with k (after_turn (Hold b)) (λ p. refl) w.ports)) (errs_more w [] tt a))
 
   errs_held : (k : ℕ) (short : ℕ × ℕ) (w : Work) → Errs w → Errs (holds_back k short w)

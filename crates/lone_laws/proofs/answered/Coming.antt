@@ -66,12 +66,6 @@ times_none TimePasses v q ports none =
     let ps : map reset_late (map with_older v.ports) ≡ v.ports = grind arith in
     ap₂ (λ z es. record v { ports = z; entries = v.entries ++ es }) ps es ∙ ap (λ z. record v { entries = z }) (append-nil v.entries)
 
--- nothing is forgotten
-freed_none : (v : Work) (q : Port) → v.ports ≡ q ∷ [] → q.desk.notice ≡ None → v.core.command ≡ None → v.core.init ≡ None
-    → all_done 0 (forgotten v.ports)
-    (record v { core = after_sessions v.core v.ports; ports = map without_notice (map (forgets v.ports) v.ports) }) ≡ v
-freed_none v q ports none command init = grind arith
-
 owed_left : (v : Work) (q : Port) → v.ports ≡ q ∷ [] → q.desk.notice ≡ None → all_owed (map (forgets v.ports) v.ports) ≡ []
 owed_left v q ports none = grind arith
 
@@ -119,7 +113,7 @@ module _ (number h : ℕ) (r : Read) (t : List Entry) where
     freed_is =
         ap (λ v. all_done 0 (forgotten v.ports)
         (record v { core = after_sessions v.core v.ports; ports = map without_notice (map (forgets v.ports) v.ports) })) came_is
-        ∙ freed_none (all_come input w) came_port came_ports a.none a.command a.init
+        ∙ (grind arith)
 
     -- As its pass begins, something has come to the end, and an identifier may have been kept.
     pub pass_is : comes_to_pass input w ≡ all_done 0 (syncs_in input w) (all_come input w)

@@ -85,9 +85,6 @@ told_mute h who n acked rep =
     (told_all (λ x. AllByRecursion IsMuteEntry (entry_of h x)) who n acked ((refl, refl, refl), tt) ((refl, refl, refl), tt)
     (λ k. ((refl, refl, refl), tt)) ((refl, refl, refl), tt) (λ m. ((refl, refl, refl), tt)) (λ c. ((refl, refl, refl), tt)) rep)
 
-arrival_mute : (l : Lone) (c : LoneCause) → AllByRecursion IsMuteEntry (lone_arrival l c)
-arrival_mute l c = grind arith
-
 mute_answers : (x : Entry) (es answers : List Entry) → IsMuteEntry x → AnswersOwn es answers → AnswersOwn (x ∷ es) answers
 mute_answers x es answers mute a = grind arith
 
@@ -193,5 +190,5 @@ module _ (rest : Core) (t : List Entry) (l : Lone) (some : 1 ≤ l.link) (most :
       subst (λ es. AnswersOwn es (noted_since G l.link t (sync_due (core_since G t) l.link c))) (sym entries_are_so)
       (subst (AnswersOwn (before ++ (noted_by_deeds 0 due come ++ (more ++ tail)))) (sym due_read)
       (mutes_answer before (noted_by_deeds 0 due come ++ (more ++ tail)) (entries_of_deeds n.core e session due)
-      (AllByRecursion-append IsMuteEntry (lone_arrival l c) (told_at first.core a.port (Some i)) (arrival_mute l c)
+      (AllByRecursion-append IsMuteEntry (lone_arrival l c) (told_at first.core a.port (Some i)) (grind arith)
       (told_mute a.port.desk.host (own_side first.core) (session_with l i) (whole_acked (after_input l.side i)) (report l.side i))) one))

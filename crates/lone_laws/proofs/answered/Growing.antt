@@ -5,9 +5,9 @@ use Rattle.lone_laws.proofs.Words.{LinkState, List, Message, NodeInput, None, Or
 use Rattle.lone_laws.proofs.Words.{S, Sends, SetAside, SetsErrors, Some, Sound, Start, Stop, Take, TakeUnknown, Tells, Tick, Turn, Ua, Ua_due, Waiting, Work}
 use Rattle.lone_laws.proofs.Words.{[], acknowledged, activated, after_frames, after_input, after_sessions, after_turn, all_changed, all_come, all_map, all_owed}
 use Rattle.lone_laws.proofs.Words.{among, anyone, ap, arith, aside_refusal, asked_at, began_by, body_of, by_list, by_option, by_test, commit, commit_writes}
-use Rattle.lone_laws.proofs.Words.{cond, done, drop, due_left, eqb, fails_within, false, fetch_cases, fetched, filter, flat_map, forgets, forgotten, frames_of}
+use Rattle.lone_laws.proofs.Words.{cond, done, drop, due_left, eqb, fails_within, false, fetched, filter, flat_map, forgets, forgotten, frames_of}
 use Rattle.lone_laws.proofs.Words.{frames_out, give_refusal, got_at, heard, if_up, inl, inr, is_faulty, is_forgotten, is_open, is_over, is_rset, is_some}
-use Rattle.lone_laws.proofs.Words.{is_waiting, length, length-append, map, most_frames, moved, nat_lt, not, notified, noting, place_of, put_down, received}
+use Rattle.lone_laws.proofs.Words.{is_waiting, length, length-append, map, most_frames, moved, nat_lt, not, notified, noting, place_of, received}
 use Rattle.lone_laws.proofs.Words.{received_cases, refl, reset_refusal, reset_with, rest_lasts, rsets_among, rsets_due, rsets_since, runs_timer, sent_all}
 use Rattle.lone_laws.proofs.Words.{steps, stopped, suc, sym, synced, take, take_answer, taken, tick_answer, ticked, times_out, true, true≢false, turn, turn_at}
 use Rattle.lone_laws.proofs.Words.{waiting_from, window_of, with_desk, with_port, with_ready, without_notice, zero, ℕ, ◌++◌, ◌+◌, ◌-◌, ◌<◌, ◌==◌, ◌∙◌, ◌∷◌, ◌≡◌}
@@ -87,10 +87,6 @@ taken_more e c = go e.phase refl c where
   go Waiting p Ua = rw p (omega arith)
   go _ p c = same c (rw p refl)
 
--- a frame makes no end wait
-taken_still : (e : EndState) (c : Control) → is_waiting e ≡ false → is_waiting (taken e c) ≡ false
-taken_still e c still = grind arith
-
 -- ### A tick and a reset
 
 left_few : (p : LinkState) (ds : List Due) → length (due_left p ds) ≤ length ds
@@ -136,17 +132,14 @@ moved_asked e b s a = grind arith
 still_asked : (s : EndState) (e : LinkEnd) → e.shdlc ≡ s → IsAsked s e
 still_asked s e q = (same_more s e.shdlc q, λ still. inl (ap is_waiting q ∙ still))
 
-down_asked : (b : Bool) (e : LinkEnd) → IsAsked e.shdlc (put_down b e)
-down_asked b e = grind arith
-
 activated_asked : (e : LinkEnd) (event : ActEvent) → IsAsked e.shdlc (activated e event)
 activated_asked e event = grind arith
 
 heard_asked : (e : LinkEnd) (c : Control) → IsAsked e.shdlc (heard e c)
 heard_asked e c = by_test (is_faulty (taken e.shdlc c).session)
-    (λ q. rw q (down_asked true e))
+    (λ q. rw q (grind arith))
     (λ q. rw q (moved_asked e (is_some (take_answer e.shdlc c).ended) (taken e.shdlc c)
-    (taken_more e.shdlc c, λ still. inl (taken_still e.shdlc c still))))
+    (taken_more e.shdlc c, λ still. inl (grind arith))))
 
 open_asked : (e : LinkEnd) (c : Control) → IsAsked e.shdlc (cond (is_open e.role) (heard e c) e)
 open_asked e c = by_test (is_open e.role) (λ q. rw q (heard_asked e c)) (λ q. rw q (still_asked e.shdlc e refl))
@@ -184,9 +177,6 @@ pub record IsTurned (s f : LinkEnd) : Type 0 where
   pub asks : rsets_due s ≤ rsets_due f
   pub few : most_due f.shdlc ≤ most_due s.shdlc
 
-same_turned : (s f g : LinkEnd) → g.shdlc ≡ f.shdlc → IsTurned s f → IsTurned s g
-same_turned s f g q a = grind arith
-
 held_turned : (e : EndState) (r : Bool)
     → (is_waiting (with_ready e r) ≡ is_waiting e) × (rsets_among e.due ≤ rsets_among (with_ready e r).due) × (most_due (with_ready e r) ≤ most_due e)
 held_turned e r = go e.ready r e.session.answered_rnr refl refl where
@@ -217,7 +207,7 @@ turn_turned s f (Hold held) a =
     let z = held_turned f.shdlc (not held) in
     grind arith
 turn_turned s f SetAside a = by_option (aside_refusal f) (λ q. rw q (record { waits = a.waits; asks = a.asks; few = a.few })) (λ why q. rw q a)
-turn_turned s f x a = same_turned s f (turn f x) refl a
+turn_turned s f x a = grind arith
 
 -- ### A node in a step
 
@@ -340,20 +330,13 @@ out_rsets f few =
 -- and nothing is due behind them
 none_left : (n : ℕ) (e : EndState) → length e.due ≤ n → (after_frames n e).due ≡ []
 none_left zero e few = by_list e.due (λ q. q) (λ d ds q. absurd (let z = ap (λ (l : List Due). length l) q in omega (arith, few, z)))
-none_left (suc n) e few =
-    none_left n (fetched e)
-    (grind arith)
+none_left (suc n) e few = let h0 = none_left n (fetched e) (grind arith) in grind arith
 
 after_waits : (n : ℕ) (e : EndState) → is_waiting (after_frames n e) ≡ is_waiting e
 after_waits zero e = refl
-after_waits (suc n) e =
-    after_waits n (fetched e) ∙ fetch_cases (λ f o. is_waiting f ≡ is_waiting e) e (λ d ds q. refl) (λ q r. refl) (λ info q r. refl)
+after_waits (suc n) e = let h0 = after_waits n (fetched e) in grind arith
 
 -- ### Sessions that begin
-
--- and the end is up then
-began_up : (e : LinkEnd) (i : LinkInput) → Sound e → began_by e i ≡ true → is_waiting (after_input e i).shdlc ≡ false
-began_up e i sound began = grind arith
 
 since_more : (i : LinkInput) (rsets : ℕ) → rsets ≤ rsets_since i rsets
 since_more i rsets = grind arith
@@ -409,7 +392,7 @@ numbered_then e session rsets a sound i may f turned = go (began_by e i) refl wh
     by (inr some) = let low = a.low in let asks = turned.asks in omega (arith, some, low, asks, out, more)
 
   go : (b : Bool) → began_by e i ≡ b → IsNumbered (sent_all f) (cond b (rsets_since i rsets) session) (rsets_since i rsets + rsets_of (frames_out f))
-  go true q = record { emptied = emptied; low = omega arith; waits = λ z. absurd (true≢false (sym z ∙ (waits ∙ began_up e i sound q))) }
+  go true q = record { emptied = emptied; low = omega arith; waits = λ z. absurd (true≢false (sym z ∙ (waits ∙ (grind arith)))) }
   go false q = record {
     emptied = emptied;
     low = let low = a.low in omega (arith, low, more);

@@ -3,7 +3,7 @@ use Rattle.std.specs.Prelude.{◌+◌, length, Some, None}
 use Rattle.lone_laws.proofs.Words.{AllByRecursion, ComesTo, Commits, Control, Core, Deed, Desk, End, Entry, LinkEnd, LinkInput, List, Lone, LoneCause, Port}
 use Rattle.lone_laws.proofs.Words.{Running, Work, [], after_input, all_come, all_do, all_done, all_synced_hold, ap, append_assoc, arith, by_list, by_test, cond}
 use Rattle.lone_laws.proofs.Words.{done, emits_behind, eqb, errors_found, false, filter, fine_at, frames_behind, frames_out, goes_in, is_rset, lone_arrival}
-use Rattle.lone_laws.proofs.Words.{lone_behind_step, lone_end, lone_input, lone_port, lpdu_of, map, node_input, own_side, passes, port_at, refl, report}
+use Rattle.lone_laws.proofs.Words.{lone_behind_step, lone_end, lone_input, lpdu_of, map, node_input, own_side, passes, port_at, refl, report}
 use Rattle.lone_laws.proofs.Words.{rsets_since, sent_all, session_with, side_behind, sound_sent, steps_are, subst, sym, syncs_in, told_at, true, true≢false}
 use Rattle.lone_laws.proofs.Words.{whole_acked, ℕ, ◌++◌, ◌∙◌, ◌∷◌, ◌≡◌, ◌≤◌}
 use Rattle.trace_model.specs.declared.entry.Entry.TheVariants as entry
@@ -22,9 +22,6 @@ abbrev pub errors_of : List Desk → ℕ
 errors_of [] = 0
 errors_of (d ∷ desks) = d.errors
 
-errors_work : (side : LinkEnd) (s : ℕ) (desks : List Desk) → desk_errors (map (lone_port side s) desks) ≡ errors_of desks
-errors_work side s desks = grind arith
-
 abbrev pub core_of : Core → ℕ → Core
 core_of rest number = record rest { node = number }
 
@@ -33,9 +30,6 @@ pub record KeepsAll (rest : Core) (t : List Entry) (l : Lone) (n : Running) : Ty
   pub keep : LoneKeeps (begin_read (core_of rest l.number)) t l n
   pub talks : LoneTalks t l
   pub errs : ErrorsAre (lone_end l) (errors_found (core_of rest l.number)) t (errors_of n.desks)
-
-arrival_settled : (e : End) (l : Lone) (c : LoneCause) → AllByRecursion (IsSettled e) (lone_arrival l c)
-arrival_settled e l c = grind arith
 
 pub emits_settled : (e f : End) (frames : List Control) → AllByRecursion (IsSettled e) (map (λ c. entry.Emit f (lpdu_of c)) frames)
 emits_settled e f [] = tt
@@ -80,8 +74,8 @@ module _ (rest : Core) (t : List Entry) (l : Lone) (some : 1 ≤ l.link) (most :
 
   errs_first : Errs first
   errs_first =
-      subst (ErrorsAre e (errors_found G) (t ++ lone_arrival l c)) (sym (errors_work l.side s n.desks))
-      (errors_then e (errors_found G) t (lone_arrival l c) (errors_of n.desks) (arrival_settled e l c) k.errs)
+      subst (ErrorsAre e (errors_found G) (t ++ lone_arrival l c)) (sym (grind arith))
+      (errors_then e (errors_found G) t (lone_arrival l c) (errors_of n.desks) (grind arith) k.errs)
 
   abbrev a : Alone l.number l.link R t first
   a = begins_alone R t l n i (lone_arrival l c) (arrival_nothing l c) k.keep

@@ -290,12 +290,6 @@ IsAtEnd e (entry.Turn f pid message) = f ≡ e
 IsAtEnd e (entry.Held f need spare) = f ≡ e
 IsAtEnd e _ = Unit {0}
 
-end_silent : (e : End) (x : Entry) → link_of_turn x ≡ None → IsAtEnd e x
-end_silent e x q = grind arith
-
-arrival_turnless : (l : Lone) (c : LoneCause) → AreNoTurns (lone_arrival l c)
-arrival_turnless l c = grind arith
-
 nothing_there : (front back : List Entry) (x : Entry) → [] ≡ front ++ (x ∷ back) → ⊥
 nothing_there [] back x z = cc z
 nothing_there (y ∷ front) back x z = cc z
@@ -329,7 +323,7 @@ module _ (found : Core) (t : List Entry) (l : Lone) (some : 1 ≤ l.link) (most 
   begun_turnless : AreNoTurns begun.entries
   begun_turnless =
       subst AreNoTurns (sym (before_entries (node_input l.link i) start))
-      (AllByRecursion-append IsNoTurn (lone_arrival l c) (noted_before_pass (node_input l.link i) start) (arrival_turnless l c)
+      (AllByRecursion-append IsNoTurn (lone_arrival l c) (noted_before_pass (node_input l.link i) start) (grind arith)
       (before_none (node_input l.link i) start))
 
   -- what is noted in the pass
@@ -408,7 +402,7 @@ module _ (found : Core) (t : List Entry) (l : Lone) (some : 1 ≤ l.link) (most 
   end_of_turn front back _ on a = tt
 
   pub at_own_end : (front behind : List Entry) (x : Entry) → noted ≡ front ++ (x ∷ behind) → IsAtEnd (lone_end l) x
-  at_own_end = entries_are (λ u x b. IsAtEnd (lone_end l) x) (λ u x b q. end_silent (lone_end l) x q) (λ f b y z on a. end_of_turn f b y on a)
+  at_own_end = entries_are (λ u x b. IsAtEnd (lone_end l) x) (λ u x b q. grind arith) (λ f b y z on a. end_of_turn f b y on a)
 
   -- ### Rest
 

@@ -1,12 +1,12 @@
 -- The memory of a node alone holds its commands, or all but the last one where its power went in that one's writes.
 use Rattle.std.proofs.lemmas.Bool.{ltb-true}
-use Rattle.lone_laws.proofs.Words.{AllByRecursion, Answer, AreTables, AreTables-apply, Ask, Bool, CanCompact, Command, Commit, Commits, Core, Counts, Creation}
+use Rattle.lone_laws.proofs.Words.{AllByRecursion, Answer, AreTables, AreTables-apply, Ask, Bool, CanCompact, Command, Commit, Commits, Core, Counts}
 use Rattle.lone_laws.proofs.Words.{Decision, Deed, Drops, Entry, FindsRoom, HasRoomForBody, HciTables, HoldsTables, Init, IsAnswered, IsCommand, IsCut}
 use Rattle.lone_laws.proofs.Words.{IsLeftBetween, IsRecordable, IsRecordableDecision, IsSome, IsSound, JoinTwo, LinkView, List, MayBeDone, Memory, Message}
 use Rattle.lone_laws.proofs.Words.{None, OfDecision, Option, Plain, Plainly, Port, Releases, Says, SaysOk, Sends, SetsErrors, Some, State, Work, Write, []}
 use Rattle.lone_laws.proofs.Words.{after-append, after_commands, after_planned, after_planned-append, after_writes, all_done, all_of_controller, all_ordered}
 use Rattle.lone_laws.proofs.Words.{all_recordable, and_cases, and_parts, ap, append-nil, append_assoc, append_count, append_writes, appended, apply, are_bodies}
-use Rattle.lone_laws.proofs.Words.{are_commands, arith, asked_at, body_in, body_of, by_test, command_of, commands_of_entries, commit, commit_writes, committed}
+use Rattle.lone_laws.proofs.Words.{are_commands, arith, body_in, body_of, by_test, command_of, commands_of_entries, commit, commit_writes, committed}
 use Rattle.lone_laws.proofs.Words.{compact_writes, compacted, cond, controller_deeds, count_of, current, cut-append, decided, decided_holds}
 use Rattle.lone_laws.proofs.Words.{decided_tells_others, dest_in, done, end_of_node, end_view, eqb, eqb-false, eqb-true, fails_within, false, false≢true}
 use Rattle.lone_laws.proofs.Words.{first_other, fold-append, format_all_or_nothing, format_writes, formatted, gate_at, has, holds_more, holds_snapshot}
@@ -130,10 +130,7 @@ controller_own n core p h m host none some most sorted two =
     own_decision core.tables p h host n d
     (tells_nobody core.tables p h host d (decided_tells_others core.tables v h m.0 k (body_in m.1) two) (asks_nobody core.tables p h host m.0 k (body_in m.1)))
     (decided_recordable core.tables v h m.0 k (body_in m.1) sorted some most))
-    (λ q c here asked. absurd (unasked q c here asked)) (λ errors k value command gate is. tt)
-  where
-    unasked : (q : Port) (c : Creation) → port_at (p ∷ []) h ≡ Some q → asked_at q ≡ Some c → ⊥
-    unasked q c here asked = grind arith
+    (λ q c here asked. absurd (grind arith)) (λ errors k value command gate is. tt)
 
 -- What a host does with a message, where no command of it waits for its answer.
 pub host_own : (n : ℕ) → eqb n 0 ≡ false → (core : Core) (p : Port) (m : Message) → core.command ≡ None
@@ -155,10 +152,7 @@ host_own n another core p m none =
 
 none_is_other : (j : ℕ) (bodies : List (List ℕ)) → first_other j bodies ≡ None → are_commands bodies ≡ true
 none_is_other j [] q = refl
-none_is_other j (b ∷ bodies) q = by (is_some (command_of b)) refl (none_is_other (j + 1) bodies) q where
-  by : (c : Bool) → is_some (command_of b) ≡ c → (first_other (j + 1) bodies ≡ None → are_commands bodies ≡ true)
-      → cond c (first_other (j + 1) bodies) (Some j) ≡ None → are_commands (b ∷ bodies) ≡ true
-  by c z later y = grind arith
+none_is_other j (b ∷ bodies) q = let h0 = is_some (command_of b) in let h1 = none_is_other (j + 1) bodies in grind arith
 
 -- a memory with which nothing is wrong is sound, and its records are commands
 pub fault_none : (content : List ℕ) → image_fault content ≡ None → IsSound (journal content) × (are_commands (records content) ≡ true)

@@ -2,7 +2,7 @@
 -- and whether the first of them was noted as held.
 use Rattle.std.specs.Prelude.{nat_lt, length, Option, None}
 use Rattle.lone_laws.proofs.Words.{Acked, Active, AllByRecursion, AreTables, AreTables-apply, Bool, Command, Commits, Core, Deed, Desk, Down, Drops, End}
-use Rattle.lone_laws.proofs.Words.{EndedBy, Entry, FetchMessage, GaveUp, Give, Got, IsAnswered, IsCommand, JoinTwo, JoinTwo-after, LinkEnd, List, Message}
+use Rattle.lone_laws.proofs.Words.{Entry, FetchMessage, GaveUp, Give, Got, IsAnswered, IsCommand, JoinTwo, JoinTwo-after, LinkEnd, List, Message}
 use Rattle.lone_laws.proofs.Words.{Noted, Port, Release, Releases, Report, SaysOk, Sends, SetsErrors, Side, Turn, Up, Work, [], after_turn, ap, append-nil}
 use Rattle.lone_laws.proofs.Words.{append_assoc, arith, body_of, by_test, commit, commit_writes, common_steps, cond, core_noted, core_with, done, end_of}
 use Rattle.lone_laws.proofs.Words.{end_of_node, end_of_node_alone, entries_for, eqb, fails_within, false, fold, fold-append, holds_after, if_so, keeps, map}
@@ -87,12 +87,6 @@ got_read e h who n own (m ∷ ms) r =
 quiet_so : (b : Bool) (x : Noted) → IsQuiet x → AllByRecursion IsQuiet (if_so b x)
 quiet_so b x a = grind arith
 
-ended_quiet : (who : Side) (o : Option EndedBy) → AllByRecursion IsQuiet (map (Down who) (option_to_list o))
-ended_quiet who o = grind arith
-
-tries_quiet : (who : Side) (o : Option ℕ) → AllByRecursion IsQuiet (map (GaveUp who) (option_to_list o))
-tries_quiet who o = grind arith
-
 pub told_read : (e : End) (h : ℕ) (who : Side) (n acked : ℕ) (rep : Report) (r : Read) → same_end (end_of h who) e ≡ true
     → read_all e r (entries_for h (told who n rep acked)) ≡ record r { left = r.left ++ rep.got }
 told_read e h who n acked rep r own =
@@ -100,10 +94,10 @@ told_read e h who n acked rep r own =
     let four : List Noted = if_so (nat_lt 0 rep.acked) (Acked who n acked) ++ five in
     let three : List Noted = map (GaveUp who) (option_to_list rep.gave_up) ++ four in
     let two : List Noted = if_so rep.became_active (Active who) ++ three in
-    quiet_first e h (map (Down who) (option_to_list rep.ended)) (if_so rep.began (Up who n) ++ two) r (ended_quiet who rep.ended)
+    quiet_first e h (map (Down who) (option_to_list rep.ended)) (if_so rep.began (Up who n) ++ two) r (grind arith)
     ∙ (quiet_first e h (if_so rep.began (Up who n)) two r (quiet_so rep.began (Up who n) tt)
     ∙ (quiet_first e h (if_so rep.became_active (Active who)) three r (quiet_so rep.became_active (Active who) tt)
-    ∙ (quiet_first e h (map (GaveUp who) (option_to_list rep.gave_up)) four r (tries_quiet who rep.gave_up)
+    ∙ (quiet_first e h (map (GaveUp who) (option_to_list rep.gave_up)) four r (grind arith)
     ∙ (quiet_first e h (if_so (nat_lt 0 rep.acked) (Acked who n acked)) five r
     (quiet_so (nat_lt 0 rep.acked) (Acked who n acked) tt)
     ∙ got_read e h who n own rep.got r))))

@@ -1,8 +1,8 @@
 -- What a node alone notes of a message that has its turn is the reply that is read: all is its own, of few shapes, and as for any node.
 use Rattle.lone_laws.proofs.Words.{AllByRecursion, Answer, AnswersSo, AreNoBoots, AreOwn, Ask, Bool, Clear, Command, Commit, Commits, Control, Core, Create}
-use Rattle.lone_laws.proofs.Words.{Creation, Decision, Deed, Delete, Desk, Drops, End, Entry, IsAnswered, IsDueAlone, IsNoBoot, IsOwn, IsRepliedAlone, IsUpNow}
+use Rattle.lone_laws.proofs.Words.{Decision, Deed, Delete, Desk, Drops, End, Entry, IsAnswered, IsDueAlone, IsOwn, IsRepliedAlone, IsUpNow}
 use Rattle.lone_laws.proofs.Words.{JoinTwo, LinkInput, LinkView, List, Lone, LoneCause, LoneEvent, Message, NodeInput, None, Option, Port, Running, SaysOk}
-use Rattle.lone_laws.proofs.Words.{Sends, SetsErrors, Some, Tells, Work, Write, [], accepts, all_append, all_done, answer_of, ap, ap₂, arith, asked_at}
+use Rattle.lone_laws.proofs.Words.{Sends, SetsErrors, Some, Tells, Work, Write, [], accepts, all_append, all_done, answer_of, ap, ap₂, arith}
 use Rattle.lone_laws.proofs.Words.{before_turn, body_in, body_of, by_option, by_test, commit_deeds, commit_writes, cond, controller_deeds, controller_holds}
 use Rattle.lone_laws.proofs.Words.{core_since, core_with, count_of, decided, decided_tells_others, decision_deeds, done, end_of_node, end_of_node_alone}
 use Rattle.lone_laws.proofs.Words.{end_of_number, end_view, entries_of_reply, eqb, eqb-true, false, filter, finds_room, gates, give_refusal, goes_in, has}
@@ -13,7 +13,7 @@ use Rattle.lone_laws.proofs.Words.{steps, subst, sym, sync_due, take_while-cons,
 use Rattle.lone_laws.proofs.Words.{◌∷◌, ◌≡◌}
 use Rattle.gate_identity.specs.Identity.{identity_served}
 use Rattle.gate_link.specs.Link.{link_served}
-use Rattle.node_laws.proofs.power.Steps.{Fine, IsEndOf, Runs, steps_fine}
+use Rattle.node_laws.proofs.power.Steps.{Fine, IsEndOf, steps_fine}
 use Rattle.lone_laws.proofs.answered.Memories.{TellsNobody, asks_nobody, tells_nobody}
 use Rattle.gate_answers.specs.declared.response.Response.TheVariants as response
 use Rattle.trace_model.specs.declared.entry.Entry.TheVariants as entry
@@ -136,13 +136,10 @@ module _ (l : Lone) (its : eqb l.number 0 ≡ false → l.number ≡ l.link) whe
       → AreOwn l.number ((steps input (lone_work l n i (lone_arrival l c))).entries ++ map (λ c. entry.Emit (lone_end l) (lpdu_of c)) frames)
   step_own n d desks host number c i input frames =
       all_append (IsOwn l.number) (steps input begun).entries (map (λ c. entry.Emit (lone_end l) (lpdu_of c)) frames)
-      (fine_own (steps input begun) (steps_fine l.number input begun runs)) (frames_own frames)
+      (fine_own (steps input begun) (steps_fine l.number input begun (grind arith))) (frames_own frames)
     where
       begun : Work
       begun = lone_work l n i (lone_arrival l c)
-
-      runs : Runs l.number begun
-      runs = grind arith
 
 -- ## What a node with one link does with a message: nothing, or one message is dropped or sent, behind a command or REC_ERROR, if at all
 
@@ -186,14 +183,11 @@ controller_reply core p h m host none two =
           (tells_nobody core.tables p h host d (decided_tells_others core.tables v h m.0 n (body_in m.1) two) (asks_nobody core.tables p h host m.0 n
           (body_in m.1)));
       hears = λ q reply here asked. IsHeard;
-      agrees = λ flag q c reply here asked room. absurd (unasked q c here asked);
+      agrees = λ flag q c reply here asked room. absurd (grind arith);
     })
   where
     same : (q : Port) → port_at (p ∷ []) h ≡ Some q → p ≡ q
     same q here = grind arith
-
-    unasked : (q : Port) (c : Creation) → port_at (p ∷ []) h ≡ Some q → asked_at q ≡ Some c → ⊥
-    unasked q c here asked = grind arith
 
 accepts_reply : (core : Core) (c : Command) → IsLoneReply (accepts (own_view core) c)
 accepts_reply core c = by_test (finds_room core c)
@@ -356,37 +350,26 @@ mutes_then (x ∷ xs) es answers cut mute a = mute_then x (xs ++ es) answers cut
 pub turn_then : (x : Entry) (es : List Entry) → is_own_turn x ≡ true → AreUntil [] false (x ∷ es)
 turn_then x es turn = (ap (λ b. filter is_own_answer (cond b [] (x ∷ to_turn es))) turn, ap (λ b. list_any is_own_cut (cond b [] (x ∷ to_turn es))) turn)
 
--- an answer, behind which come others
-answer_then : (x : Entry) (es answers : List Entry) (cut : Bool) → is_own_answer x ≡ true → is_own_turn x ≡ false → is_own_cut x ≡ false
-    → AreUntil answers cut es → AreUntil (x ∷ answers) cut (x ∷ es)
-answer_then x es answers cut is off on a = grind arith
-
 -- these are answers alone
 abbrev pub IsAnswerEntry : Entry → Type 0
 IsAnswerEntry x = (is_own_answer x ≡ true) × (is_own_turn x ≡ false) × (is_own_cut x ≡ false)
 
 answers_then : (xs es : List Entry) → AllByRecursion IsAnswerEntry xs → AreUntil [] false es → AreUntil xs false (xs ++ es)
 answers_then [] es are a = a
-answers_then (x ∷ xs) es are a = answer_then x (xs ++ es) xs false are.0.0 are.0.1 are.0.2 (answers_then xs es are.1 a)
+answers_then (x ∷ xs) es are a = let h0 = (xs ++ es) in let h1 = (answers_then xs es are.1 a) in grind arith
 
 -- the entries of deeds are answers
 pub deeds_answer : (e : End) (session : Option ℕ) (deeds : List Deed) (core : Core) → AllByRecursion IsAnswerEntry (entries_of_deeds core e session deeds)
 deeds_answer e session [] core = tt
 deeds_answer e session (Commits c ∷ deeds) core = ((refl, refl, refl), deeds_answer e session deeds (core_with core c))
-deeds_answer e session (Sends to m ∷ deeds) core = by (eqb to e.link) session (deeds_answer e session deeds core) where
-  by : (b : Bool) (s : Option ℕ) → AllByRecursion IsAnswerEntry (entries_of_deeds core e session deeds)
-      → AllByRecursion IsAnswerEntry (cond b (option_map_or (λ n. entry.Sent e n m.0 m.1 ∷ []) s []) [] ++ entries_of_deeds core e session deeds)
-  by b s later = grind arith
+deeds_answer e session (Sends to m ∷ deeds) core = let h0 = deeds_answer e session deeds core in grind arith
 deeds_answer e session (SaysOk ∷ deeds) core = ((refl, refl, refl), deeds_answer e session deeds core)
 deeds_answer e session (Drops pid ∷ deeds) core = ((refl, refl, refl), deeds_answer e session deeds core)
 deeds_answer e session (_ ∷ deeds) core = deeds_answer e session deeds core
 
-answer_unbooted : (x : Entry) → IsAnswerEntry x → IsNoBoot x
-answer_unbooted x a = grind arith
-
 pub answers_unbooted : (es : List Entry) → AllByRecursion IsAnswerEntry es → AreNoBoots es
 answers_unbooted [] a = tt
-answers_unbooted (x ∷ es) a = (answer_unbooted x a.0, answers_unbooted es a.1)
+answers_unbooted (x ∷ es) a = ((grind arith), answers_unbooted es a.1)
 
 -- What is noted as a reply, and then nothing until the next turn, are the answers that are read.
 pub noted_answers : (number h : ℕ) (cut : Bool) (noted reply rest : List Entry) → AllByRecursion IsAnswerEntry reply → IsNotedSo number h cut noted reply

@@ -29,13 +29,10 @@ of_step x a = grind arith
 
 -- ## What is noted behind what comes
 
-or_same : (a b c : Bool) → b ≡ c → (a || b) ≡ (a || c)
-or_same a b c q = ap (λ z. a || z) q
-
 any_quiet : (a es : List Entry) → AreQuiet es → list_any is_asked_down (a ++ es) ≡ list_any is_asked_down a
 any_quiet [] [] quiet = refl
 any_quiet [] (x ∷ es) quiet = ap (λ b. b || list_any is_asked_down es) quiet.0 ∙ any_quiet [] es quiet.1
-any_quiet (x ∷ a) es quiet = or_same (is_asked_down x) (list_any is_asked_down (a ++ es)) (list_any is_asked_down a) (any_quiet a es quiet)
+any_quiet (x ∷ a) es quiet = ap (λ z. (is_asked_down x) || z) (any_quiet a es quiet)
 
 -- ## What an input tells
 

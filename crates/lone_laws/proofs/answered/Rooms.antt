@@ -3,8 +3,8 @@ use Rattle.lone_laws.proofs.Words.{Bool, Command, Commits, Deed, Desk, Drops, En
 use Rattle.lone_laws.proofs.Words.{None, Port, Release, Releases, SaysOk, Sends, SetAside, SetsErrors, Side, Some, Sound, Turn, Work, [], after_turn, ap}
 use Rattle.lone_laws.proofs.Words.{append-nil, append_assoc, arith, body_of, by_option, by_test, changed_if, commit, commit_writes, cond, done, end_of}
 use Rattle.lone_laws.proofs.Words.{end_of_node, end_of_node_alone, entries_for, eqb, eqb-true, fails_within, false, fetched_acked, fragments_of, give_refusal}
-use Rattle.lone_laws.proofs.Words.{given, is_up, keeps, length, loses_power, most_frames, not, noted_of, noting, option_map_or, own_side, packet_count, port_at}
-use Rattle.lone_laws.proofs.Words.{ready_cases, refl, same_end, same_end_itself, sent_all, sound_turn, spare, spare_at, subst, sym, true, true≢false, turn}
+use Rattle.lone_laws.proofs.Words.{given, is_up, keeps, length, loses_power, most_frames, noted_of, noting, option_map_or, own_side, packet_count, port_at}
+use Rattle.lone_laws.proofs.Words.{refl, same_end, same_end_itself, sent_all, sound_turn, spare, spare_at, subst, sym, true, true≢false, turn}
 use Rattle.lone_laws.proofs.Words.{turn_at, turn_entry, whole_acked, whole_among, whole_given, with_desk, with_port, ℕ, ◌++◌, ◌<◌, ◌∙◌, ◌∷◌, ◌≡◌}
 use Rattle.trace_model.specs.declared.entry.Entry.TheVariants as entry
 use Rattle.link_laws.proofs.sessions.Ties.{after_frames-phase}
@@ -24,12 +24,6 @@ pub lone_turn_sound : (s : LinkEnd) (x : Turn) → IsLoneTurn x → Sound s → 
 lone_turn_sound s (Give m) may a = sound_turn s (Give m) (may, tt) a
 lone_turn_sound s SetAside may a = absurd may
 lone_turn_sound s x may a = sound_turn s x tt a
-
-lone_turn_kind : (s : LinkEnd) (x : Turn) → IsLoneTurn x → kind_of (turn s x).role ≡ kind_of s.role
-lone_turn_kind s x may = grind arith
-
-lone_turn_aside : (s : LinkEnd) (x : Turn) → IsLoneTurn x → s.aside ≡ 0 → (turn s x).aside ≡ 0
-lone_turn_aside s x may a = grind arith
 
 given_talk : (s : LinkEnd) (m : Message) (k : ℕ) → IsSendable m → Sound s
     → talk_of_side (given s m) k ≡ record (talk_of_side s k) { sent = s.sent ++ m ∷ [] }
@@ -57,9 +51,7 @@ module _ (e : End) (n : ℕ) (who : Side) (h : ℕ) (own : same_end (end_of h wh
   pub turn_reads : (s : LinkEnd) (k : ℕ) (x : Turn) → IsLoneTurn x → Sound s → Reads e n k t (talk_of_side s k)
       → Reads e n k (t ++ entries_for h (turn_entry who k s x)) (talk_of_side (turn s x) k)
   turn_reads s k (Give m) may sound r = sent_reads s k m may sound r
-  turn_reads s k (Hold held) may sound r =
-      subst (Reads e n k (t ++ []))
-      (ready_cases (λ f. talk_of_side s k ≡ talk_of_side (record s { shdlc = f }) k) s.shdlc (not held) refl refl refl) (none_more k s r)
+  turn_reads s k (Hold held) may sound r = let h0 = none_more k s r in grind arith
   turn_reads s k SetAside may sound r = absurd may
   turn_reads s k _ may sound r = none_more k s r
 
@@ -116,8 +108,8 @@ module _ (number h s : ℕ) (t : List Entry) where
         host = a.host;
         node = a.node;
         same = a.same;
-        aside = lone_turn_aside a.port.side y may a.aside;
-        role = lone_turn_kind a.port.side y may ∙ a.role;
+        aside = grind arith;
+        role = (grind arith) ∙ a.role;
         sound = lone_turn_sound a.port.side y may a.sound;
         talk = then_noted w es (turn a.port.side y)
             (subst (λ l. Reads e number s ((t ++ w.entries) ++ l) (talk_of_side (turn a.port.side y) s))

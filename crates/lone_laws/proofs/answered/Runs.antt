@@ -243,12 +243,9 @@ module _ (rest : Core) (number h : ℕ) (some : 1 ≤ h) (most : h ≤ 7) (its :
 
   pass_holds : (w : Work) → Has w → Of w → Fine (passes w)
   pass_holds w g a =
-      subst (λ hs. Fine (goes_through_ends hs w)) (sym hosts)
+      subst (λ hs. Fine (goes_through_ends hs w)) (sym (ap hosts_of_ends a.ports_are ∙ ap (λ n. n ∷ []) a.host))
       (then_hold E tables many before old (goes_through_ends []) (have_turns h (waiting_at w.ports h) w)
       (turns_hold h (waiting_at w.ports h) w g a refl) (λ z. inl z))
-    where
-      hosts : hosts_of_ends w.ports ≡ h ∷ []
-      hosts = ap hosts_of_ends a.ports_are ∙ ap (λ n. n ∷ []) a.host
 
   -- a step
   step_holds : (i : LinkInput) → IsLoneInput i → (w : Work) → Has w → Of w → Fine (steps (node_input h i) w)
@@ -315,10 +312,7 @@ module _ (E : Type 0) (tables : HciTables) (many : ℕ) where
   -- entries without commands
   remembers_on : (t es : List Entry) (m : Memory) (n v : Running) → commands_of_entries es ≡ [] → v.core ≡ n.core → Remembers E tables many t m n
       → Remembers E tables many (t ++ es) m v
-  remembers_on t es m n v none same a =
-      let told : commands_of_entries (t ++ es) ≡ commands_of_entries t =
-      commands_more t es ∙ (ap (λ l. commands_of_entries t ++ l) none ∙ append-nil (commands_of_entries t)) in
-      grind arith
+  remembers_on t es m n v none same a = let h0 = commands_more t es in let h1 = append-nil (commands_of_entries t) in grind arith
 
   input_remembers : (rest : Core) (t : List Entry) (l : Lone) → 1 ≤ l.link → l.link ≤ 7 → (eqb l.number 0 ≡ false → l.number ≡ l.link) → (n : Running)
       → l.node ≡ Some n → LoneKeeps (begin_read (record rest { node = l.number })) t l n → (c : LoneCause) (i : LinkInput) → lone_input c ≡ Some i
@@ -406,9 +400,7 @@ module _ (E : Type 0) (tables : HciTables) (many : ℕ) where
 
     off_stays : (causes : List LoneCause) (l : Lone) → l.node ≡ None → lone_after l causes ≡ l
     off_stays [] l off = refl
-    off_stays (c ∷ causes) l off =
-        let same : (lone_step l c).0 ≡ l = ap (λ (x : Lone × List Entry). x.0) (ap (does_by_power l c) off) in
-        ap (λ (x : Lone). lone_after x causes) same ∙ off_stays causes l off
+    off_stays (c ∷ causes) l off = let h0 = lone_step l c in let h1 = does_by_power l c in let h2 = off_stays causes l off in grind arith
 
     run_remembers : (causes : List LoneCause) (t : List Entry) (l : Lone) → Between rest number h t l → AllRemembered E tables many t l
         → AllRemembered E tables many (t ++ entries_of_events_alone (lone_events l causes)) (lone_after l causes)

@@ -113,19 +113,13 @@ silent_unsent x a = grind arith
 silent_uncounted : (x : Entry) → IsSilent x → IsUncounted x
 silent_uncounted x a = grind arith
 
-silent_unasked : (x : Entry) → IsSilent x → IsUnasked x
-silent_unasked x a = grind arith
-
 -- ### One entry more
 
 always : (b : Bool) (o : Option (List ℕ)) → o ≡ None → cond b o o ≡ None
 always b o q = grind arith
 
-unasked_one : (h : ℕ) (x : Entry) → IsUnasked x → asking_after h None x ≡ None
-unasked_one h x a = grind arith
-
 unasked_more : (h : ℕ) (t : List Entry) (x : Entry) → IsUnasked x → asking_in t h ≡ None → asking_in (t ++ x ∷ []) h ≡ None
-unasked_more h t x a none = fold-append (asking_after h) None t (x ∷ []) ∙ (ap (λ o. asking_after h o x) none ∙ unasked_one h x a)
+unasked_more h t x a none = fold-append (asking_after h) None t (x ∷ []) ∙ (ap (λ o. asking_after h o x) none ∙ (grind arith))
 
 module _ (e : End) where
   session_same : (n : ℕ) (t : List Entry) (x : Entry) → IsSilent x → session_now (t ++ x ∷ []) e n ≡ session_now t e n
@@ -246,7 +240,7 @@ module _ (e : End) (n : ℕ) where
     acked = λ k q. acked_same e k t y (silent_uncounted y a) ∙ r.acked k q;
     none_sent = λ k q. sent_same e k t y (silent_unsent y a) ∙ r.none_sent k q;
     none_acked = λ k q. acked_same e k t y (silent_uncounted y a) ∙ r.none_acked k q;
-    unasked = unasked_more e.link t y (silent_unasked y a) r.unasked;
+    unasked = unasked_more e.link t y (grind arith) r.unasked;
   }
 
   -- entries that say nothing of it

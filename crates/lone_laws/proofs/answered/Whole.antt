@@ -96,10 +96,7 @@ cut_noted input w on =
     rest_lasts IsCutNoted (λ d. Unit {0}) (λ h m. Unit {0}) cut_lasts (forgotten came.ports) (flat_map (synced w.core input) w.ports) (all_owed left)
     (record came { core = after_sessions came.core came.ports; ports = map without_notice left })
     (anyone (λ d. Unit {0}) (λ d. tt) _) (anyone (λ d. Unit {0}) (λ d. tt) _) (anyone (λ d. Unit {0}) (λ d. tt) _)
-    (λ q. absurd (true≢false (sym q ∙ still input)))
-  where
-    still : (input : NodeInput) → (times_out input (all_come input w)).cut ≡ false
-    still input = grind arith
+    (λ q. absurd (true≢false (sym q ∙ (grind arith))))
 
 -- ## In an event of a node alone turns stand in the order of their links, since it has one, and nothing comes behind an answer
 
