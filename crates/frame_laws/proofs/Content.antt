@@ -47,15 +47,12 @@ right_bytes lpdu crc is =
 
 pub right_content : (lpdu : List ℕ) → IsLpdu lpdu → AreBytes lpdu → judged (bits_of (with_crc lpdu)) ≡ Frame lpdu
 right_content lpdu sized bytes =
-    judged_whole (bits_of (with_crc lpdu)) (omega (arith, long, sized.0)) (omega (arith, long, sized.1)) whole
+    judged_whole (bits_of (with_crc lpdu)) (omega (arith, long, sized.0)) (omega (arith, long, sized.1)) (omega (arith, long))
     ∙ ap judged_bytes spelled
     ∙ right_bytes lpdu (crc_of lpdu) refl
   where
     long : length (bits_of (with_crc lpdu)) ≡ 8 * (length lpdu + 2)
     long = length-bits_of (with_crc lpdu) ∙ ap (λ n. 8 * n) (length-append lpdu (crc_of lpdu / 256 ∷ crc_of lpdu % 256 ∷ []))
-
-    whole : length (bits_of (with_crc lpdu)) % 8 ≡ 0
-    whole = omega (arith, long)
 
     high_small : crc_of lpdu / 256 < 256
     high_small = omega (arith, crc_small lpdu)

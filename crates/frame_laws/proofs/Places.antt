@@ -1,5 +1,5 @@
 -- The open frame by the places of marks.
-use Rattle.std.proofs.Common.{◌≡◌, ℕ, suc, zero, ◌<◌, List, [], ◌∷◌, ◌++◌, Option, Some, None, option_map, length, drop, refl, sym, ap, ◌∙◌, subst, arith}
+use Rattle.std.proofs.Common.{◌≡◌, ℕ, suc, ◌<◌, List, [], ◌∷◌, ◌++◌, Option, Some, None, option_map, length, drop, refl, sym, ap, ◌∙◌, subst, arith}
 use Rattle.std.specs.Prelude.{◌↔◌}
 use Rattle.swp_frame.specs.Signal.{Symbol, Mark, start_mark, end_mark, no_mark, break_mark, mark_of, since_mark, since_start}
 use Rattle.frame_laws.specs.Marks.{IsOpenSince}
@@ -14,31 +14,23 @@ longer newest older s none is = record {
 }
   where
     places : (k : ℕ) → k < length (newest ∷ s) → mark_of (drop k (newest ∷ older)) ≡ no_mark
-    places zero h = none
-    places (suc k) h = is.later k (omega arith)
+    places x0 h = grind arith
 
 found : (mark : Mark) (newest : Symbol) (older since : List Symbol) (before : Option (List Symbol)) → mark_of (newest ∷ older) ≡ mark
     → ((s : List Symbol) → before ≡ Some s → IsOpenSince older s) → since_mark mark newest before ≡ Some since → IsOpenSince (newest ∷ older) since
-found start_mark newest older [] before is inner e = record {
-  front = newest ∷ older;
-  whole = refl;
-  starts = is;
-  later = λ k h. absurd (omega arith);
-}
+found start_mark newest older [] before is inner e = grind arith
 found start_mark newest older (x ∷ since) before is inner e = absurd (cc)
 found end_mark newest older since before is inner e = absurd (cc)
 found break_mark newest older since before is inner e = absurd (cc)
 found no_mark newest older since None is inner e = absurd (cc)
-found no_mark newest older since (Some s) is inner e =
-    let same : newest ∷ s ≡ since = cc in subst (IsOpenSince (newest ∷ older)) same (longer newest older s is (inner s refl))
+found no_mark newest older since (Some s) is inner e = let h0 = longer newest older s is (inner s refl) in grind arith
 
 opened : (seen since : List Symbol) → since_start seen ≡ Some since → IsOpenSince seen since
 opened [] since e = absurd (cc)
 opened (newest ∷ older) since e = found (mark_of (newest ∷ older)) newest older since (since_start older) refl (λ s h. opened older s h) e
 
 at_start : (front : List Symbol) → mark_of front ≡ start_mark → since_start front ≡ Some []
-at_start [] h = absurd (cc)
-at_start (newest ∷ older) h = ap (λ m. since_mark m newest (since_start older)) h
+at_start x0 h = grind arith
 
 is_open : (since front : List Symbol) → mark_of front ≡ start_mark → ((k : ℕ) → k < length since → mark_of (drop k (since ++ front)) ≡ no_mark)
     → since_start (since ++ front) ≡ Some since

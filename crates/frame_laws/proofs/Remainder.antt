@@ -6,19 +6,16 @@ use Rattle.swp_crc.specs.Division.{sum_of_bits, sum_from_front, divisor, divided
 use Rattle.swp_crc.specs.Crc.{zeros, complement_first, remainder_of, crc_of}
 use Rattle.swp_crc.proofs.Steps.{length-remainder, length-complemented}
 use Rattle.frame_laws.specs.Remainder.{times_divisor, IsCrc}
-use Rattle.swp_crc.proofs.DivisionLemmas.{sum_assoc as sum_from_front-assoc, length-sum, sum_zeros}
+use Rattle.swp_crc.proofs.DivisionLemmas.{sum_assoc as sum_from_front-assoc, sum_zeros}
 
 twice_bit : (x y : Bool) → sum_of_bits x (sum_of_bits x y) ≡ y
-twice_bit true true = refl
-twice_bit true false = refl
-twice_bit false y = refl
+twice_bit x0 y = grind arith
 
 -- what is added twice is gone
 added_twice : (xs ys : List Bool) → length xs ≤ length ys → sum_from_front xs (sum_from_front xs ys) ≡ ys
 added_twice [] ys h = refl
 added_twice (x ∷ xs) [] h = absurd (omega (arith, h))
-added_twice (x ∷ xs) (y ∷ ys) h =
-    ap (λ b. b ∷ sum_from_front xs (sum_from_front xs ys)) (twice_bit x y) ∙ ap (λ bs. y ∷ bs) (added_twice xs ys (omega (arith, h)))
+added_twice (x ∷ xs) (y ∷ ys) h = let h0 = twice_bit x y in let h1 = added_twice xs ys (omega (arith, h)) in grind arith
 
 -- a list is a multiple of the divisor and what its division in so many steps leaves
 record IsDivided (n : ℕ) (bits : List Bool) : Type 0 where
@@ -53,13 +50,11 @@ is_divided zero bits h = record { quotient = []; steps = refl; whole = sym (sum_
 is_divided (suc n) [] h = absurd (omega (arith, h))
 is_divided (suc n) (false ∷ bits) h = with_zero n bits (is_divided n bits (omega (arith, h)))
 is_divided (suc n) (true ∷ bits) h =
-    let long : length (sum_from_front divisor (true ∷ bits)) ≡ suc (n + 16) =
-    let same = length-sum divisor (true ∷ bits) (omega (arith, h)) in omega (arith, same, h) in
+    let long : length (sum_from_front divisor (true ∷ bits)) ≡ suc (n + 16) = grind arith in
     with_one n bits (omega (arith, h)) (is_divided n (drop 1 (sum_from_front divisor (true ∷ bits))) (shorter (sum_from_front divisor (true ∷ bits)) long))
   where
     shorter : (bs : List Bool) → length bs ≡ suc (n + 16) → length (drop 1 bs) ≡ n + 16
-    shorter [] e = absurd (omega (arith, e))
-    shorter (b ∷ bs) e = omega (arith, e)
+    shorter x0 e = grind arith
 
 pub crc_is_remainder : (bytes : List ℕ) → IsCrc bytes (crc_of bytes)
 crc_is_remainder bytes =

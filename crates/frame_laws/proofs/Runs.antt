@@ -1,6 +1,6 @@
 -- Runs of 1 bits by the elements in front.
-use Rattle.std.proofs.Common.{◌≡◌, ℕ, suc, zero, List, [], ◌∷◌, ◌++◌, Bool, true, false, eqb, cond, take, replicate, refl, ap, arith}
-use Rattle.std.proofs.lemmas.Bool.{eq-eqb, eqb-true}
+use Rattle.std.proofs.Common.{◌≡◌, ℕ, suc, zero, List, [], ◌∷◌, ◌++◌, Bool, eqb, cond, take, replicate, refl, ap, arith}
+use Rattle.std.proofs.lemmas.Bool.{eq-eqb}
 use Rattle.std.specs.Prelude.{◌↔◌}
 use Rattle.swp_frame.specs.Signal.{Symbol, bit_0, bit_1, break, run_of, start_mark, end_mark, no_mark, mark_of}
 use Rattle.frame_laws.specs.Marks.{with_zeros, EndsStart, EndsEnd}
@@ -33,34 +33,22 @@ pub start_is : (seen : List Symbol) → (mark_of seen ≡ start_mark) ↔ EndsSt
 start_is [] = (λ h. absurd (cc), λ h. absurd (cc))
 start_is (bit_0 ∷ older) = (
   λ h. ap (λ xs. bit_0 ∷ xs) (run_is older 6 (six (eqb (run_of older) 6) refl h)),
-  λ h. let rest : take 7 (with_zeros older) ≡ bit_1 ∷ bit_1 ∷ bit_1 ∷ bit_1 ∷ bit_1 ∷ bit_1 ∷ bit_0 ∷ [] =
-      cc in rw (eq-eqb (run_of older) 6 (is_run older 6 rest)) refl,
+  λ h. let rest : take 7 (with_zeros older) ≡ bit_1 ∷ bit_1 ∷ bit_1 ∷ bit_1 ∷ bit_1 ∷ bit_1 ∷ bit_0 ∷ [] = grind arith in rw (eq-eqb (run_of older) 6 (is_run older 6 rest)) refl,
 )
   where
     six : (b : Bool) → eqb (run_of older) 6 ≡ b → cond b start_mark no_mark ≡ start_mark → run_of older ≡ 6
-    six true e h = eqb-true (run_of older) 6 e
-    six false e h = absurd (cc)
-start_is (bit_1 ∷ older) = (λ h. absurd (never (eqb (run_of older) 6) h), λ h. absurd (cc))
-  where
-    never : (b : Bool) → cond b end_mark no_mark ≡ start_mark → ⊥
-    never true h = cc
-    never false h = cc
+    six x0 e h = grind arith
+start_is (bit_1 ∷ older) = grind arith
 start_is (break ∷ older) = (λ h. absurd (cc), λ h. absurd (cc))
 
 pub end_is : (seen : List Symbol) → (mark_of seen ≡ end_mark) ↔ EndsEnd seen
 end_is [] = (λ h. absurd (cc), λ h. absurd (cc))
-end_is (bit_0 ∷ older) = (λ h. absurd (never (eqb (run_of older) 6) h), λ h. absurd (cc))
-  where
-    never : (b : Bool) → cond b start_mark no_mark ≡ end_mark → ⊥
-    never true h = cc
-    never false h = cc
+end_is (bit_0 ∷ older) = grind arith
 end_is (bit_1 ∷ older) = (
   λ h. ap (λ xs. bit_1 ∷ xs) (run_is older 6 (six (eqb (run_of older) 6) refl h)),
-  λ h. let rest : take 7 (with_zeros older) ≡ bit_1 ∷ bit_1 ∷ bit_1 ∷ bit_1 ∷ bit_1 ∷ bit_1 ∷ bit_0 ∷ [] =
-      cc in rw (eq-eqb (run_of older) 6 (is_run older 6 rest)) refl,
+  λ h. let rest : take 7 (with_zeros older) ≡ bit_1 ∷ bit_1 ∷ bit_1 ∷ bit_1 ∷ bit_1 ∷ bit_1 ∷ bit_0 ∷ [] = grind arith in rw (eq-eqb (run_of older) 6 (is_run older 6 rest)) refl,
 )
   where
     six : (b : Bool) → eqb (run_of older) 6 ≡ b → cond b end_mark no_mark ≡ end_mark → run_of older ≡ 6
-    six true e h = eqb-true (run_of older) 6 e
-    six false e h = absurd (cc)
+    six x0 e h = grind arith
 end_is (break ∷ older) = (λ h. absurd (cc), λ h. absurd (cc))

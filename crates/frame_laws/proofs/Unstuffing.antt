@@ -1,6 +1,5 @@
 -- Stuffed bits are read as the content.
-use Rattle.std.proofs.Common.{◌≡◌, ℕ, suc, ◌+◌, ◌≤◌, List, [], ◌∷◌, ◌++◌, Bool, true, false, eqb, cond, map, reverse, refl, sym, ap, ◌∙◌, inl, inr, arith}
-use Rattle.std.proofs.lemmas.Bool.{eq-eqb, eqb-true, eqb-false, ne_eqb}
+use Rattle.std.proofs.Common.{◌≡◌, ℕ, ◌+◌, ◌≤◌, List, [], ◌∷◌, ◌++◌, Bool, true, false, eqb, cond, map, reverse, refl, sym, ap, ◌∙◌, inl, inr, arith}
 use mathlib.Core.List.{reverse_aux}
 use Rattle.std.proofs.lemmas.List.{reverse-append, reverse-reverse}
 use Rattle.swp_frame.specs.Signal.{Symbol, bit_0, bit_1, symbol_of, run_of, unstuffed}
@@ -19,9 +18,7 @@ bits_onto seen (b ∷ bits) = bits_onto (b ∷ seen) bits
 stuffed_reads : (ones : ℕ) (content : List Bool) (seen : List Symbol) → run_of seen ≡ ones → ones ≤ 4
     → unstuffed (onto seen (stuffed_after ones content)) ≡ bits_onto (unstuffed seen) content
 stuffed_reads ones [] seen run few = refl
-stuffed_reads ones (false ∷ content) seen run few =
-    stuffed_reads 0 content (bit_0 ∷ seen) refl (omega arith)
-    ∙ ap (λ xs. bits_onto xs content) (rw (ne_eqb (run_of seen) 5 (λ five. absurd (omega (arith, five)))) refl)
+stuffed_reads ones (false ∷ content) seen run few = let h0 = stuffed_reads 0 content (bit_0 ∷ seen) refl (omega arith) in grind arith
 stuffed_reads ones (true ∷ content) seen run few =
     by_count (eqb ones 4) refl (stuffed_reads 0 content (bit_0 ∷ bit_1 ∷ seen) refl (omega arith))
     (λ fewer. stuffed_reads (ones + 1) content (bit_1 ∷ seen) (omega arith) fewer)
@@ -31,17 +28,14 @@ stuffed_reads ones (true ∷ content) seen run few =
         → (ones + 1 ≤ 4 → unstuffed (onto (bit_1 ∷ seen) (stuffed_after (ones + 1) content)) ≡ bits_onto (unstuffed (bit_1 ∷ seen)) content)
         → unstuffed (onto seen (cond fifth (true ∷ false ∷ stuffed_after 0 content) (true ∷ stuffed_after (ones + 1) content)))
         ≡ bits_onto (true ∷ unstuffed seen) content
-    by_count true e five other =
-        five ∙ ap (λ xs. bits_onto xs content) (rw (eq-eqb (suc (run_of seen)) 5 (omega (arith, eqb-true ones 4 e))) refl)
-    by_count false e five other = other (let differ = eqb-false ones 4 e in omega (arith, differ))
+    by_count x0 e five other = grind arith
 
 pub onto-aux : (seen : List Symbol) (bits : List Bool) → onto seen bits ≡ reverse_aux (map symbol_of bits) seen
 onto-aux seen [] = refl
 onto-aux seen (b ∷ bits) = onto-aux (symbol_of b ∷ seen) bits
 
 bits_onto-aux : (seen bits : List Bool) → bits_onto seen bits ≡ reverse_aux bits seen
-bits_onto-aux seen [] = refl
-bits_onto-aux seen (b ∷ bits) = bits_onto-aux (b ∷ seen) bits
+bits_onto-aux seen x1 = grind arith
 
 onto-push : (seen : List Symbol) (bits : List Bool) (b : Bool) → onto seen (bits ++ b ∷ []) ≡ symbol_of b ∷ onto seen bits
 onto-push seen [] b = refl
@@ -52,12 +46,10 @@ pub reads : (content : List Bool) → unstuffed (onto [] (stuffed content)) ≡ 
 reads content = stuffed_reads 0 content [] refl (omega arith) ∙ bits_onto-aux [] content
 
 last_one : (fifth : Bool) (bits rest : List Bool) → cond fifth bits (false ∷ bits) ≡ true ∷ rest → bits ≡ true ∷ rest
-last_one true bits rest e = e
-last_one false bits rest e = absurd (cc)
+last_one x0 bits rest e = grind arith
 
 pub spelled_is_read : (spelling content : List Bool) → Spells spelling content → content_read spelling ≡ content
-spelled_is_read spelling content (inl same) =
-    ap (λ xs. reverse (unstuffed xs)) (sym (onto-aux [] spelling) ∙ ap (onto []) same) ∙ ap reverse (reads content) ∙ reverse-reverse content
+spelled_is_read spelling content (inl same) = let h0 = onto-aux [] spelling in let h1 = reads content in let h2 = reverse-reverse content in grind arith
 spelled_is_read spelling content (inr ends) =
     let whole : unstuffed (bit_0 ∷ onto [] spelling) ≡ true ∷ reverse ends.0 =
     ap unstuffed (sym (onto-push [] spelling false) ∙ ap (onto []) (sym ends.2)) ∙ reads content ∙ ap reverse ends.1 ∙ reverse-append ends.0 (true ∷ []) in

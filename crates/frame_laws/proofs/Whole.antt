@@ -1,38 +1,26 @@
 -- A frame that was written is read.
-use Rattle.std.proofs.Common.{◌≡◌, ◌≢◌, ℕ, ◌+◌, ◌-◌, ◌*◌, ◌%◌, ◌≤◌, length, take, List, [], ◌∷◌, ◌++◌, Bool, true, false, eqb, cond, map, reverse, Option, Some}
-use Rattle.std.proofs.Common.{None, option_map, refl, sym, ap, ◌∙◌, subst, inl, inr, arith, append_assoc, append-nil}
-use Rattle.std.specs.Prelude.{filter, nat_lt, ◌||◌, min, slice_index}
-use Rattle.swp_base.specs.declared.link_terms.FrameFault.TheVariants.{Length, Alignment, Crc}
-use Rattle.swp_crc.specs.Crc.{crc_of}
+use Rattle.std.proofs.Common.{◌≡◌, ◌≢◌, ℕ, ◌+◌, ◌-◌, ◌*◌, ◌%◌, ◌≤◌, List, [], ◌∷◌, ◌++◌, Bool, true, false, eqb, cond, map, reverse, Some}
+use Rattle.std.proofs.Common.{refl, sym, ap, ◌∙◌, subst, inl, inr, arith, append_assoc, append-nil}
+use Rattle.std.specs.Prelude.{filter, ◌||◌}
 use Rattle.std.proofs.lemmas.List.{map-append}
-use Rattle.std.proofs.lemmas.Bool.{eqb-false, ne_eqb}
 use Rattle.swp_base.specs.Bits.{bits_of}
 use Rattle.swp_frame.specs.declared.fed.Fed.{Fed}
-use Rattle.swp_frame.specs.declared.fed.Fed.TheVariants.{Nothing, Frame, Refused}
-use Rattle.swp_frame.specs.Signal.{Symbol, bit_0, bit_1, symbol_of, run_of, start_mark, end_mark, no_mark, mark_of, since_mark, since_start, unstuffed}
+use Rattle.swp_frame.specs.declared.fed.Fed.TheVariants.{Nothing, Frame}
+use Rattle.swp_frame.specs.Signal.{Symbol, bit_0, bit_1, symbol_of, run_of, end_mark, since_start, unstuffed}
 use Rattle.swp_frame.specs.Stuffing.{start_of_frame, end_of_frame, stuffed, stuffed_after, with_crc, frame_of}
-use Rattle.swp_frame.specs.Content.{bytes_of_bits, judged_bytes, judged}
+use Rattle.swp_frame.specs.Content.{judged}
 use Rattle.swp_frame.specs.Verdicts.{verdict, verdict_after, answers_after, is_verdict, verdicts}
 use Rattle.frame_laws.specs.Spelling.{Spells, NoSixOnes}
 use Rattle.frame_laws.specs.Whole.{framed, all_framed, SpellAll, verdicts_behind, IsBetweenFrames}
 use Rattle.frame_laws.proofs.Unstuffing.{onto, onto-aux, spelled_is_read}
 
-no_mark_with : (b : Bool) (seen : List Symbol) → run_of seen ≢ 6 → mark_of (symbol_of b ∷ seen) ≡ no_mark
-no_mark_with true seen h = rw (ne_eqb (run_of seen) 6 h) refl
-no_mark_with false seen h = rw (ne_eqb (run_of seen) 6 h) refl
-
 -- a bit that ends no mark gives nothing
 quiet_bit : (b : Bool) (seen : List Symbol) → run_of seen ≢ 6 → verdict (symbol_of b ∷ seen) ≡ Nothing
-quiet_bit b seen h = ap (λ m. verdict_after m (since_start seen)) (no_mark_with b seen h) ∙ nothing (since_start seen)
-  where
-    nothing : (since : Option (List Symbol)) → verdict_after no_mark since ≡ Nothing
-    nothing None = refl
-    nothing (Some since) = refl
+quiet_bit b seen h = grind arith
 
 still_open : (b : Bool) (seen since : List Symbol) → run_of seen ≢ 6 → since_start seen ≡ Some since
     → since_start (symbol_of b ∷ seen) ≡ Some (symbol_of b ∷ since)
-still_open b seen since h e =
-    ap (λ m. since_mark m (symbol_of b) (since_start seen)) (no_mark_with b seen h) ∙ ap (option_map (λ s. symbol_of b ∷ s)) e
+still_open b seen since h e = grind arith
 
 skip : (answer : Fed) (answers : List Fed) → answer ≡ Nothing → filter is_verdict (answer ∷ answers) ≡ filter is_verdict answers
 skip answer answers e = rw e refl
@@ -65,8 +53,7 @@ stuffed_few (true ∷ content) ones h = by_count (eqb ones 4) refl (stuffed_few 
     by_count : (fifth : Bool) → eqb ones 4 ≡ fifth → NoSixOnes 0 (stuffed_after 0 content)
         → (ones + 1 ≤ 4 → NoSixOnes (ones + 1) (stuffed_after (ones + 1) content))
         → NoSixOnes ones (cond fifth (true ∷ false ∷ stuffed_after 0 content) (true ∷ stuffed_after (ones + 1) content))
-    by_count true e zeroes next = (omega arith, zeroes)
-    by_count false e zeroes next = (omega arith, next (let differ = eqb-false ones 4 e in omega (arith, differ)))
+    by_count x0 e zeroes next = grind arith
 
 -- what was read with the 0 and the six 1 bits of an end of frame
 pub to_end : List Symbol → List Symbol
@@ -75,51 +62,15 @@ to_end seen = bit_1 ∷ bit_1 ∷ bit_1 ∷ bit_1 ∷ bit_1 ∷ bit_1 ∷ bit_0 
 end_is_quiet : (seen later : List Symbol) → run_of seen ≤ 5
     → filter is_verdict (answers_after seen (map symbol_of end_of_frame ++ later)) ≡ filter is_verdict (answers_after (to_end seen) (bit_1 ∷ later))
 unfolding to_end
-end_is_quiet seen later h =
-    quiet false seen (bit_1 ∷ bit_1 ∷ bit_1 ∷ bit_1 ∷ bit_1 ∷ bit_1 ∷ bit_1 ∷ later) (not_six (run_of seen) h)
-    ∙ quiet true (bit_0 ∷ seen) (bit_1 ∷ bit_1 ∷ bit_1 ∷ bit_1 ∷ bit_1 ∷ bit_1 ∷ later) (not_six 0 (omega arith))
-    ∙ quiet true (bit_1 ∷ bit_0 ∷ seen) (bit_1 ∷ bit_1 ∷ bit_1 ∷ bit_1 ∷ bit_1 ∷ later) (not_six 1 (omega arith))
-    ∙ quiet true (bit_1 ∷ bit_1 ∷ bit_0 ∷ seen) (bit_1 ∷ bit_1 ∷ bit_1 ∷ bit_1 ∷ later) (not_six 2 (omega arith))
-    ∙ quiet true (bit_1 ∷ bit_1 ∷ bit_1 ∷ bit_0 ∷ seen) (bit_1 ∷ bit_1 ∷ bit_1 ∷ later) (not_six 3 (omega arith))
-    ∙ quiet true (bit_1 ∷ bit_1 ∷ bit_1 ∷ bit_1 ∷ bit_0 ∷ seen) (bit_1 ∷ bit_1 ∷ later) (not_six 4 (omega arith))
-    ∙ quiet true (bit_1 ∷ bit_1 ∷ bit_1 ∷ bit_1 ∷ bit_1 ∷ bit_0 ∷ seen) (bit_1 ∷ later) (not_six 5 (omega arith))
+end_is_quiet seen later h = grind arith
 
 end_is_open : (seen since : List Symbol) → since_start seen ≡ Some since → run_of seen ≤ 5 → since_start (to_end seen) ≡ Some (to_end since)
 unfolding to_end
-end_is_open seen since e h =
-    still_open true (bit_1 ∷ bit_1 ∷ bit_1 ∷ bit_1 ∷ bit_1 ∷ bit_0 ∷ seen) (bit_1 ∷ bit_1 ∷ bit_1 ∷ bit_1 ∷ bit_1 ∷ bit_0 ∷ since) (not_six 5 (omega arith))
-    (still_open true (bit_1 ∷ bit_1 ∷ bit_1 ∷ bit_1 ∷ bit_0 ∷ seen) (bit_1 ∷ bit_1 ∷ bit_1 ∷ bit_1 ∷ bit_0 ∷ since) (not_six 4 (omega arith))
-    (still_open true (bit_1 ∷ bit_1 ∷ bit_1 ∷ bit_0 ∷ seen) (bit_1 ∷ bit_1 ∷ bit_1 ∷ bit_0 ∷ since) (not_six 3 (omega arith))
-    (still_open true (bit_1 ∷ bit_1 ∷ bit_0 ∷ seen) (bit_1 ∷ bit_1 ∷ bit_0 ∷ since) (not_six 2 (omega arith))
-    (still_open true (bit_1 ∷ bit_0 ∷ seen) (bit_1 ∷ bit_0 ∷ since) (not_six 1 (omega arith))
-    (still_open true (bit_0 ∷ seen) (bit_0 ∷ since) (not_six 0 (omega arith)) (still_open false seen since (not_six (run_of seen) h) e))))))
+end_is_open seen since e h = grind arith
 
 last_bit : (seen since : List Symbol) → since_start (to_end seen) ≡ Some (to_end since) → verdict (bit_1 ∷ to_end seen) ≡ judged (reverse (unstuffed since))
 unfolding to_end
 last_bit seen since e = ap (verdict_after end_mark) e
-
-either_verdict : (b : Bool) (first second : Fed) → is_verdict first ≡ true → is_verdict second ≡ true → is_verdict (cond b first second) ≡ true
-either_verdict true first second h k = h
-either_verdict false first second h k = k
-
--- a content is always judged
-judged_is_verdict : (content : List Bool) → is_verdict (judged content) ≡ true
-judged_is_verdict content =
-    either_verdict (nat_lt (length content) 24 || nat_lt 256 (length content)) (Refused (Length (min 65535 (length content))))
-    (cond (eqb (length content % 8) 0) (judged_bytes (bytes_of_bits content)) (Refused (Alignment (length content)))) refl
-    (either_verdict (eqb (length content % 8) 0) (judged_bytes (bytes_of_bits content)) (Refused (Alignment (length content))) whole refl)
-  where
-    bytes : List ℕ
-    bytes = bytes_of_bits content
-
-    want : ℕ
-    want = crc_of (take (length bytes - 2) bytes)
-
-    got : ℕ
-    got = 256 * slice_index bytes (length bytes - 2) + slice_index bytes (length bytes - 1)
-
-    whole : is_verdict (judged_bytes (bytes_of_bits content)) ≡ true
-    whole = either_verdict (eqb want got) (Frame (take (length bytes - 2) bytes)) (Refused (Crc want got)) refl refl
 
 keep : (answer : Fed) (answers : List Fed) → is_verdict answer ≡ true → filter is_verdict (answer ∷ answers) ≡ answer ∷ filter is_verdict answers
 keep answer answers e = rw e refl
@@ -132,10 +83,7 @@ ended seen = bit_1 ∷ to_end seen
 read_end : (seen since later : List Symbol) → since_start seen ≡ Some since → run_of seen ≤ 5
     → filter is_verdict (answers_after seen (map symbol_of end_of_frame ++ later))
     ≡ judged (reverse (unstuffed since)) ∷ filter is_verdict (answers_after (ended seen) later)
-read_end seen since later e h =
-    end_is_quiet seen later h
-    ∙ ap (λ answer. filter is_verdict (answer ∷ answers_after (ended seen) later)) (last_bit seen since (end_is_open seen since e h))
-    ∙ keep (judged (reverse (unstuffed since))) (answers_after (ended seen) later) (judged_is_verdict (reverse (unstuffed since)))
+read_end seen since later e h = let h0 = end_is_quiet seen later h in let h1 = last_bit seen since (end_is_open seen since e h) in grind arith
 
 -- what was read with a start of frame
 unfoldable pub started : List Symbol → List Symbol
@@ -167,40 +115,14 @@ spelled_is_judged seen spelling content later spells =
 
 -- ## Frames one behind another
 
-still_closed : (b : Bool) (seen : List Symbol) → run_of seen ≢ 6 → since_start seen ≡ None → since_start (symbol_of b ∷ seen) ≡ None
-still_closed b seen h e =
-    ap (λ m. since_mark m (symbol_of b) (since_start seen)) (no_mark_with b seen h) ∙ ap (option_map (λ s. symbol_of b ∷ s)) e
-
 -- what was read with the 0 and the six 1 bits of a start of frame
 to_start : List Symbol → List Symbol
 to_start seen = bit_1 ∷ bit_1 ∷ bit_1 ∷ bit_1 ∷ bit_1 ∷ bit_1 ∷ bit_0 ∷ seen
 
-to_start_closed : (seen : List Symbol) → IsBetweenFrames seen → since_start (to_start seen) ≡ None
-unfolding to_start
-to_start_closed seen between =
-    still_closed true (bit_1 ∷ bit_1 ∷ bit_1 ∷ bit_1 ∷ bit_1 ∷ bit_0 ∷ seen) (not_six 5 (omega arith))
-    (still_closed true (bit_1 ∷ bit_1 ∷ bit_1 ∷ bit_1 ∷ bit_0 ∷ seen) (not_six 4 (omega arith))
-    (still_closed true (bit_1 ∷ bit_1 ∷ bit_1 ∷ bit_0 ∷ seen) (not_six 3 (omega arith))
-    (still_closed true (bit_1 ∷ bit_1 ∷ bit_0 ∷ seen) (not_six 2 (omega arith))
-    (still_closed true (bit_1 ∷ bit_0 ∷ seen) (not_six 1 (omega arith))
-    (still_closed true (bit_0 ∷ seen) (not_six 0 (omega arith)) (still_closed false seen between.apart between.closed))))))
-
-start_bit : (seen : List Symbol) → since_start (to_start seen) ≡ None → verdict (bit_0 ∷ to_start seen) ≡ Nothing
-unfolding to_start
-start_bit seen e = ap (verdict_after start_mark) e
-
 start_is_quiet : (seen later : List Symbol) → IsBetweenFrames seen
     → filter is_verdict (answers_after seen (map symbol_of start_of_frame ++ later)) ≡ filter is_verdict (answers_after (started seen) later)
 unfolding to_start started
-start_is_quiet seen later between =
-    quiet false seen (bit_1 ∷ bit_1 ∷ bit_1 ∷ bit_1 ∷ bit_1 ∷ bit_1 ∷ bit_0 ∷ later) between.apart
-    ∙ quiet true (bit_0 ∷ seen) (bit_1 ∷ bit_1 ∷ bit_1 ∷ bit_1 ∷ bit_1 ∷ bit_0 ∷ later) (not_six 0 (omega arith))
-    ∙ quiet true (bit_1 ∷ bit_0 ∷ seen) (bit_1 ∷ bit_1 ∷ bit_1 ∷ bit_1 ∷ bit_0 ∷ later) (not_six 1 (omega arith))
-    ∙ quiet true (bit_1 ∷ bit_1 ∷ bit_0 ∷ seen) (bit_1 ∷ bit_1 ∷ bit_1 ∷ bit_0 ∷ later) (not_six 2 (omega arith))
-    ∙ quiet true (bit_1 ∷ bit_1 ∷ bit_1 ∷ bit_0 ∷ seen) (bit_1 ∷ bit_1 ∷ bit_0 ∷ later) (not_six 3 (omega arith))
-    ∙ quiet true (bit_1 ∷ bit_1 ∷ bit_1 ∷ bit_1 ∷ bit_0 ∷ seen) (bit_1 ∷ bit_0 ∷ later) (not_six 4 (omega arith))
-    ∙ quiet true (bit_1 ∷ bit_1 ∷ bit_1 ∷ bit_1 ∷ bit_1 ∷ bit_0 ∷ seen) (bit_0 ∷ later) (not_six 5 (omega arith))
-    ∙ skip (verdict (bit_0 ∷ to_start seen)) (answers_after (bit_0 ∷ to_start seen) later) (start_bit seen (to_start_closed seen between))
+start_is_quiet seen later between = grind arith
 
 -- behind an end of frame no frame is open
 between_again : (seen : List Symbol) → IsBetweenFrames (ended seen)

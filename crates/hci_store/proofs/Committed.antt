@@ -1,74 +1,47 @@
 -- The tables that the commands of a journal's records make, their snapshot, and what a commit or a cut of it leaves.
-use Rattle.std.proofs.Common.{IfErr, IsSome, OnOk, add-one, add-zero, append-nil, append_assoc, ap₂, eqb-true, is_some, nat_le, nat_lt, not, slice_index, suc}
+use Rattle.std.proofs.Common.{IfErr, IsSome, OnOk, add-one, append-nil, append_assoc, ap₂, is_some, nat_le, nat_lt, not, slice_index, suc}
 use Rattle.std.proofs.Common.{zero, ◌%◌, ◌&&◌, ◌/◌, ◌<◌, ◌^◌}
 use Rattle.std.specs.List.{AllByRecursion, All}
-use Rattle.std.proofs.lemmas.Bool.{and_parts, leb-true, le-leb, not-true, and_from, lt-ltb, true≢false}
+use Rattle.std.proofs.lemmas.Bool.{and_parts, le-leb, and_from, lt-ltb, true≢false}
 use Rattle.std.proofs.lemmas.List.Elements.{All-from_recursion}
 use Rattle.hci_store.proofs.Words.{AreMade, BadRecord, Bool, Err, GenerationsSpent, HasRoomForBody, HciTables, HoldsTables, IsKnown, IsRecordable, IsSound}
-use Rattle.hci_store.proofs.Words.{IsTrue, JournalFault, Keeps, LeftByCut, List, None, NvFault, Ok, Result, Says, Some, State, [], after_writes, ap, appended}
+use Rattle.hci_store.proofs.Words.{IsTrue, JournalFault, Keeps, LeftByCut, List, None, NvFault, Result, Says, Some, State, [], after_writes, ap, appended}
 use Rattle.hci_store.proofs.Words.{applied, apply, are_commands, arith, body_of, close, command_of, compact_writes, cond, count_of, create_command, false}
 use Rattle.hci_store.proofs.Words.{fault, filter, first_other, fold, gate_at, inl, inr, is_known, is_opened_gate, journal, length, map, nat_tests, no_tables}
 use Rattle.hci_store.proofs.Words.{open_command, option_map_or, pid_of, place_of_value, records, refl, set_command, slice_get, static_command, static_place}
 use Rattle.hci_store.proofs.Words.{subst, sym, sync_command, sync_host, tables_of, take, true, used, ℕ, ◌*◌, ◌++◌, ◌+◌, ◌==◌, ◌∙◌, ◌∷◌, ◌≡◌, ◌≤◌, ◌⊎◌}
-use Rattle.whitelist.specs.Whitelist.{holds, all_differ, is_whitelist}
-use Rattle.registry.specs.Values.{IsPresent, is_default, is_kept, value_place}
+use Rattle.whitelist.specs.Whitelist.{holds}
+use Rattle.registry.specs.Values.{IsPresent, is_default, value_place}
 use Rattle.registry.specs.declared.value.RegValue.{RegValue}
 use Rattle.hci_tables.specs.declared.command.Command.{Command}
 use Rattle.hci_tables.specs.declared.command.Command.TheVariants.{Create, Delete, Clear, SetOpened, Set, Sync}
-use Rattle.hci_tables.specs.Commands.{is_dynamic, is_host, is_allowed, IsCommand}
-use Rattle.hci_tables.specs.Bodies.{if_command}
+use Rattle.hci_tables.specs.Commands.{is_allowed, IsCommand}
 use Rattle.hci_tables.specs.Tables.{AreTables, is_kept_sync, with_static, without_identity}
 use Rattle.hci_store.specs.Image.{image_fault}
 use Rattle.hci_store.specs.Snapshots.{snapshot_of}
-use Rattle.hci_store.specs.Committing.{room_writes, with_room, commit_writes, record_fits, snapshot_bodies, committed}
+use Rattle.hci_store.specs.Committing.{room_writes, with_room, commit_writes, committed}
 use Rattle.pipe_table.specs.declared.row.PipeRow.{PipeRow}
 use Rattle.pipe_table.specs.PipeRows.{ArePipeRows, all_closed, as_opened, joins_host, with_opened, with_pipe}
 use Rattle.sorted_rows.specs.Rows.{AreRows, rows_before, rows_behind, with_row}
 use Rattle.sorted_rows.proofs.RowLemmas.{AreRows-map}
-use Rattle.nv_journal.specs.declared.JournalFault.TheVariants.{UnknownFormat}
 use Rattle.nv_journal.specs.Faults.{IsFaulty}
 use Rattle.nv_journal.proofs.Appending as appending
 use Rattle.nv_journal.proofs.Compacting as compacting
-use Rattle.journal_laws.specs.Journal.{Journal}
 use Rattle.journal_laws.specs.Writes.{Write, last_place}
 use Rattle.journal_laws.specs.Operations.{CanCompact, append_writes, compacted}
 use Rattle.journal_laws.specs.Records.{IsBody}
-use Rattle.journal_laws.proofs.Opening.{compact_count, same_count}
+use Rattle.journal_laws.proofs.Opening.{compact_count}
 
 -- a value that is allowed is short
 pub short_value : (host param : ℕ) (value : List ℕ) → is_allowed host param value ≡ true → length value ≤ 20
-short_value host param value is = by_param (param == 1) is
-  where
-    by_param : (b : Bool) → cond b (length value == 8) (is_whitelist host value) ≡ true → length value ≤ 20
-    by_param true e = omega (arith, eqb-true (length value) 8 e)
-    by_param false e =
-        let front = and_parts (nat_le (length value) 7 && not (holds value host)) (all_differ value) e in
-        omega (arith, leb-true (length value) 7 (and_parts (nat_le (length value) 7) (not (holds value host)) front.0).0)
+short_value host param value is = grind arith
 
 pub read_again : (c : Command) → IsCommand c → command_of (body_of c) ≡ Some c
-read_again (Create row) may =
-    let front = is_dynamic row.pid && is_host row.creator && is_host row.dest && not (row.creator == row.dest) in
-    let parts = and_parts front (not row.opened) may in
-    let closed = not-true row.opened parts.1 in
-    ap (λ b. cond (b && true) (Some (Create (record row { opened = false }))) None) parts.0 ∙ ap (λ o. Some (Create (record row { opened = o }))) (sym closed)
-read_again (Delete pid) may = ap (λ b. cond b (Some (Delete pid)) None) may
-read_again (Clear host) may = ap (λ b. cond b (Some (Clear host)) None) may
-read_again (SetOpened host pid true) may = ap (λ b. cond b (Some (SetOpened host pid true)) None) may
-read_again (SetOpened host pid false) may = ap (λ b. cond b (Some (SetOpened host pid false)) None) may
-read_again (Set host gate param value) may =
-    ap (λ b. if_command (cond b (Some (Set host gate param value)) None))
-    (le-leb (length value.items) 20 (short_value host param value.items (and_parts (is_kept host gate param) (is_allowed host param value.items) may).1))
-    ∙ ap (λ b. cond b (Some (Set host gate param value)) None) may
-read_again (Sync host id) may =
-    ap (λ n. if_command (Some (Sync host n))) (whole id) ∙ ap (λ b. cond b (Some (Sync host id)) None) may
-  where
-    whole : (n : ℕ) → n / 256 * 256 + n % 256 ≡ n
-    whole n = omega arith
+read_again x0 may = grind arith
 
 pub applied_commands : (t : HciTables) (cs : List Command) → AllByRecursion IsCommand cs → fold applied t (map body_of cs) ≡ fold apply t cs
 applied_commands t [] all = refl
-applied_commands t (c ∷ cs) all =
-    ap (λ o. fold applied (option_map_or (apply t) o t) (map body_of cs)) (read_again c all.0) ∙ applied_commands (apply t c) cs all.1
+applied_commands t (c ∷ cs) all = let h0 = read_again c all.0 in let h1 = applied_commands (apply t c) cs all.1 in grind arith
 
 pub commands_again : (cs : List Command) → AllByRecursion IsCommand cs → are_commands (map body_of cs) ≡ true
 commands_again [] all = refl
@@ -79,11 +52,7 @@ commands_again (c ∷ cs) all = ap (λ o. is_some o && are_commands (map body_of
 module _ {X : Type 0} (P : X → Type 0) where
   pub all-filter : (p : X → Bool) (xs : List X) → AllByRecursion P xs → AllByRecursion P (filter p xs)
   all-filter p [] all = tt
-  all-filter p (x ∷ xs) all = by_test (p x) (all-filter p xs all.1)
-    where
-      by_test : (b : Bool) → AllByRecursion P (filter p xs) → AllByRecursion P (cond b (x ∷ filter p xs) (filter p xs))
-      by_test true rest = (all.0, rest)
-      by_test false rest = rest
+  all-filter p (x ∷ xs) all = let h0 = all-filter p xs all.1 in grind arith
 
   pub all-append : (xs ys : List X) → AllByRecursion P xs → AllByRecursion P ys → AllByRecursion P (xs ++ ys)
   all-append [] ys a b = b
@@ -100,9 +69,7 @@ abbrev MaySet : RegValue → Type 0
 MaySet v = IsCommand (set_command v)
 
 created : (row : PipeRow) → IsCommand (Create row) → MayCreate (as_opened false row)
-created row is =
-    let front = is_dynamic row.pid && is_host row.creator && is_host row.dest && not (row.creator == row.dest) in
-    and_from front true (and_parts front (not row.opened) is).0 refl
+created row is = grind arith
 
 set_again : (t : HciTables) (host gate param : ℕ) (v : RegValue) → MaySet v → AllByRecursion MaySet t.values
     → (b : Bool) → AllByRecursion MaySet (cond b (filter (λ row. not (place_of_value row == value_place host param)) t.values)
@@ -134,8 +101,7 @@ recordable-apply t (Clear host) is may = record {
 recordable-apply t (SetOpened host pid opened) is may = by_pipe (nat_lt pid 2)
   where
     state : (row : PipeRow) → MayCreate row → (b : Bool) → MayCreate (cond b (as_opened opened row) row)
-    state row m true = m
-    state row m false = m
+    state row m x2 = grind arith
 
     by_pipe : (b : Bool) → IsRecordable (cond b (record t { statics = with_static t.statics host pid opened })
         (record t { rows = map (λ row. cond (row.pid == pid) (as_opened opened row) row) t.rows }))
@@ -161,19 +127,15 @@ recordable-apply t (Sync host id) is may = record { rows = is.rows; values = by_
 
 pub syncs_by_rows : (low : ℕ) (xs : List (ℕ × ℕ)) → 1 ≤ low → AreRows sync_host low 8 xs → AllByRecursion (λ s. IsCommand (sync_command s)) xs
 syncs_by_rows low [] some rows = tt
-syncs_by_rows low (x ∷ xs) some rows = (
-  and_from (nat_le 1 x.0) (nat_le x.0 7) (le-leb 1 x.0 (omega (arith, rows.0))) (le-leb x.0 7 (omega (arith, rows.1))),
-  syncs_by_rows (x.0 + 1) xs
-      (omega arith) rows.2,
-)
+syncs_by_rows low (x ∷ xs) some rows =
+    let h0 = and_from (nat_le 1 x.0) (nat_le x.0 7) (le-leb 1 x.0 (omega (arith, rows.0))) (le-leb x.0 7 (omega (arith, rows.1))) in
+    let h1 = syncs_by_rows (x.0 + 1) xs (omega arith) rows.2 in grind arith
 
 pub statics_by_rows : (low : ℕ) (xs : List (ℕ × ℕ)) → AreRows static_place low 16 xs → AllByRecursion (λ s. IsCommand (static_command s)) xs
 statics_by_rows low [] rows = tt
-statics_by_rows low (x ∷ xs) rows = (
-  and_from (nat_le x.0 7) (nat_lt x.1 112) (le-leb x.0 7 (omega (arith, rows.1))) (lt-ltb x.1 112 (omega (arith, rows.1))),
-  statics_by_rows
-      (static_place x + 1) xs rows.2,
-)
+statics_by_rows low (x ∷ xs) rows =
+    let h0 = and_from (nat_le x.0 7) (nat_lt x.1 112) (le-leb x.0 7 (omega (arith, rows.1))) (lt-ltb x.1 112 (omega (arith, rows.1))) in
+    let h1 = statics_by_rows (static_place x + 1) xs rows.2 in grind arith
 
 pub syncs_may : (xs : List (ℕ × ℕ)) → AreRows sync_host 1 8 xs → All (λ s. IsCommand (sync_command s)) xs
 syncs_may xs rows = All-from_recursion (λ s. IsCommand (sync_command s)) xs (syncs_by_rows 1 xs (omega arith) rows)
@@ -223,15 +185,7 @@ close-close t = ap (λ l. record t { rows = l; statics = [] }) (closed_twice t.r
 closed-filter : (p : PipeRow → Bool) → ((row : PipeRow) → p (as_opened false row) ≡ p row) → (rows : List PipeRow)
     → filter p (all_closed rows) ≡ all_closed (filter p rows)
 closed-filter p same [] = refl
-closed-filter p same (row ∷ rows) =
-    ap (λ b. cond b (as_opened false row ∷ filter p (all_closed rows)) (filter p (all_closed rows))) (same row)
-    ∙ ap (λ l. cond (p row) (as_opened false row ∷ l) l) (closed-filter p same rows)
-    ∙ inside (p row)
-  where
-    inside : (b : Bool)
-        → cond b (as_opened false row ∷ all_closed (filter p rows)) (all_closed (filter p rows)) ≡ all_closed (cond b (row ∷ filter p rows) (filter p rows))
-    inside true = refl
-    inside false = refl
+closed-filter p same (row ∷ rows) = let h0 = closed-filter p same rows in grind arith
 
 pub closed-append : (xs ys : List PipeRow) → all_closed (xs ++ ys) ≡ all_closed xs ++ all_closed ys
 closed-append [] ys = refl
@@ -251,11 +205,7 @@ closed-filtered p same rows = ap all_closed (closed-filter p same rows) ∙ clos
 
 closed-with_opened : (rows : List PipeRow) (pid : ℕ) (opened : Bool) → all_closed (with_opened rows pid opened) ≡ all_closed rows
 closed-with_opened [] pid opened = refl
-closed-with_opened (row ∷ rows) pid opened = ap₂ (λ r l. r ∷ l) (state (row.pid == pid)) (closed-with_opened rows pid opened)
-  where
-    state : (b : Bool) → as_opened false (cond b (as_opened opened row) row) ≡ as_opened false row
-    state true = refl
-    state false = refl
+closed-with_opened (row ∷ rows) pid opened = let h0 = closed-with_opened rows pid opened in grind arith
 
 -- a state that is set is closed again
 pub close-opened : (t : HciTables) (host pid : ℕ) (opened : Bool) → close (apply t (SetOpened host pid opened)) ≡ close t
@@ -317,28 +267,23 @@ fold-append t (x ∷ xs) ys = fold-append (apply t x) xs ys
 -- ---- the parts
 
 no_values : (b : Bool) (host : ℕ) → cond b [] (without_identity [] host) ≡ []
-no_values true host = refl
-no_values false host = refl
+no_values x0 host = grind arith
 
 syncs_again : (front rest : List (ℕ × ℕ)) → AreRows sync_host 1 8 (front ++ rest)
     → fold apply (record no_tables { syncs = front }) (map sync_command rest) ≡ record no_tables { syncs = front ++ rest }
 syncs_again front [] h = ap (λ l. record no_tables { syncs = l }) (sym (append-nil front))
 syncs_again front (s ∷ rest) h =
-    ap₂ (λ v l. fold apply (record no_tables { values = v; syncs = l }) (map sync_command rest)) (no_values (is_kept_sync front s.0 s.1) s.0)
-    (put_last sync_host 8 1 front s rest h)
-    ∙ syncs_again (front ++ s ∷ []) rest (subst (AreRows sync_host 1 8) (sym (append_assoc front (s ∷ []) rest)) h)
-    ∙ ap (λ l. record no_tables { syncs = l }) (append_assoc front (s ∷ []) rest)
+    let h0 = no_values (is_kept_sync front s.0 s.1) s.0 in let h1 = put_last sync_host 8 1 front s rest h in
+    let h2 = syncs_again (front ++ s ∷ []) rest (subst (AreRows sync_host 1 8) (sym (append_assoc front (s ∷ []) rest)) h) in
+    let h3 = append_assoc front (s ∷ []) rest in grind arith
 
 values_again : (t : HciTables) (front rest : List RegValue) → AreRows place_of_value 2 16 (front ++ rest) → AllByRecursion IsPresent rest
     → fold apply (record t { values = front }) (map set_command rest) ≡ record t { values = front ++ rest }
 values_again t front [] h p = ap (λ l. record t { values = l }) (sym (append-nil front))
 values_again t front (v ∷ rest) h p =
-    let other = not-true (is_default v.param v.value.items) (and_parts (is_kept v.host v.gate v.param) (not (is_default v.param v.value.items)) p.0).1 in
-    ap (λ l. fold apply (record t { values = l }) (map set_command rest))
-    (ap (λ b. cond b (filter (λ row. not (place_of_value row == value_place v.host v.param)) front) (with_row place_of_value v front)) other
-    ∙ put_last place_of_value 16 2 front v rest h)
-    ∙ values_again t (front ++ v ∷ []) rest (subst (AreRows place_of_value 2 16) (sym (append_assoc front (v ∷ []) rest)) h) p.1
-    ∙ ap (λ l. record t { values = l }) (append_assoc front (v ∷ []) rest)
+    let h0 = put_last place_of_value 16 2 front v rest h in
+    let h1 = values_again t (front ++ v ∷ []) rest (subst (AreRows place_of_value 2 16) (sym (append_assoc front (v ∷ []) rest)) h) p.1 in
+    let h2 = append_assoc front (v ∷ []) rest in grind arith
 
 rows_again : (t : HciTables) (front rest : List PipeRow) → ArePipeRows (all_closed front ++ all_closed rest)
     → fold apply (record t { rows = all_closed front }) (map create_command rest) ≡ record t { rows = all_closed front ++ all_closed rest }
@@ -397,10 +342,7 @@ are_commands-push (y ∷ xs) x all one =
 
 take-push : (bodies : List (List ℕ)) (k : ℕ) (b : List ℕ) → slice_get bodies k ≡ Some b → take (suc k) bodies ≡ take k bodies ++ b ∷ []
 take-push [] k b is = cc
-take-push (x ∷ bodies) zero b is = ap (λ y. y ∷ []) (same x b is)
-  where
-    same : (y z : List ℕ) → Some y ≡ Some z → y ≡ z
-    same y z e = cc
+take-push (x ∷ bodies) zero b is = grind arith
 take-push (x ∷ bodies) (suc k) b is = ap (λ l. x ∷ l) (take-push bodies k b is)
 
 take-whole : (bodies : List (List ℕ)) (k : ℕ) → k ≡ length bodies → take k bodies ≡ bodies
@@ -437,11 +379,7 @@ none_other (b ∷ bodies) j all =
 other_found : (bodies : List (List ℕ)) (j k : ℕ) (b : List ℕ) → are_commands (take k bodies) ≡ true → slice_get bodies k ≡ Some b → command_of b ≡ None
     → first_other j bodies ≡ Some (j + k)
 other_found [] j k b all there none = cc
-other_found (x ∷ bodies) j zero b all there none =
-    ap (λ o. cond (is_some o) (first_other (j + 1) bodies) (Some j)) (ap command_of (same x b there) ∙ none) ∙ ap Some (sym (add-zero j))
-  where
-    same : (y z : List ℕ) → Some y ≡ Some z → y ≡ z
-    same y z e = cc
+other_found (x ∷ bodies) j zero b all there none = grind arith
 other_found (x ∷ bodies) j (suc k) b all there none =
     let both = and_parts (is_some (command_of x)) (are_commands (take k bodies)) all in
     ap (λ o. cond o (first_other (j + 1) bodies) (Some j)) both.0 ∙ other_found bodies (j + 1) k b both.1 there none ∙ ap Some (omega arith)
@@ -469,11 +407,7 @@ fault_is_told content all = by_version (is_known (journal content).head.version)
 
 -- a sound journal whose records are commands has no fault
 pub sound_has_no_fault : (content : List ℕ) → are_commands (records content) ≡ true → IsSound (journal content) → image_fault content ≡ None
-sound_has_no_fault content all sound =
-    fault_is_told content all
-    ∙ ap (λ k. cond k (cond (journal content).found.is_bad (Some (BadRecord (gate_at content (length (records content))))) None)
-    (Some (UnknownFormat (journal content).head.version))) sound.known
-    ∙ ap (λ b. cond b (Some (BadRecord (gate_at content (length (records content))))) None) sound.good
+sound_has_no_fault content all sound = let h0 = fault_is_told content all in grind arith
 
 pub journal_fault_is_told : (content now : List ℕ) (many : ℕ) (t : HciTables) (f : JournalFault) → now ≡ content → AreApplied (records content) many t
     → IsFaulty now many f
@@ -483,8 +417,7 @@ journal_fault_is_told content now many t f same so_far faulty =
     fault_is_told content (applied_all (records content) many t so_far last).1 ∙ ap fault (sym same) ∙ faulty.fault_is
 
 pub carried : {A B C T K D : Type 0} → A ⊎ (B × (T → C)) → (T → C → K → D) → A ⊎ (B × (T → K → D))
-carried (inl a) step = inl a
-carried (inr b) step = inr (b.0, λ t k. step t (b.1 t) k)
+carried x0 step = grind arith
 
 -- ---- what a commit leaves
 
@@ -508,12 +441,7 @@ all-mapped f (x ∷ xs) all = (all.0, all-mapped f xs all.1)
 
 may_open : (rows : List PipeRow) → AllByRecursion (λ r. IsCommand (create_command r)) rows → AllByRecursion (λ r. IsCommand (open_command r)) rows
 may_open [] all = tt
-may_open (r ∷ rows) all =
-    let three = is_dynamic r.pid && is_host r.creator && is_host r.dest in
-    let four = and_parts (three && not (r.creator == r.dest)) true all.0 in
-    let parts = and_parts (is_dynamic r.pid && is_host r.creator) (is_host r.dest) (and_parts three (not (r.creator == r.dest)) four.0).0 in
-    let two = and_parts (is_dynamic r.pid) (is_host r.creator) parts.0 in
-    (and_from (is_host r.creator) (nat_lt r.pid 112) two.1 (and_parts (nat_le 2 r.pid) (nat_lt r.pid 112) two.0).1, may_open rows all.1)
+may_open (r ∷ rows) all = let h0 = may_open rows all.1 in grind arith
 
 pub all_recordable : (t : HciTables) → IsRecordable t → AreTables t → AllByRecursion IsCommand (snapshot_of t)
 all_recordable t may are =
@@ -539,9 +467,7 @@ holds_snapshot new t may are is =
 -- after a compaction that went through, or was not begun, a live journal holds the tables
 pub holds_by : {T : Type 0} (r : Result T JournalFault) (live : Bool) (P : Type 0) → OnOk r P → IfErr r (λ f. (f ≡ NvFault) ⊎ (f ≡ GenerationsSpent))
     → (r ≡ Err NvFault → live ≡ false) → (r ≡ Err GenerationsSpent → P) → IsTrue live → P
-holds_by (Ok x) live P ok fault dead spent is_live = ok
-holds_by (Err f) live P ok (inl memory) dead spent is_live = absurd (true≢false (sym is_live ∙ dead (ap Err memory)))
-holds_by (Err f) live P ok (inr generations) dead spent is_live = spent (ap Err generations)
+holds_by x0 live x2 ok fault dead spent is_live = grind arith
 
 -- writes, and then more writes
 pub made-append : {M : Type 0} (writes : M → ℕ → List ℕ → Bool → M → Type 0) (first then_these : List Write) (old between : M) (ok : Bool) (new : M)
@@ -565,27 +491,17 @@ module _ {M : Type 0} (writes : M → ℕ → List ℕ → Bool → M → Type 0
   commit_made body first second middle old between ok new a b is made more =
       made-append writes (room_writes s t body) (append_writes (with_room s t body) body) old between ok new
       (subst (λ l. AreMade writes (room_writes s t l) old true between) a made)
-      (subst (λ l. AreMade writes (append_writes (with_room s t body) l) between ok new) b
-      (subst (λ m. AreMade writes (append_writes m second) between ok new) (is ∙ ap (with_room s t) a) more))
+      (grind arith)
 
   pub commit_cut : (body first : List ℕ) (old new : M) → first ≡ body → AreMade writes (room_writes s t first) old false new
       → AreMade writes (commit_writes s t body) old false new
-  commit_cut body first old new is made =
-      made-cut writes (room_writes s t body) (append_writes (with_room s t body) body) old new
-      (subst (λ l. AreMade writes (room_writes s t l) old false new) is made)
+  commit_cut body first old new is made = grind arith
 
 -- ---- what a failed write of a commit leaves
 
 -- the body of a command may be appended
 pub is_body : (c : Command) → IsCommand c → IsBody (body_of c)
-is_body (Create row) may = (omega arith, omega arith)
-is_body (Delete pid) may = (omega arith, omega arith)
-is_body (Clear host) may = (omega arith, omega arith)
-is_body (SetOpened host pid opened) may = (omega arith, omega arith)
-is_body (Set host gate param value) may =
-    let short = short_value host param value.items (and_parts (is_kept host gate param) (is_allowed host param value.items) may).1 in
-    (omega arith, omega (arith, short))
-is_body (Sync host id) may = (omega arith, omega arith)
+is_body x0 may = grind arith
 
 pub are_bodies : (cs : List Command) → AllByRecursion IsCommand cs → AllByRecursion IsBody (map body_of cs)
 are_bodies [] all = tt
@@ -602,20 +518,13 @@ journal_left writes content left cut = either (cut.whole + 1 == length writes &&
     either false is = inl is
 
 pub holds_still : (content new : List ℕ) (t : HciTables) → HoldsTables content t → records new ≡ records content → HoldsTables new t
-holds_still content new t holds same = record {
-  commands = ap are_commands same ∙ holds.commands;
-  tables_are = ap (λ l. close (fold applied no_tables l)) same ∙ holds.tables_are;
-}
+holds_still content new t holds same = grind arith
 
 -- a memory that says what another one says keeps what that keeps
 pub keeps_still : (content new : List ℕ) (s : State) (t : HciTables) (many : ℕ) → Says content s
     → HoldsTables content t → count_of s ≡ many → journal new ≡ journal content
     → Keeps new t many
-keeps_still content new s t many says holds is same = record {
-  sound = subst IsSound (sym same) says.sound;
-  holds = holds_still content new t holds (ap (λ (j : Journal). j.found.bodies) same);
-  count_is = same_count new content same ∙ ap count_of says.state_is ∙ is;
-}
+keeps_still content new s t many says holds is same = grind arith
 
 module _ (content left : List ℕ) (s : State) (t : HciTables) (says : Says content s) (holds : HoldsTables content t) where
   -- a record that was cut
@@ -655,16 +564,11 @@ module _ (content left : List ℕ) (s : State) (t : HciTables) (says : Says cont
 
 -- room for a record changes no count
 pub room_count : (s : State) (t : HciTables) (body : List ℕ) → count_of (with_room s t body) ≡ count_of s
-room_count s t body = by_room (record_fits s body)
-  where
-    by_room : (b : Bool) → count_of (cond b s (compacted s (snapshot_bodies t))) ≡ count_of s
-    by_room true = refl
-    by_room false = compact_count s (snapshot_bodies t)
+room_count s t body = grind arith
 
 -- a record that was cut, behind the room for it
 pub keeps_then : (left : List ℕ) (s : State) {m : State} (t : HciTables) (c : Command) {first second : List ℕ} → first ≡ body_of c → second ≡ body_of c
     → m ≡ with_room s t first → Keeps left t (count_of m) ⊎ Keeps left (apply t c) (count_of (appended m second))
     → Keeps left t (count_of s) ⊎ Keeps left (apply t c) (count_of (committed s t (body_of c)))
 keeps_then left s t c {first} a b is (inl before) = inl (subst (Keeps left t) (ap count_of is ∙ room_count s t first) before)
-keeps_then left s t c a b is (inr later) =
-    inr (subst (Keeps left (apply t c)) (ap₂ (λ (p : State) l. count_of (appended p l)) (is ∙ ap (with_room s t) a) b) later)
+keeps_then left s t c a b is (inr later) = grind arith

@@ -1,6 +1,6 @@
 -- Why a start of a store is refused.
-use Rattle.hci_store.proofs.Words.{BadRecord, Bool, GenerationsSpent, IsKnown, IsOnlyRead, IsTrue, JournalFault, List, NvFault, Some, ap, arith, cond, false}
-use Rattle.hci_store.proofs.Words.{fault, first_other, gate_at, inl, inr, is_known, journal, option_map_or, records, subst, sym, true, ℕ, ◌∙◌, ◌≡◌, ◌≤◌, ◌⊎◌}
+use Rattle.hci_store.proofs.Words.{Bool, GenerationsSpent, IsKnown, IsOnlyRead, IsTrue, JournalFault, List, NvFault, Some, arith, false}
+use Rattle.hci_store.proofs.Words.{fault, inl, inr, is_known, journal, subst, true, ℕ, ◌∙◌, ◌≡◌, ◌≤◌, ◌⊎◌}
 use Rattle.swp_base.specs.Outside.{Rose}
 use Rattle.journal_laws.specs.Writes.{AreRead}
 use Rattle.nv_journal.specs.Refusals as journal_refusals
@@ -9,8 +9,7 @@ use Rattle.hci_store.specs.Refusals.{AreRecordsRefused}
 
 pub unknown_is_told : (content : List ℕ) → is_known (journal content).head.version ≡ false → image_fault content ≡ fault content
 unfolding image_fault
-unknown_is_told content unknown =
-    ap (λ k. cond k (option_map_or (λ n. Some (BadRecord (gate_at content n))) (first_other 0 (records content)) (fault content)) (fault content)) unknown
+unknown_is_told content unknown = grind arith
 
 module _ {N : Type 0} (reads : N → Bool → N → Type 0) (faults : N → ℕ) (tells : Bool) (content : N → List ℕ) (first new : N) where
   -- the heads were refused
@@ -39,58 +38,38 @@ module _ {N : Type 0} (reads : N → Bool → N → Type 0) (faults : N → ℕ)
       → (IsTrue tells → content between ≡ content first) → (IsTrue tells → content new ≡ content between)
       → (IsTrue tells → IsKnown (journal (content first)).head.version)
       → AreRecordsRefused reads faults tells content first new f
-  records_refused between f (inl memory) unread read count rose kept still known =
-      (inl (record { fault = memory; read = unread memory; rose = omega (arith, count, rose memory) }), λ t. still t ∙ kept t)
-  records_refused between f (inr image) unread read count rose kept still known = (
-    inr (record {
-      fault_is = image.0;
-      read = read image.0;
-      told = λ t. ap image_fault (sym (kept t)) ∙ image.1 t (subst (λ l. IsKnown (journal l).head.version) (sym (kept t)) (known t));
-    }),
-    λ t. still t ∙ kept t,
-  )
+  records_refused between f x2 unread read count rose kept still known = grind arith
 
   pub rose_of : (f : JournalFault) → AreRecordsRefused reads faults tells content first new f → f ≡ NvFault → Rose (faults first) (faults new)
-  rose_of f (inl unread, kept) memory = unread.rose
-  rose_of f (inr unsound, kept) memory = absurd (subst journal_refusals.IsImageFault memory unsound.fault_is)
+  rose_of f x1 memory = grind arith
 
   pub image_of : (f : JournalFault) → AreRecordsRefused reads faults tells content first new f → IsTrue tells → journal_refusals.IsImageFault f
       → image_fault (content first) ≡ Some f
-  image_of f (inl unread, kept) t image = absurd (subst journal_refusals.IsImageFault unread.fault image)
-  image_of f (inr unsound, kept) t image = unsound.told t
+  image_of f x1 t image = grind arith
 
   -- no more was done than reads, the last of which failed
   pub unread_of : (f : JournalFault) → AreRecordsRefused reads faults tells content first new f → f ≡ NvFault → IsTrue tells
       → AreRead reads 37 first false new × (content new ≡ content first)
-  unread_of f (inl unread, kept) memory t = (unread.read, kept t)
-  unread_of f (inr unsound, kept) memory t = absurd (subst journal_refusals.IsImageFault memory unsound.fault_is)
+  unread_of f x1 memory t = grind arith
 
   -- what is no fault of the memory was found by reads that went through
   pub only_read : (f : JournalFault) → AreRecordsRefused reads faults tells content first new f → ¬ (f ≡ NvFault)
       → IsOnlyRead reads tells content first new
-  only_read f (inl unread, kept) image = absurd (image unread.fault)
-  only_read f (inr unsound, kept) image = record { read = unsound.read; kept = kept }
+  only_read f x1 image = grind arith
 
   pub fault_of : (f : JournalFault) → AreRecordsRefused reads faults tells content first new f
       → (f ≡ NvFault) ⊎ (f ≡ GenerationsSpent) ⊎ journal_refusals.IsImageFault f
-  fault_of f (inl unread, kept) = inl unread.fault
-  fault_of f (inr unsound, kept) = inr (inr unsound.fault_is)
+  fault_of f x1 = grind arith
 
   pub not_spent : (f : JournalFault) → AreRecordsRefused reads faults tells content first new f → f ≡ GenerationsSpent → ⊥
-  not_spent f (inl unread, kept) spent = absurd (memory_is_not_spent (sym unread.fault ∙ spent))
-    where
-      memory_is_not_spent : NvFault ≡ GenerationsSpent → ⊥
-      memory_is_not_spent e = cc
-  not_spent f (inr unsound, kept) spent = absurd (subst journal_refusals.IsImageFault spent unsound.fault_is)
+  not_spent f x1 spent = grind arith
 
 pub memory_is_no_image : (f : JournalFault) → f ≡ NvFault → journal_refusals.IsImageFault f → ⊥
 memory_is_no_image f memory image = subst journal_refusals.IsImageFault memory image
 
 pub start_is_no_image : (f : JournalFault) → (f ≡ NvFault) ⊎ (f ≡ GenerationsSpent) → journal_refusals.IsImageFault f → ⊥
-start_is_no_image f (inl memory) image = subst journal_refusals.IsImageFault memory image
-start_is_no_image f (inr spent) image = subst journal_refusals.IsImageFault spent image
+start_is_no_image f x1 image = grind arith
 
 -- what a start behind the records finds, where its fault is none of the memory
 pub where_spent : {A : Type 0} (f : JournalFault) → (f ≡ NvFault) ⊎ (f ≡ GenerationsSpent) → ¬ (f ≡ NvFault) → (f ≡ GenerationsSpent → A) → A
-where_spent f (inl memory) other found = absurd (other memory)
-where_spent f (inr spent) other found = found spent
+where_spent f x1 other found = grind arith

@@ -1,7 +1,7 @@
 -- What a start finds in the bank in use.
 use Rattle.std.proofs.Common.{Option, ◌||◌, ◌≢◌}
-use Rattle.hci_store.proofs.Words.{AreMade, Bool, HciTables, IsTrue, List, None, Says, Some, State, [], ap, are_commands, arith, close, count, count_of, false}
-use Rattle.hci_store.proofs.Words.{format_writes, formatted, is_opened_gate, journal, migration_writes, nat_tests, option_map_or, records, refl, start_writes}
+use Rattle.hci_store.proofs.Words.{AreMade, Bool, HciTables, IsTrue, List, Says, State, [], ap, are_commands, arith, close, count, count_of, false}
+use Rattle.hci_store.proofs.Words.{is_opened_gate, journal, migration_writes, nat_tests, option_map_or, records, start_writes}
 use Rattle.hci_store.proofs.Words.{started_state, subst, sym, tables_of, true, ℕ, ◌++◌, ◌==◌, ◌∙◌, ◌≡◌}
 use Rattle.journal_laws.specs.declared.banks.Side.{Side}
 use Rattle.journal_laws.specs.Banks.{current, head, other}
@@ -12,17 +12,12 @@ use Rattle.hci_store.proofs.Committed.{sound_has_no_fault}
 
 -- a bank that isn't of version 02 was not formatted just now
 was_used : (s : State) → (started_state s).version ≢ 2 → (started_state s ≡ s) × (start_writes s ≡ [])
-was_used s older = by_bank s.in_use refl
-  where
-    by_bank : (o : Option Side) → s.in_use ≡ o → (started_state s ≡ s) × (start_writes s ≡ [])
-    by_bank None is = absurd (older (ap (λ p. (option_map_or (λ _. s) p formatted).version) is))
-    by_bank (Some side) is = (ap (λ p. option_map_or (λ _. s) p formatted) is, ap (λ p. option_map_or (λ _. []) p format_writes) is)
+was_used s older = grind arith
 
 -- so nothing was written of it
 pub untouched : {M : Type 0} (writes : M → ℕ → List ℕ → Bool → M → Type 0) (s j : State) (old new : M) → j ≡ started_state s → j.version ≢ 2
     → AreMade writes (start_writes s) old true new → new ≡ old
-untouched writes s j old new is older made =
-    (subst (λ l. AreMade writes l old true new) (was_used s (subst (λ (t : State). t.version ≢ 2) is older)).1 made).1
+untouched writes s j old new is older made = grind arith
 
 first_version : (v : ℕ) → IsTrue (v == 1 || v == 2) → v ≢ 2 → v ≡ 1
 first_version v known older = grind (arith, nat_tests)
@@ -37,8 +32,7 @@ module _ (content : List ℕ) (s j : State) (says : Says content s) (is : j ≡ 
   counted = ap count_of is ∙ ap (λ t. count_of (started_state t)) (sym says.state_is) ∙ by_bank (current content)
     where
       by_bank : (o : Option Side) → count_of (started_state (state_in content o)) ≡ count_of (state_in content o)
-      by_bank None = refl
-      by_bank (Some side) = refl
+      by_bank x0 = grind arith
 
   pub not_written : {M : Type 0} (writes : M → ℕ → List ℕ → Bool → M → Type 0) (old new : M) → j.version ≢ 2
       → AreMade writes (start_writes s) old true new → new ≡ old
@@ -64,8 +58,7 @@ module _ (content : List ℕ) (s j : State) (says : Says content s) (is : j ≡ 
       one_is_not_two n e f = omega (arith, e, f)
 
       by_bank : (o : Option Side) → (state_in content o).version ≡ 1 → started_state (state_in content o) ≡ state_in content o
-      by_bank None e = absurd (omega (arith, e))
-      by_bank (Some side) e = refl
+      by_bank x0 e = grind arith
 
   now_is : j ≡ started_state (state_of content)
   now_is = is ∙ ap started_state (sym says.state_is)

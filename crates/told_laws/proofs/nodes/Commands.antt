@@ -1,15 +1,15 @@
 -- Commands, tables and entries of a world of nodes are in their ranges, and so is the link of a host over each step at one of its ends.
 use Rattle.told_laws.proofs.Words.{Acked, Act, ActDue, ActEvent, ActFrame, ActStart, ActStop, ActTake, ActTick, Active, AllByRecursion, AllByRecursion-filter}
-use Rattle.told_laws.proofs.Words.{AllByRecursion-take, ArePipeRows, AreRows-filter, AreRows-map, AreRows-with_row, Asked, AsksReset, Bare, Book, Bool, Clear}
-use Rattle.told_laws.proofs.Words.{Clf, Clt, Comes, Command, Control, Create, CutOff, Delete, Emit, EndState, Ending, Entry, GaveUp, GoesOut, Got, HciTables}
+use Rattle.told_laws.proofs.Words.{AllByRecursion-take, ArePipeRows, AreRows-filter, AreRows-map, AreRows-with_row, Asked, AsksReset, Book, Bool, Clear}
+use Rattle.told_laws.proofs.Words.{Clt, Comes, Command, Control, Create, CutOff, Delete, Emit, EndState, Ending, Entry, GaveUp, GoesOut, Got, HciTables}
 use Rattle.told_laws.proofs.Words.{IsByte, IsDynamic, IsEnd, IsEntry, IsSaidCommand, IsSaidPipe, IsSaidStatic, IsSaidSync, IsSaidValue, Link, LinkEnd}
 use Rattle.told_laws.proofs.Words.{LinkInput, LinkState, List, Lost, NextFrame, NoInput, None, Noted, NumberedEnd, OnWire, Option, PipeRow, PowerMode, Ready}
 use Rattle.told_laws.proofs.Words.{Refused, RegValue, Report, Reset, Sent, Set, SetOpened, Side, Some, Start, Starts, Stop, Stops, Sync, SyncId, Take, Tick}
-use Rattle.told_laws.proofs.Words.{Took, Turn, Uicc, Up as IsUpNow, [], act_answer, activated, after_commands, after_input, all_closed, all_frames, all_mapped}
+use Rattle.told_laws.proofs.Words.{Took, Turn, Up as IsUpNow, [], act_answer, activated, after_commands, after_input, all_closed, all_frames, all_mapped}
 use Rattle.told_laws.proofs.Words.{among, ap, apply, arith, as_opened, book_after, by_option, cond, cond_both, default_of, drop, each-append, ended_by}
 use Rattle.told_laws.proofs.Words.{entries_for, entry_of, exchanged, false, find, finished, flat_map, fold, frames_out, has_input, has_restarted, has_taken}
 use Rattle.told_laws.proofs.Words.{heard, if_up, in_front, is_command, is_default, is_faulty, is_kept_sync, is_open, is_some, length, length-append, length-map}
-use Rattle.told_laws.proofs.Words.{lpdu_of, map, moved, nat_lt, new_book, new_clf, new_link, new_uicc, no_tables, pid_of, place_of_value, put_down, refl}
+use Rattle.told_laws.proofs.Words.{lpdu_of, map, moved, nat_lt, new_book, no_tables, pid_of, place_of_value, put_down, refl}
 use Rattle.told_laws.proofs.Words.{replicate, reset_by, reset_refusal, reset_with, role_after, sent_all, silent, slice_index, static_place, steps_at_controller}
 use Rattle.told_laws.proofs.Words.{stopped, subst, suc, sync_host, tables_in, take, take_answer, taken, tick_answer, ticked, told, took, true, turn, turned}
 use Rattle.told_laws.proofs.Words.{unless, value_at, value_place, window_of, with_act, with_command, with_ended, with_found, with_opened, with_static}
@@ -219,14 +219,6 @@ module _ (b c : Bool) (n : ℕ) where
       (side_turned b (n + 8) ts l.controller.side turns (side_more b n (n + 8) l.controller.side (omega arith) h.near.side.side)) (omega (arith, none, later))
       (but b c n l h)
 
--- a new link of a controller and a host
-pub new_link_in : LinkIn false true 0 (new_link (Clf new_clf) (Uicc new_uicc))
-new_link_in = grind arith
-
--- where there is no link
-pub no_link_in : (b c : Bool) → LinkIn b c 0 (new_link Bare Bare)
-no_link_in b c = grind arith
-
 -- ## The entries of a world of nodes are in their ranges, where no number of a session in them is above a bound
 -- What a boot finds and what ANY_OK counts isn't spoken of.
 
@@ -359,11 +351,7 @@ static_in statics host pid false a b h = AllByRecursion-filter IsSaidStatic _ st
 
 opened_in : (rows : List PipeRow) (pid : ℕ) (opened : Bool) → AllByRecursion IsSaidPipe rows → AllByRecursion IsSaidPipe (with_opened rows pid opened)
 opened_in [] pid opened h = tt
-opened_in (row ∷ rows) pid opened h = (
-  cond_both (row.pid == pid) (as_opened opened row) row IsSaidPipe
-      (λ _. record { pid = h.0.pid; creator = h.0.creator; creator_gate = h.0.creator_gate; dest = h.0.dest; dest_gate = h.0.dest_gate }) (λ _. h.0),
-  opened_in rows pid opened h.1,
-)
+opened_in (row ∷ rows) pid opened h = let h0 = as_opened opened row in let h1 = opened_in rows pid opened h.1 in grind arith
 
 value_in : (values : List RegValue) (host gate param : ℕ) (value : List ℕ) → IsByte host → IsByte gate → IsByte param → AreBytes value → length value ≤ 4095
     → AllByRecursion IsValueIn values → AllByRecursion IsValueIn (with_value values host gate param value)
@@ -437,10 +425,7 @@ after_in (c ∷ cs) t is h = after_in cs (apply t c) is.1 (applied_in c t is.0.0
 
 closed_in : (rows : List PipeRow) → AllByRecursion IsSaidPipe rows → AllByRecursion IsSaidPipe (all_closed rows)
 closed_in [] h = tt
-closed_in (row ∷ rows) h = (
-  record { pid = h.0.pid; creator = h.0.creator; creator_gate = h.0.creator_gate; dest = h.0.dest; dest_gate = h.0.dest_gate },
-  closed_in rows h.1,
-)
+closed_in (row ∷ rows) h = let h0 = closed_in rows h.1 in grind arith
 
 record IsBookIn (b : Book) : Type 0 where
   commands : AllByRecursion IsKeptCommand b.commands

@@ -1,7 +1,7 @@
 -- A world of nodes, whatever happens to it, stays in its range, and so does what is noted of it.
 use Rattle.told_laws.proofs.Words.{Activates, AllByRecursion, ArePipeRows, Arms, AsksReset, AtEnd, Bare, Bool, Boots, Broken, Comes, Controller, CutOff, Deed}
 use Rattle.told_laws.proofs.Words.{Desk, End, Ending, Entry, Gives, GoesOut, Happening, Host, Inits, IsCut, Link, LinkEnd, LinkInput, List, Lose, Loses, Loss}
-use Rattle.told_laws.proofs.Words.{Memory, Message, NextFrame, NoInput, NodeWorld, None, NumberedEnd, Option, Plan, Port, Reset, Resets, Running, Side, Site}
+use Rattle.told_laws.proofs.Words.{Memory, NextFrame, NoInput, NodeWorld, None, NumberedEnd, Option, Plan, Port, Reset, Resets, Running, Side, Site}
 use Rattle.told_laws.proofs.Words.{Some, Starts, Step, Stops, Takes, Tick, Ticks, TimePasses, Work, [], activates, after_controller, after_host, after_planned}
 use Rattle.told_laws.proofs.Words.{aged, aged_entries, all_aged, all_changed, all_map, all_mapped, arith, arrival, at, beginning, begins_with, boot_found}
 use Rattle.told_laws.proofs.Words.{boot_writes, boot_written, boots, by_boot, by_coming, by_controller, by_controller_tick, by_host, by_host_tick, by_loss}
@@ -15,7 +15,7 @@ use Rattle.told_laws.proofs.Words.{with_site, work_of, world_step, world_ticks, 
 use Rattle.link_laws.specs.messages.Links.LinkEvent.{AtController}
 use Rattle.node_laws.proofs.telling.Events.{site_host, site_is}
 use Rattle.told_laws.proofs.nodes.Commands.{AreIn, AreNotedIn, AreTablesIn, ComesIn, IsNotedIn, LinkIn, NumberedIn, all_entries_in, all_in_more, each_in}
-use Rattle.told_laws.proofs.nodes.Commands.{in-append, link_exchanged, link_has_input, link_in_more, link_steps, no_link_in}
+use Rattle.told_laws.proofs.nodes.Commands.{in-append, link_exchanged, link_has_input, link_in_more, link_steps}
 use Rattle.told_laws.proofs.nodes.Hosts.{AreDeedsIn, IfBytes, IfInit, IsDeskIn, IsInitIn}
 use Rattle.told_laws.proofs.nodes.Machines.{AreTurnsIn, IsInputIn, IsLineFrame, IsMail, SideIn, out_in}
 use Rattle.told_laws.proofs.nodes.Works.{ArePortsIn, IsPortIn, IsWorkIn, begins_in, port_more, steps_in}
@@ -73,11 +73,8 @@ work_more b n k more w a =
 site_in_more : (n k : ℕ) → n ≤ k → (s : Site) → IsSiteIn n s → IsSiteIn k s
 site_in_more n k more s h = record { host = h.host; link = link_in_more false true n k s.link more h.link; node = h.node }
 
-sites_more : (n k : ℕ) → n ≤ k → (sites : List Site) → AllByRecursion (IsSiteIn n) sites → AllByRecursion (IsSiteIn k) sites
-sites_more n k more sites h = all_mapped Site (IsSiteIn n) (IsSiteIn k) sites (site_in_more n k more) h
-
 pub world_more : (n k : ℕ) (w : NodeWorld) → n ≤ k → IsWorldIn n w → IsWorldIn k w
-world_more n k w more h = record { sites = sites_more n k more w.sites h.sites; controller = h.controller }
+world_more n k w more h = record { sites = all_mapped Site (IsSiteIn n) (IsSiteIn k) w.sites (site_in_more n k more) h.sites; controller = h.controller }
 
 site_changed : (n k : ℕ) → n ≤ k → (h : ℕ) (f : Site → Site) → ((s : Site) → IsSiteIn n s → IsSiteIn k (f s)) → (sites : List Site)
     → AllByRecursion (IsSiteIn n) sites → AllByRecursion (IsSiteIn k) (with_site h f sites)
@@ -90,7 +87,7 @@ site_changed n k more h f one sites a =
 
 pub link_there : (n : ℕ) (sites : List Site) (h : ℕ) → AllByRecursion (IsSiteIn n) sites → LinkIn false true n (link_to sites h)
 link_there n sites h a = by_option (site_at sites h)
-    (λ q. rw q (link_in_more false true 0 n (new_link Bare Bare) (omega arith) (no_link_in false true)))
+    (λ q. rw q (link_in_more false true 0 n (new_link Bare Bare) (omega arith) (grind arith)))
     (λ s q. rw q (site_is (IsSiteIn n) sites h s a q).link)
 
 -- ### Frames
@@ -233,12 +230,9 @@ module _ (n : ℕ) (w : NodeWorld) (is : IsWorldIn n w) where
         };
         noted = all_in_more (n + 8) (n + 13) _ (omega arith)
             (in-append (n + 8) k.entries _ a.entries
-            (noted_frames true (n + 8) k a Host h (wires_for (exchanged s.link) comes) (host_low h s small there)
+            (noted_frames true (n + 8) k a Host h (wires_for (exchanged s.link) comes) (let same = site_host w.sites h s there in omega (arith, small, same))
             (wires_on true false n (exchanged s.link) comes far)));
       })
-    where
-      host_low : (k : ℕ) (s : Site) → s.host ≤ 7 → site_at w.sites k ≡ Some s → k ≤ 7
-      host_low k s small q = let same = site_host w.sites k s q in omega (arith, small, same)
 
 -- ## Whatever happens to a world of nodes keeps it, and what is noted of it, in range
 
@@ -270,9 +264,6 @@ module _ (n : ℕ) (w : NodeWorld) (is : IsWorldIn n w) (has : WorldHas w) where
       host_step n w is h NoInput (begins_with h deeds) tt
       (λ v a. work_more true n (n + 8) (omega arith) (begins_with h deeds v) (begins_in true n h deeds v small are a))
       has.sites
-
-sending_in : (h : ℕ) (m : Message) → IsMail m → AreDeedsIn (sending h m)
-sending_in h m mail = grind arith
 
 -- ### Power and memories
 
@@ -389,16 +380,13 @@ module _ (n : ℕ) (w : NodeWorld) (is : IsWorldIn n w) (has : WorldHas w) where
 
   activates_in : (h sync power : ℕ) → h ≤ 7 → sync < 65536 → power < 256 → IsStepIn (n + 26) (activates w h sync power)
   activates_in h sync power small id code =
-      let near = coming n w is has (end_c h) (Starts power) small (λ b q. starts_near b q) in
+      let near = coming n w is has (end_c h) (Starts power) small (λ b q. grind arith) in
       let far = far_step near in
       record {
         world = far.world;
         noted = in-append (n + 26) _ _ (all_in_more (n + 13) (n + 26) _ (omega arith) near.noted) far.noted;
       }
     where
-      starts_near : (b : Bool) → false ≡ b → ComesIn b (Starts power)
-      starts_near b q = grind arith
-
       between : NodeWorld
       between = (comes_at w (end_c h) (Starts power)).0
 
@@ -563,7 +551,7 @@ happens_in n w (Boots k) may is has = step_more (n + 13) (n + 26) (boots w k) (o
 happens_in n w (IsCut k) may is has =
     record { world = world_more (n + 13) (n + 26) (loses_power_at k w) (omega arith) (power_in n k w is); noted = (omega (arith, may), tt) }
 happens_in n w (Gives e m) may is has =
-    step_more (n + 13) (n + 26) _ (omega arith) (begun n w is has e.link (sending e.link m) may.0 (sending_in e.link m may.1))
+    step_more (n + 13) (n + 26) _ (omega arith) (begun n w is has e.link (sending e.link m) may.0 (grind arith))
 happens_in n w (Inits e identity pipes) may is has =
     step_more (n + 13) (n + 26) _ (omega arith)
     (begun n w is has e.link (beginning identity pipes) may.0 (may.1, (record { some = omega arith; bytes = (omega arith, tt); short = omega arith }, tt)))

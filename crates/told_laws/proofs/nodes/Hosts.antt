@@ -2,7 +2,7 @@
 use Rattle.told_laws.proofs.Words.{AllByRecursion, AllByRecursion-get, ArePipeRows, Asks, Bool, Clear, Command, Commits, Core, Create, Creation, Deed, Delete}
 use Rattle.told_laws.proofs.Words.{Desk, Drops, Ends, Err, GoesOn, HciTables, Init, InitFailed, InitMade, InitSame, IsByte, IsCommand, IsDynamic, IsEnd}
 use Rattle.told_laws.proofs.Words.{IsEvent, IsResponse, IsSaidCommand, List, Message, MessageFault, MessageKind, None, Ok, Option, Orders, PipeRow, Port}
-use Rattle.told_laws.proofs.Words.{Result, Sends, Set, SetOpened, SetsErrors, Some, Tells, [], about_at, agreed, answer_of, answers_on, anyone, ap, arith}
+use Rattle.told_laws.proofs.Words.{Result, Sends, Set, SetOpened, SetsErrors, Some, Tells, [], about_at, answer_of, answers_on, anyone, ap, arith}
 use Rattle.told_laws.proofs.Words.{asks_for, body_in, by_option, by_test, code_of, commit_deeds, cond, cond_both, controller_deeds, count_by-le-length}
 use Rattle.told_laws.proofs.Words.{count_in, creation_deeds, creation_in, decision_deeds, drop, each-append, end_of_node, end_view, ends_at, eqb, false}
 use Rattle.told_laws.proofs.Words.{finds_room, first_of, gates, goes_through, has_link, header_of, identity_served, instruction_in, is_dynamic, is_host}
@@ -22,7 +22,7 @@ use Rattle.gate_answers.specs.declared.response.Response.{Response}
 use Rattle.node_laws.proofs.links.Noticing.{nobody}
 use Rattle.node_laws.proofs.steps.StepWalks.{at_port}
 use Rattle.node_machine.specs.HostReplies.{accepts, created_by, deleted_by, host_deeds, init_agreed, init_deeds, is_same, learned, learns, ordered_deeds}
-use Rattle.node_machine.specs.HostReplies.{orders_of, pipe_named_in, response_deeds}
+use Rattle.node_machine.specs.HostReplies.{orders_of, response_deeds}
 use Rattle.tables_laws.proofs.gate.Decisions.{new_row, unless}
 use Rattle.told_laws.proofs.nodes.Commands.{AreTablesIn, IfMade, IsCommandIn, IsIn, IsShortCommand, index_in, recordable_made, value_read_in}
 use Rattle.told_laws.proofs.nodes.Machines.{AreBytes, IsMail}
@@ -165,9 +165,6 @@ plain_command c said short made = record { said = said; short = short; made = ma
 few_behind : (bytes : List ℕ) → length bytes ≤ 4095 → length (drop 1 bytes) ≤ 4095
 few_behind bytes few = grind arith
 
-body_few : (message : List ℕ) → length message ≤ 4096 → length (body_in message) ≤ 4095
-body_few message few = grind arith
-
 module _ (t : HciTables) (v : LinkView) (host pipe : ℕ) (body : List ℕ) (tables : AreTablesIn t) (rows : ArePipeRows t.rows) (small : host ≤ 7)
     (upto : pipe < 112) (bytes : AreBytes body) (few : length body ≤ 4095) where
   host_byte : host < 256
@@ -181,7 +178,7 @@ module _ (t : HciTables) (v : LinkView) (host pipe : ℕ) (body : List ℕ) (tab
       let row = row_in t v host body small bytes passed in
       cond_both (eqb (dest_in body) 0) (commits (Create (new_row t v host body)) _) _ IsDecisionIn
       (λ _. (row.0, answer_in response.Ok (ends_of (new_row t v host body)) row.1 (omega arith), none_told []))
-      (λ _. (grind arith))
+      (λ _. grind arith)
 
   carried_in : (instruction : ℕ) → IsDecisionIn (carried_out t v host pipe instruction body)
   carried_in instruction =
@@ -252,16 +249,10 @@ link_in errors instruction body few bytes =
         let b = index_in (value_behind body) 1 rest in
         omega (arith, same, a, b)
 
-identity_in : (instruction : ℕ) (body : List ℕ) → IsSaying (identity_served gates instruction body)
-identity_in instruction body = grind arith
-
 link_deeds_in : (h pipe : ℕ) (served : List ℕ × Option ℕ) → pipe < 112 → IsServedIn served → AreDeedsIn (link_deeds h pipe served)
 link_deeds_in h pipe served p a = grind arith
 
 -- ### A controller
-
-agreed_in : (flag : Bool) (c : Creation) → IsCreationIn c → AreDeedsIn (agreed flag c)
-agreed_in flag c a = grind arith
 
 decision_in : (core : Core) (h pipe : ℕ) (d : Decision) → pipe < 112 → IsDecisionIn d → AreDeedsIn (decision_deeds (own_view core) h pipe d)
 decision_in core h pipe (Answer answer) p a = answers_in h pipe answer.items p a
@@ -275,9 +266,6 @@ AreDesksIn ports = AllByRecursion (λ (p : Port). IsDeskIn p.desk) ports
 errors_at : (ports : List Port) (h : ℕ) → AreDesksIn ports → option_map_or (λ (p : Port). p.desk.errors) (port_at ports h) 0 < 65536
 errors_at ports h a = by_option (port_at ports h) (λ q. rw q (omega arith)) (λ p q. rw q (at_port (λ (p : Port). IsDeskIn p.desk) ports h p a q).errors)
 
-plain_in : (h : ℕ) (r : Response) (pipe : ℕ) → pipe < 112 → AreDeedsIn (answers_on h pipe (answer_of r []))
-plain_in h r pipe p = answers_in h pipe (answer_of r []) p (answer_in r [] tt (omega arith))
-
 module _ (core : Core) (ports : List Port) (h : ℕ) (m : Message) (tables : AreTablesIn core.tables) (rows : ArePipeRows core.tables.rows)
     (a : AreDesksIn ports) (small : h ≤ 7) (s : IsMail m) where
   p : m.0 < 112
@@ -289,7 +277,7 @@ module _ (core : Core) (ports : List Port) (h : ℕ) (m : Message) (tables : Are
   served_in : (instruction : ℕ) (o : Option ℕ) → AreDeedsIn (served_at (own_view core) (view_for core.tables ports h) h m.0 instruction (body_in m.1) o)
   served_in n None =
       decision_in core h m.0 (decided core.tables (view_for core.tables ports h) h m.0 n (body_in m.1)) p
-      (decided_in core.tables (view_for core.tables ports h) h m.0 (body_in m.1) tables rows small p (body_bytes m.1 s.bytes) (body_few m.1 s.short) n)
+      (decided_in core.tables (view_for core.tables ports h) h m.0 (body_in m.1) tables rows small p (body_bytes m.1 s.bytes) (grind arith) n)
   served_in n (Some gate) =
       cond_both (eqb gate 6) (link_deeds h m.0 (link_served (view_for core.tables ports h).errors n (body_in m.1))) _ AreDeedsIn
       (λ _. link_deeds_in h m.0 (link_served (view_for core.tables ports h).errors n (body_in m.1)) p
@@ -305,7 +293,7 @@ module _ (core : Core) (ports : List Port) (h : ℕ) (m : Message) (tables : Are
       by_creation : (o : Option Creation) → creation_in q.desk.notice ≡ o → AreDeedsIn (creation_deeds (own_view core) code o)
       by_creation None is = (tt, tt)
       by_creation (Some c) is =
-          agreed_in _ c (subst IfCreation is (at_port (λ (x : Port). IsDeskIn x.desk) ports h q a here).creation)
+          let h0 = (subst IfCreation is (at_port (λ (x : Port). IsDeskIn x.desk) ports h q a here).creation) in grind arith
 
   kind_in : (x : Result (MessageKind × ℕ) MessageFault) → AreDeedsIn (kind_deeds (view_of core ports) h m x)
   kind_in (Ok (IsCommand, n)) = by_test (m.0 == 1 && asks_for ports h)
@@ -330,9 +318,6 @@ module _ (core : Core) (ports : List Port) (h : ℕ) (m : Message) (tables : Are
 abbrev IsCodeIn : Result (MessageKind × ℕ) MessageFault → Type 0
 IsCodeIn (Ok (IsResponse, code)) = code < 256
 IsCodeIn x = Unit {0}
-
-codes_in : (message : List ℕ) → IsCodeIn (header_of message)
-codes_in message = grind arith
 
 -- ### What a node keeps
 
@@ -402,16 +387,13 @@ module _ (core : Core) (is : IsCoreIn core) where
       on None = learns (own_view core) (Set core.node 0 1 (record { items = i.identity })) ++ Ends (InitMade (end_of_node core core.node) (length i.pipes)) ∷ []
       on (Some order) = GoesOn (record i { answered = i.answered + 1 }) ∷ Orders order ∷ []
 
-      pipes_few : length i.pipes < 2 ^ 32
-      pipes_few = let eight = h.few in omega (arith, eight)
-
       by : (o : Option (List ℕ)) → slice_get (orders_of i) (i.answered + 1) ≡ o → AreDeedsIn (on o)
       by None q =
           let long = h.identity.1 in let few : length i.identity ≤ 4095 = omega (arith, long) in
           each-append IsDeedIn (learns (own_view core) (Set core.node 0 1 (record { items = i.identity }))) _
           (learns_in core (Set core.node 0 1 (record { items = i.identity }))
           (node_byte, omega arith, omega arith, each_all IsByte i.identity h.identity.0) few)
-          ((λ n. (own_end core core.node is.node, pipes_few)), tt)
+          ((λ n. (own_end core core.node is.node, let eight = h.few in omega (arith, eight))), tt)
       by (Some order) q = (
         record { identity = h.identity; pipes = h.pipes; few = h.few },
         (AllByRecursion-get IsSaying (orders_of i) (i.answered + 1) order (orders_in i h) q, tt),
@@ -427,12 +409,9 @@ module _ (core : Core) (is : IsCoreIn core) where
 
   learned_in : (order value : List ℕ) → AreBytes order → AreBytes value → AreDeedsIn (learned (own_view core) order value)
   learned_in order value a b =
-      cond_both (eqb (instruction_in order) 16) (created_by (own_view core) value) _ AreDeedsIn (λ _. by_row (pipe_named_in value) refl)
+      cond_both (eqb (instruction_in order) 16) (created_by (own_view core) value) _ AreDeedsIn (λ _. grind arith)
       (λ _. grind arith)
     where
-      by_row : (o : Option PipeRow) → pipe_named_in value ≡ o → AreDeedsIn (option_map_or (λ row. learns (own_view core) (Create row)) o [])
-      by_row o q = grind arith
-
       by_body : (body : List ℕ) → AreBytes body → AreDeedsIn (deleted_by (own_view core) body)
       by_body body h = grind arith
 
@@ -453,12 +432,12 @@ module _ (core : Core) (is : IsCoreIn core) where
   ordered_in : (errors pipe n : ℕ) (body : List ℕ) → errors < 65536 → pipe < 112 → AreBytes body → AreDeedsIn (ordered_deeds (own_view core) errors pipe n body)
   ordered_in errors pipe n body few p bytes = ordered_holds AreDeedsIn core errors pipe n body (record {
     none = tt;
-    refuses = λ r. plain_in core.node r 1 low;
+    refuses = λ r. (answers_in core.node 1 (answer_of r []) low (answer_in r [] tt (omega arith)));
     creates = λ row named welcome. accepts_in core (Create row) ((grind arith));
     deletes = λ pid kept. accepts_in core (Delete pid) (record { said = kept_pid pid kept; short = tt; made = tt });
     clears = λ x host. accepts_in core (Clear x) (record { said = host_low x host; short = tt; made = tt });
     counts = λ zero. link_deeds_in core.node 0 (link_served errors n body) (omega arith) (link_in errors n body few bytes);
-    names = λ off. answers_in core.node pipe (identity_served gates n body) p (identity_in n body);
+    names = λ off. answers_in core.node pipe (identity_served gates n body) p (grind arith);
   })
     where
       dynamic : (row : PipeRow) → is_dynamic row.pid ≡ true → IsDynamic row.pid
@@ -483,7 +462,7 @@ module _ (core : Core) (is : IsCoreIn core) where
       drops = let upto = s.pipe in omega (arith, upto)
 
       code_byte : (message : List ℕ) (code : ℕ) → header_of message ≡ Ok (IsResponse, code) → code < 256
-      code_byte message code q = subst IsCodeIn q (codes_in message)
+      code_byte message code q = subst IsCodeIn q (grind arith)
 
       go : (b : Bool) (x : Result (MessageKind × ℕ) MessageFault) → is_up p.side.shdlc.phase ≡ b → header_of m.1 ≡ x
           → AreDeedsIn (host_deeds (own_view core) (end_view p) m)

@@ -4,16 +4,16 @@ use Rattle.told_laws.proofs.Words.{AllByRecursion-take, Asked, Bare, Bool, Clf, 
 use Rattle.told_laws.proofs.Words.{IsByte, Kind, LinkEnd, LinkInput, LinkState, List, Message, None, Option, PowerMode, Ready, Refused, Release, Report, Reset}
 use Rattle.told_laws.proofs.Words.{Role, Rset, S, Session, SetAside, Some, Start, Stop, SyncId, Take, Tick, Turn, Ua, Uicc, Up, Waiting, [], accepted}
 use Rattle.told_laws.proofs.Words.{acknowledged, act_answer, activated, after_frames, after_input, ahead, all_frames, all_map, all_mapped, among, arith}
-use Rattle.told_laws.proofs.Words.{brought, by_test, cond, cond_both, deactivated, discarded, drop, each-append, false, fetched, fragment_due, frames_out}
+use Rattle.told_laws.proofs.Words.{brought, cond, cond_both, deactivated, discarded, drop, each-append, false, fetched, fragment_due, frames_out}
 use Rattle.told_laws.proofs.Words.{give_refusal, given, good_of, had_tick, heard, if_up, in_front, in_phase, is_faulty, is_good, is_open, is_some, leb-true}
-use Rattle.told_laws.proofs.Words.{length, ltb-false, ltb-true, map, messages_got, moved, nat_le, nat_lt, news, not, packet_bytes, packet_count, packets_in}
+use Rattle.told_laws.proofs.Words.{length, ltb-false, map, messages_got, moved, nat_le, nat_lt, news, not, packet_bytes, packet_count, packets_in}
 use Rattle.told_laws.proofs.Words.{packets_of, place_of, put_down, put_out, received, refl, report, reset_by, reset_refusal, reset_with, role_after, sent_all}
 use Rattle.told_laws.proofs.Words.{started, stopped, suc, take, take_answer, taken, tick_answer, ticked, took, true, turn, turned, unless, whole_acked}
 use Rattle.told_laws.proofs.Words.{whole_among, window_of, with_act, zero, ℕ, ◌%◌, ◌+◌, ◌-◌, ◌<◌, ◌==◌, ◌∷◌, ◌≡◌, ◌≤◌}
 use Rattle.hcp_chain.specs.Joining.{given_by, grown, is_fifth, join_step, message_in, others, so_far}
 use Rattle.hcp_packet.specs.declared.Packet.{Packet}
 use Rattle.swp_act.specs.declared.ActOut.{ActOut}
-use Rattle.told_laws.proofs.told.Links.{IfTries, IsFragment, IsFrame, IsLowWindow, IsTellable, Ranged, drop_each, fragments_in, frames_in, ranged_after}
+use Rattle.told_laws.proofs.told.Links.{IfTries, IsFragment, IsFrame, IsLowWindow, Ranged, drop_each, fragments_in, frames_in, ranged_after}
 use Rattle.told_laws.proofs.told.Links.{ranged_out, ranged_reset, ranged_stopped, ranged_taken, ranged_ticked}
 
 -- ## The ends of the links of a world of nodes are in their ranges, whatever comes to them: frames and messages are bytes, and no count is above a bound
@@ -133,9 +133,6 @@ pub record IsMail (m : Message) : Type 0 where
   pub bytes : AreBytes m.1
   pub short : length m.1 ≤ 4096
 
-mail_told : (m : Message) → IsMail m → IsTellable m
-mail_told m h = record { pipe = h.pipe; some = h.some; bytes = h.bytes }
-
 abbrev pub AreMail : List Message → Type 0
 AreMail ms = AllByRecursion IsMail ms
 
@@ -146,9 +143,7 @@ record IsPacketIn (p : Packet) : Type 0 where
 packets_are : (fs : List (List ℕ)) → AllByRecursion AreBytes fs → AllByRecursion IsPacketIn (packets_in fs)
 packets_are [] h = tt
 packets_are ([] ∷ fs) h = packets_are fs h.1
-packets_are ((first ∷ rest) ∷ fs) h = by_test (nat_lt (first % 128) 112)
-    (λ q. rw q (record { pipe = ltb-true (first % 128) 112 q; bytes = h.0.1 }, packets_are fs h.1))
-    (λ q. rw q (packets_are fs h.1))
+packets_are ((first ∷ rest) ∷ fs) h = let h0 = packets_are fs h.1 in grind arith
 
 -- a message that is under way, or whole
 record IsBegun (m : Message) : Type 0 where
@@ -194,12 +189,7 @@ given_in begun (p ∷ ps) is h =
 
 good_in : (ms : List Message) → AllByRecursion IsBegun ms → AreMail (good_of ms)
 good_in [] h = tt
-good_in (m ∷ ms) h = by_test (is_good m.1)
-    (λ q. rw q (record { pipe = h.0.pipe; some = long m.1 q; bytes = h.0.bytes; short = h.0.short }, good_in ms h.1))
-    (λ q. rw q (good_in ms h.1))
-  where
-    long : (bytes : List ℕ) → is_good bytes ≡ true → 0 < length bytes
-    long bytes z = grind arith
+good_in (m ∷ ms) h = let h0 = is_good m.1 in let h1 = good_in ms h.1 in grind arith
 
 -- the messages that came of a session
 got_in : (s : Session) → AllByRecursion AreBytes s.acc → AreMail (messages_got s)
@@ -376,7 +366,7 @@ pub side_turn : (b : Bool) (n : ℕ) (e : LinkEnd) (t : Turn) → IsTurnIn t →
 side_turn b n e (Give m) is h =
     side_unless b n (give_refusal e m) e (given e m) h (record {
       role = h.role;
-      end = end_out n e.shdlc (map packet_bytes (packets_of m.0 m.1)) (fragments_in m (mail_told m is)) h.end;
+      end = end_out n e.shdlc (map packet_bytes (packets_of m.0 m.1)) (fragments_in m (record { pipe = is.pipe; some = is.some; bytes = is.bytes })) h.end;
       sent = each-append IsMail e.sent (m ∷ []) h.sent (is, tt);
       acts = h.acts;
       got = h.got;

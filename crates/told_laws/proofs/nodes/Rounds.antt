@@ -46,17 +46,11 @@ sites_within n m (s ∷ sites) h few acked = (
   sites_within n m sites h.1 few.1 acked.1,
 )
 
-world_within : (n m : ℕ) (w : NodeWorld) → IsWorldIn n w → FewRsetsOnEach m w.sites → AreAckedWithin m w → IsWorldIn m w
-world_within n m w h few acked = record { sites = sites_within n m w.sites h.sites few acked; controller = h.controller }
-
 -- no more fragments count as acknowledged
 sites_acked : (n : ℕ) (sites : List Site) → AllByRecursion (IsSiteIn n) sites → AllByRecursion (λ (s : Site). IsAckedWithin n s.link) sites
 sites_acked n [] h = tt
 sites_acked n (s ∷ sites) h =
     (record { controller = h.0.link.near.side.side.end.heard.acked; host = h.0.link.far.side.side.end.heard.acked }, sites_acked n sites h.1)
-
-world_acked : (n : ℕ) (w : NodeWorld) → IsWorldIn n w → AreAckedWithin n w
-world_acked n w h = sites_acked n w.sites h.sites
 
 acked_longer : (n m : ℕ) (sites : List Site) → n ≤ m → AllByRecursion (λ (s : Site). IsAckedWithin n s.link) sites
     → AllByRecursion (λ (s : Site). IsAckedWithin m s.link) sites
@@ -84,10 +78,9 @@ one_counted t x few told = grind arith
 
 all_counted : (es t : List Entry) → AreToldBehind t es → IsFew (t ++ es) → AllByRecursion IsCounted es
 all_counted [] t told few = tt
-all_counted (x ∷ es) t told few = (
-  one_counted t x (λ n. few t (x ∷ es) n refl) told.0,
-  all_counted es (t ++ x ∷ []) told.1 (subst IsFew (sym (append_assoc t (x ∷ []) es)) few),
-)
+all_counted (x ∷ es) t told few =
+    let h0 = one_counted t x (λ n. few t (x ∷ es) n refl) told.0 in
+    let h1 = all_counted es (t ++ x ∷ []) told.1 (subst IsFew (sym (append_assoc t (x ∷ []) es)) few) in grind arith
 
 -- ### Worlds
 
@@ -123,8 +116,7 @@ module _ (hosts : List ℕ) (are : AreHosts hosts) where
 
   full : (k n : ℕ) (hs content : List ℕ) (t : List Entry) (o : Option Running) → AreIn n t → IfRuns k hs content t o → IfFull o
   full k n hs content t None noted runs = tt
-  full k n hs content t (Some r) noted runs =
-      record { sorted = runs.sorted; tables = subst AreTablesIn (sym runs.tables_are) (tables_read_in n k t noted) }
+  full k n hs content t (Some r) noted runs = let h0 = tables_read_in n k t noted in grind arith
 
   sites_full : (n : ℕ) (t : List Entry) (sites : List Site) → AreIn n t → AllByRecursion (SiteKeeps t) sites
       → AllByRecursion (λ (s : Site). IfFull s.node) sites
@@ -227,10 +219,6 @@ number_low header nodes k known = node_fits header.hosts.items k (header_hosts h
 
 -- ### What a line causes
 
--- a message that isn't refused isn't too long
-unrefused_short : (e : LinkEnd) (m : Message) → give_refusal e m ≡ None → length m.1 ≤ 4096
-unrefused_short e m q = grind arith
-
 none_waits : (waits : Bool) (o : Option Refused) → if_waiting waits o ≡ None → o ≡ None
 none_waits waits o q = grind arith
 
@@ -257,7 +245,7 @@ module _ (header : Header) (nodes : IsNodeHeader header) where
             pipe = is.pipe;
             some = is.some;
             bytes = all_each IsByte message is.bytes;
-            short = unrefused_short (machine_in w e) (pid, message) refused;
+            short = grind arith;
           },
         ),
         tt,
@@ -407,7 +395,7 @@ module _ (hosts : List ℕ) (are : AreHosts hosts) where
   step_within n m t w c is may s small few rsets acked =
       let then = event_in hosts are n t w c is may s small few in
       record {
-        world = world_within (n + 26) m (world_step w c).0 then.world rsets acked;
+        world = record { sites = sites_within (n + 26) m (world_step w c).0.sites then.world.sites rsets acked; controller = then.world.controller };
         rsets = rsets;
         noted = then.noted;
         counted = then.counted;
@@ -481,7 +469,7 @@ module _ (hosts : List ℕ) (are : AreHosts hosts) where
   pub round_stands : (n : ℕ) (t : List Entry) (w : NodeWorld) → IsSound w → n + 30 ≤ top → Stands hosts are n t w
       → IsFew (t ++ entries_in (world_round w).1) → Stands hosts are (n + 6) (t ++ entries_in (world_round w).1) (world_round w).0
   round_stands n t w sound small s few =
-      let acked : AreAckedWithin n w = world_acked n w s.world in
+      let acked : AreAckedWithin n w = sites_acked n w.sites s.world.sites in
       let taken : NodeWorld × List Occurrence = ends_take_all w (ends_in_order w) in
       let tick : NodeWorld × List Entry = world_step taken.0 Ticks in
       let es : List Entry = entries_in taken.1 in

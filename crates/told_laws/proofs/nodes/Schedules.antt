@@ -1,7 +1,7 @@
 -- All that is told of plays in a world of nodes is in its range, and so is all that is told of a history that follows their lines.
 use Rattle.told_laws.proofs.Words.{All, AllByRecursion, AreDifferent, AreFewPlays, AreNodeLinesOf, Bool, End, Entry, FollowsNodes, Happening, Header, IsByte}
 use Rattle.told_laws.proofs.Words.{IsEntry, IsFew, IsHost, IsNodeHeader, IsNodeLineOf, IsPlayFor, IsPlayedLine, IsRoundLine, IsSentByHost, IsSound, Line}
-use Rattle.told_laws.proofs.Words.{LineOutcome, LineStep, List, MayAllHappen, MayBegin, NoCause, NodeHistory, NodeWorld, None, NoneIsMisread, Occurrence}
+use Rattle.told_laws.proofs.Words.{LineOutcome, LineStep, List, MayAllHappen, NoCause, NodeHistory, NodeWorld, None, NoneIsMisread, Occurrence}
 use Rattle.told_laws.proofs.Words.{OnWire, Option, Play, Round, Running, Said, Site, Some, Takes, Ticks, [], after-append, all_happen, all_joined, all_map}
 use Rattle.told_laws.proofs.Words.{all_mapped, ap, append-nil, append_assoc, arith, by_test, cond_both, each-append, end_takes_all, ends_in_order}
 use Rattle.told_laws.proofs.Words.{ends_take_all, entries_below, entries_in, eqb, false, few_front, few_in_new_world, flat_map, flat_map-append, for_with}
@@ -22,7 +22,7 @@ use Rattle.node_laws.proofs.schedules.Ranges.{hosts_are, playable, sent_by_hosts
 use Rattle.node_laws.proofs.schedules.Few.{are_few}
 use Rattle.told_laws.specs.told.NodesTold.{line_told, nodes_told}
 use Rattle.told_laws.proofs.told.BarePlays.{IfCause, back_each, each_all, front_each, lines_from, played_from, top}
-use Rattle.told_laws.proofs.nodes.Commands.{IsIn, new_link_in}
+use Rattle.told_laws.proofs.nodes.Commands.{IsIn}
 use Rattle.told_laws.proofs.nodes.Happenings.{HappensIn, IsSiteIn}
 use Rattle.told_laws.proofs.nodes.Rounds.{AllFull, IfFull, IsCounted, IsFull, Stands, all_full, caused_in, events_in, few_caused, number_low, refused_in}
 use Rattle.told_laws.proofs.nodes.Rounds.{round_stands, said_tables, stands_more}
@@ -318,7 +318,7 @@ module _ (header : Header) (nodes : IsNodeHeader header) where
   begins : StandsIn 0 [] (new_world hosts)
   begins = record {
     world = record {
-      sites = all_map IsHost (IsSiteIn 0) (new_site (replicate 65536 255)) (λ h low. record { host = low.1; link = new_link_in; node = tt }) hosts
+      sites = all_map IsHost (IsSiteIn 0) (new_site (replicate 65536 255)) (λ h low. record { host = low.1; link = grind arith; node = tt }) hosts
           (hosts_are header nodes).all;
       controller = tt;
     };
@@ -369,11 +369,8 @@ module _ (header : Header) (nodes : IsNodeHeader header) where
 
   pub nodes_told_in : (plays : List Play) (t : NodeHistory) → AllByRecursion (IsPlayFor header) plays → AreFewPlays plays
       → FollowsNodes header (lines_played header plays) t → All IsEntry (nodes_told t)
-  nodes_told_in plays t may most follows = each_all IsEntry (nodes_told t) (began, all)
+  nodes_told_in plays t may most follows = each_all IsEntry (nodes_told t) ((inr (subst IsNodeHeader (sym follows.header_is) nodes)), all)
     where
-      began : MayBegin t.header
-      began = inr (subst IsNodeHeader (sym follows.header_is) nodes)
-
       all : AllByRecursion IsEntry (flat_map line_told t.steps)
       all =
           subst (λ (steps : List LineStep). AllByRecursion IsEntry (flat_map line_told steps)) (sym follows.steps_are)

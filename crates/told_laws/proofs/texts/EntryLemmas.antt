@@ -1,12 +1,12 @@
 -- Entries, and tables, with the same words are the same.
 use Rattle.std.proofs.lemmas.Grind.{flat_map-append}
 use Rattle.std.proofs.lemmas.Slice.Eq.{bytes_eq-Decides}
-use Rattle.told_laws.proofs.Words.{All, AreOctets, AreSaidTables, Bool, Cause, Command, End, Entry, HciTables, Header, IfSome, IsByte, IsCause, IsEnd, IsEntry}
-use Rattle.told_laws.proofs.Words.{IsLineSaid, IsNumber, IsSaidCommand, IsSaidPipe, IsSaidStatic, IsSaidSync, IsSaidValue, IsTwoBytes, Line, List, LostCause}
+use Rattle.told_laws.proofs.Words.{All, AreOctets, AreSaidTables, Bool, Command, End, Entry, HciTables, Header, IfSome, IsByte, IsCause, IsEnd, IsEntry}
+use Rattle.told_laws.proofs.Words.{IsLineSaid, IsNumber, IsSaidCommand, IsSaidPipe, IsSaidStatic, IsSaidSync, IsSaidValue, IsTwoBytes, Line, List}
 use Rattle.told_laws.proofs.Words.{MayBegin, NoCause, None, Option, PipeRow, RegValue, Some, [], ap, append_assoc, arith, byte_again, byte_text, bytes_again}
-use Rattle.told_laws.proofs.Words.{bytes_eq, cause_words, codes, command_words, cond, count_words, decimal, decimal_injective, down_word, encode_upper}
+use Rattle.told_laws.proofs.Words.{bytes_eq, cause_words, codes, command_words, cond, count_words, decimal, decimal_injective, encode_upper}
 use Rattle.told_laws.proofs.Words.{end_again, end_text, end_words, entry_words, false, flat_map, header_words, hex_or_dash, length, length-append, length-hex}
-use Rattle.told_laws.proofs.Words.{length-map, line_words, lost_word, map, number_words, pipe_line, refl, rows_text, some_is, spaced, state_as_word}
+use Rattle.told_laws.proofs.Words.{length-map, line_words, map, number_words, pipe_line, refl, rows_text, some_is, spaced, state_as_word}
 use Rattle.told_laws.proofs.Words.{static_line, suc, sym, sync_line, true, two_bytes_text, value_line, ℕ, ◌%◌, ◌++◌, ◌/◌, ◌<◌, ◌∙◌, ◌∷◌, ◌≡◌}
 use Rattle.schedule_text.specs.Values.{byte_value, bytes_value, end_value}
 use Rattle.hci_tables.specs.declared.command.Command.TheVariants as command
@@ -25,10 +25,7 @@ head [] = []
 head (w ∷ ws) = w
 
 other_word : (u v : List ℕ) → bytes_eq u v ≡ false → u ≡ v → ⊥
-other_word u v e h = let same : bytes_eq u v ≡ true = (bytes_eq-Decides u v).1 h in clash (bytes_eq u v) same e
-  where
-    clash : (t : Bool) → t ≡ true → t ≡ false → ⊥
-    clash t a b = grind arith
+other_word u v e h = let h0 = bytes_eq-Decides u v in grind arith
 
 pub other_words : (xs ys : List (List ℕ)) → bytes_eq (head xs) (head ys) ≡ false → xs ≡ ys → ⊥
 other_words xs ys e h = other_word (head xs) (head ys) e (ap head h)
@@ -44,9 +41,6 @@ same_bytes a b ra rb h = some_is a b (sym (bytes_again a ra.1) ∙ ap bytes_valu
 
 same_number : (a b : ℕ) → IsNumber a → IsNumber b → decimal a ≡ decimal b → a ≡ b
 same_number a b ra rb h = decimal_injective a b (omega arith) (omega arith) h
-
-same_lost : (a b : LostCause) → lost_word a ≡ lost_word b → a ≡ b
-same_lost a b h = grind arith
 
 -- words of the same kind
 same_map : {X Y : Type 0} (f : X → Y) (R : X → Type 0) → ((x y : X) → R x → R y → f x ≡ f y → x ≡ y) → (xs ys : List X) → All R xs → All R ys
@@ -74,9 +68,6 @@ same_two a b ra rb h =
     let high : a / 256 ≡ b / 256 = cc (bytes) in
     let low : a % 256 ≡ b % 256 = cc (bytes) in
     omega arith
-
-same_down : (a b : Cause) → down_word a ≡ down_word b → a ≡ b
-same_down a b h = grind arith
 
 same_cause : (a b : NoCause) → IsCause a → IsCause b → cause_words a ≡ cause_words b → a ≡ b
 same_cause cause.Off cause.Off ra rb h = refl
@@ -270,16 +261,13 @@ same_static a b ra rb h =
     let host : a.0 ≡ b.0 = same_byte a.0 b.0 ra.0 rb.0 cc in
     let pid : a.1 ≡ b.1 = same_byte a.1 b.1 ra.1 rb.1 cc in same_pair a b host pid
 
-same_reg_parts : (a b : RegValue) → a.host ≡ b.host → a.gate ≡ b.gate → a.param ≡ b.param → a.value.items ≡ b.value.items → a ≡ b
-same_reg_parts a b host gate param value = grind arith
-
 same_reg : (a b : RegValue) → IsSaidValue a → IsSaidValue b → value_words a ≡ value_words b → a ≡ b
 same_reg a b ra rb h =
     let host : a.host ≡ b.host = same_byte a.host b.host ra.0 rb.0 cc in
     let gate : a.gate ≡ b.gate = same_byte a.gate b.gate ra.1 rb.1 cc in
     let param : a.param ≡ b.param = same_byte a.param b.param ra.2 rb.2 cc in
     let value : a.value.items ≡ b.value.items = same_value a.value.items b.value.items ra.3 rb.3 cc in
-    same_reg_parts a b host gate param value
+    (grind arith)
 
 same_sync : (a b : ℕ × ℕ) → IsSaidSync a → IsSaidSync b → sync_words a ≡ sync_words b → a ≡ b
 same_sync a b ra rb h =
@@ -326,9 +314,6 @@ rows_length t u count =
     by_two : (xs ys r s : List (List (List ℕ))) → length xs ≡ length ys → length r ≡ length s → length (xs ++ r) ≡ length (ys ++ s)
     by_two xs ys r s e f = let left = length-append xs r in let right = length-append ys s in omega (arith, left, right, e, f)
 
-same_parts : (t u : HciTables) → t.rows ≡ u.rows → t.statics ≡ u.statics → t.values ≡ u.values → t.syncs ≡ u.syncs → t ≡ u
-same_parts t u rows statics values syncs = grind arith
-
 same_tables : (t u : HciTables) → AreSaidTables t → AreSaidTables u → SameCounts t u → rows_words t ≡ rows_words u → t ≡ u
 same_tables t u rt ru count h =
     let at_pipes = cut_at (map pipe_words t.rows) (map pipe_words u.rows) _ _ (of_length pipe_words _ _ count.rows) h in
@@ -338,15 +323,12 @@ same_tables t u rt ru count h =
     let statics = same_map static_words IsSaidStatic same_static t.statics u.statics rt.statics ru.statics at_statics.0 in
     let values = same_map value_words IsSaidValue same_reg t.values u.values rt.values ru.values at_values.0 in
     let syncs = same_map sync_words IsSaidSync same_sync t.syncs u.syncs rt.syncs ru.syncs at_values.1 in
-    same_parts t u rows statics values syncs
+    (grind arith)
 
 -- ## Entries with the same words are the same
 
 hosts_are_bytes : (header : Header) → MayBegin header → All IsByte header.hosts.items
 hosts_are_bytes header known = grind arith
-
-same_world : (a b : Bool) → cond a (codes "hci") (codes "bare") ≡ cond b (codes "hci") (codes "bare") → a ≡ b
-same_world a b h = grind arith
 
 same_header : (a b : Header) → MayBegin a → MayBegin b → header_words a ≡ header_words b → a ≡ b
 same_header a b ra rb h =
@@ -354,13 +336,10 @@ same_header a b ra rb h =
     let world : cond a.hci (codes "hci") (codes "bare") ≡ cond b.hci (codes "hci") (codes "bare") = cc in
     let items = same_map byte_text IsByte same_byte a.hosts.items b.hosts.items (hosts_are_bytes a ra) (hosts_are_bytes b rb) hosts in
     let made : Bool → List ℕ → Header = λ hci xs. record { hci = hci; hosts = record { items = xs } } in
-    ap (λ hci. made hci a.hosts.items) (same_world a.hci b.hci world) ∙ ap (made b.hci) items
-
-no_swp : (said : Line) → bytes_eq (codes "swp") (head (line_words said)) ≡ false
-no_swp said = grind arith
+    ap (λ hci. made hci a.hosts.items) (grind arith) ∙ ap (made b.hci) items
 
 no_line : (header : Header) (said : Line) → header_words header ≡ line_words said → ⊥
-no_line header said h = other_words (header_words header) (line_words said) (no_swp said) h
+no_line header said h = other_words (header_words header) (line_words said) (grind arith) h
 
 -- the words of the lines behind the first one
 abbrev pub words_behind : Entry → List (List (List ℕ))
@@ -399,10 +378,10 @@ same_entry (entry.Took e x) (entry.Took f y) ra rb h k =
 same_entry (entry.Lost e x c) (entry.Lost f y d) ra rb h k =
     let end : e ≡ f = same_end e f ra.0 rb.0 cc in
     let bytes : x ≡ y = same_bytes x y ra.1 rb.1 cc in
-    let why : c ≡ d = same_lost c d cc in cc
+    let why : c ≡ d = grind arith in cc
 same_entry (entry.Down e c) (entry.Down f d) ra rb h k =
     let end : e ≡ f = same_end e f ra rb cc in
-    let cause : c ≡ d = same_down c d cc in cc
+    let cause : c ≡ d = grind arith in cc
 same_entry (entry.Active e) (entry.Active f) ra rb h k = ap entry.Active (same_end e f ra rb cc)
 same_entry (entry.GaveUp e n) (entry.GaveUp f m) ra rb h k =
     let end : e ≡ f = same_end e f ra.0 rb.0 cc in

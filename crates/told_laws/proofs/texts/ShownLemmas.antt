@@ -3,16 +3,16 @@ use Rattle.hex.specs.Hex.{encode_with}
 use Rattle.std.proofs.lemmas.Grind.{flat_map-append}
 use Rattle.std.specs.Char.{is_ascii_digit}
 use Rattle.std.specs.Str.{all_ascii_digits}
-use Rattle.told_laws.proofs.Words.{All, AllByRecursion, AreOctets, Bool, Cause, Command, Contains, End, Entry, Err, HciTables, Header, IfSome, IsCause, IsEnd}
-use Rattle.told_laws.proofs.Words.{IsEndOf, IsEntry, IsHeader, IsLineOf, IsLineSaid, IsNodeOf, IsNumber, IsSome, IsTrue, IsWord, Line, List, LostCause}
+use Rattle.told_laws.proofs.Words.{All, AllByRecursion, AreOctets, Bool, Command, Contains, End, Entry, Err, HciTables, Header, IfSome, IsCause, IsEnd}
+use Rattle.told_laws.proofs.Words.{IsEndOf, IsEntry, IsHeader, IsLineOf, IsLineSaid, IsNodeOf, IsNumber, IsSome, IsTrue, IsWord, Line, List}
 use Rattle.told_laws.proofs.Words.{MayBegin, MayFollow, MayFollow-line_of, NoCause, None, Ok, Option, PipeRow, RegValue, Says, Some, [], ap, append-nil}
-use Rattle.told_laws.proofs.Words.{append_assoc, arith, by_row, by_words, byte_text, cause_words, codes, command_words, cond, decimal, digits_decimal}
-use Rattle.told_laws.proofs.Words.{down_word, encode_upper, end_text, end_word, entry_line, entry_text, entry_words, false, flat_map, found_in, has_nodes}
+use Rattle.told_laws.proofs.Words.{append_assoc, arith, by_row, by_words, byte_text, cause_words, command_words, cond, decimal, digits_decimal}
+use Rattle.told_laws.proofs.Words.{encode_upper, end_text, end_word, entry_line, entry_text, entry_words, false, flat_map, found_in, has_nodes}
 use Rattle.told_laws.proofs.Words.{header_hosts, hex_or_dash, hex_word, hosts_of, inl, is_comment, length, length-append, line_of, line_words, lines_behind}
-use Rattle.told_laws.proofs.Words.{list_all, list_all-append, list_any, lost_word, map, may_stand, nat_lt, node_fits, not, number_word, number_words, own}
+use Rattle.told_laws.proofs.Words.{list_all, list_all-append, list_any, map, may_stand, nat_lt, node_fits, not, number_word, number_words, own}
 use Rattle.told_laws.proofs.Words.{read_of, refl, says_activate, says_arm, says_boot, says_busy, says_cut, says_damage, says_deliver, says_header, says_init}
 use Rattle.told_laws.proofs.Words.{says_lose, says_nodes, says_ready, says_reset, says_send, says_settle, says_tables, says_tick, slice_index, spaced}
-use Rattle.told_laws.proofs.Words.{state_as_word, subst, suc, sym, true, two_bytes_text, unless_fault, upper_digits, words, words-spaced, ℕ, ◌%◌, ◌&&◌, ◌++◌}
+use Rattle.told_laws.proofs.Words.{subst, suc, sym, true, two_bytes_text, unless_fault, upper_digits, words, words-spaced, ℕ, ◌%◌, ◌&&◌, ◌++◌}
 use Rattle.told_laws.proofs.Words.{◌/◌, ◌<◌, ◌==◌, ◌^◌, ◌↔◌, ◌∙◌, ◌∷◌, ◌≡◌, ◌≤◌}
 use Rattle.schedule_text.proofs.HostsLemmas.{row_unknown}
 use Rattle.schedule_text.proofs.RowsLemmas.{no_fault, row_cases}
@@ -92,14 +92,6 @@ line_iff : (header : Header) (row : FormRow) (ws : List (List ℕ)) (f : LineFau
     (words_fault header.hci header.hosts.items row ws ≡ Some f)
 line_iff header row ws f says = unless_iff _ _ f (speaks header row ws says)
 
-header_iff : (ws : List (List ℕ)) (f : LineFault) → HasFault None ws f (Some header_row)
-header_iff ws f stands =
-    unless_iff _ _ f (λ h. let said = says_header ws (no_fault false [] header_row ws h) in subst IsSome (sym said.1) refl)
-
-nodes_iff : (ws : List (List ℕ)) (f : LineFault) → HasFault None ws f (Some nodes_row)
-nodes_iff ws f stands =
-    unless_iff _ _ f (λ h. let said = says_nodes ws (no_fault false [] nodes_row ws h) in subst IsSome (sym said.1) refl)
-
 bare_iff : (header : Header) (row : FormRow) (ws : List (List ℕ)) (f : LineFault) (t : Bool) → header.hci ≡ t
     → (header.hci ≡ false → Says header row ws) → IsTrue (not t)
     → (cond (not t) (unless_fault (words_fault header.hci header.hosts.items row ws) (read_of row.name ws)) (Err fault.Order) ≡ Err f)
@@ -117,9 +109,9 @@ node_iff header row ws f false e says stands = cc
 faults : (header : Option Header) (first : List ℕ) (ws : List (List ℕ)) (f : LineFault) → HasFault header ws f (row_for first ws)
 faults None first ws f =
     row_cases (HasFault None ws f) rows first ws (
-      λ e. nodes_iff ws f,
+      λ e. (λ stands. unless_iff _ _ f (λ h. let said = says_nodes ws (no_fault false [] nodes_row ws h) in subst IsSome (sym said.1) refl)),
       (
-        λ e. header_iff ws f,
+        λ e. (λ stands. unless_iff _ _ f (λ h. let said = says_header ws (no_fault false [] header_row ws h) in subst IsSome (sym said.1) refl)),
         (grind arith),
       ),
     ) (λ e. tt)
@@ -177,9 +169,7 @@ faults (Some header) first ws f =
 pub fault_iff : (header : Option Header) (first : List ℕ) (row : FormRow) (ws : List (List ℕ)) (f : LineFault) → row_for first ws ≡ Some row
     → IsTrue (may_stand row.place header)
     → (by_row header (row_for first ws) ws ≡ Err f) ↔ (words_fault (has_nodes header) (hosts_of header) row ws ≡ Some f)
-fault_iff header first row ws f e stands =
-    let P : Option FormRow → Type 0 = λ o. (by_row header o ws ≡ Err f) ↔ (words_fault (has_nodes header) (hosts_of header) row ws ≡ Some f) in
-    subst P (sym e) (subst (HasFault header ws f) e (faults header first ws f) stands)
+fault_iff header first row ws f e stands = let h0 = has_nodes header in let h1 = hosts_of header in let h2 = faults header first ws f in grind arith
 
 -- a host that a line is refused for isn't in the header
 words_unknown : (header : Header) (ws : List (List ℕ)) (id : ℕ) → by_words (Some header) ws ≡ Err (fault.Host id)
@@ -234,30 +224,16 @@ end_clean : (e : End) → IsClean (end_text e)
 end_clean e =
     (end_word e, list_all-append is_inside (byte_text e.link) (cond e.at_host 104 99 ∷ []) ∙ rw (hex_all_inside (e.link ∷ []), side_inside e.at_host) refl)
 
-digit_inside : (c : ℕ) (cs : List ℕ) (t : Bool) → is_ascii_digit c ≡ t → (t && all_ascii_digits cs) ≡ true
-    → (all_ascii_digits cs ≡ true → list_all is_inside cs ≡ true)
-    → (is_inside c && list_all is_inside cs) ≡ true
-digit_inside c cs t e h k = grind arith
-
 digits_inside : (ds : List ℕ) → all_ascii_digits ds ≡ true → list_all is_inside ds ≡ true
 digits_inside [] h = refl
-digits_inside (c ∷ cs) h = digit_inside c cs (is_ascii_digit c) refl h (digits_inside cs)
+digits_inside (c ∷ cs) h = let h0 = (is_ascii_digit c) in let h1 = (digits_inside cs) in grind arith
 
 pub number_clean : (n : ℕ) → IsNumber n → IsClean (decimal n)
 number_clean n h = (number_word n (omega arith), digits_inside (decimal n) (digits_decimal own n (omega arith)))
 
-lost_clean : (why : LostCause) → IsClean (lost_word why)
-lost_clean why = grind arith
-
-world_clean : (hci : Bool) → IsClean (cond hci (codes "hci") (codes "bare"))
-world_clean hci = grind arith
-
 hosts_clean : (hosts : List ℕ) → AllByRecursion IsClean (map byte_text hosts)
 hosts_clean [] = tt
 hosts_clean (h ∷ hosts) = (byte_clean h, hosts_clean hosts)
-
-down_clean : (why : Cause) → IsClean (down_word why)
-down_clean why = grind arith
 
 maybe_clean : (o : Option ℕ) → IfSome o IsNumber → AllByRecursion IsClean (number_words o)
 maybe_clean None h = tt
@@ -311,10 +287,10 @@ said_clean (line.Settle n) h = (((omega arith, refl), refl), (number_clean n h, 
 
 entry_clean : (a : Entry) → IsEntry a → AllByRecursion IsClean (entry_words a)
 entry_clean (entry.Head header) h =
-    (((omega arith, refl), refl), (((omega arith, refl), refl), (((omega arith, refl), refl), (world_clean header.hci, hosts_clean header.hosts.items))))
+    (((omega arith, refl), refl), (((omega arith, refl), refl), (((omega arith, refl), refl), ((grind arith), hosts_clean header.hosts.items))))
 entry_clean (entry.Echo said) h = (((omega arith, refl), refl), said_clean said h)
 entry_clean (entry.Up e n) h = (((omega arith, refl), refl), (end_clean e, (number_clean n h.1, tt)))
-entry_clean (entry.Down e why) h = (((omega arith, refl), refl), (end_clean e, (down_clean why, tt)))
+entry_clean (entry.Down e why) h = (((omega arith, refl), refl), (end_clean e, ((grind arith), tt)))
 entry_clean (entry.Active e) h = (((omega arith, refl), refl), (end_clean e, tt))
 entry_clean (entry.GaveUp e n) h = (((omega arith, refl), refl), (end_clean e, (number_clean n h.1, tt)))
 entry_clean (entry.Sent e n p m) h = (((omega arith, refl), refl), (end_clean e, (number_clean n h.1, (byte_clean p, (hex_clean m h.3.0, tt)))))
@@ -322,7 +298,7 @@ entry_clean (entry.Got e n p m) h = (((omega arith, refl), refl), (end_clean e, 
 entry_clean (entry.Acked e n k) h = (((omega arith, refl), refl), (end_clean e, (number_clean n h.1, (number_clean k h.2, tt))))
 entry_clean (entry.Emit e l) h = (((omega arith, refl), refl), (end_clean e, (hex_clean l h.1.0, tt)))
 entry_clean (entry.Took e l) h = (((omega arith, refl), refl), (end_clean e, (hex_clean l h.1.0, tt)))
-entry_clean (entry.Lost e l why) h = (((omega arith, refl), refl), (end_clean e, (hex_clean l h.1.0, (lost_clean why, tt))))
+entry_clean (entry.Lost e l why) h = (((omega arith, refl), refl), (end_clean e, (hex_clean l h.1.0, ((grind arith), tt))))
 entry_clean (entry.Turn e p m) h = (((omega arith, refl), refl), (end_clean e, (byte_clean p, (hex_clean m h.2.0, tt))))
 entry_clean (entry.Held e n s) h = (((omega arith, refl), refl), (end_clean e, (number_clean n h.1, (number_clean s h.2, tt))))
 entry_clean (entry.Ask n m) h = (((omega arith, refl), refl), (byte_clean n, (hex_clean m h.1.0, tt)))
@@ -347,16 +323,12 @@ entry_clean (entry.Tables n t) h = (
 entry_clean (entry.Settled n) h = (((omega arith, refl), refl), (number_clean n h, tt))
 entry_clean (entry.No why) h = (((omega arith, refl), refl), cause_clean why h)
 
--- so do those of the lines of tables
-state_clean : (opened : Bool) → IsClean (state_as_word opened)
-state_clean opened = grind arith
-
 pipe_clean : (row : PipeRow) → AllByRecursion IsClean (pipe_words row)
 pipe_clean row = (
   ((omega arith, refl), refl),
   (
     byte_clean row.pid,
-    (byte_clean row.creator, (byte_clean row.creator_gate, (byte_clean row.dest, (byte_clean row.dest_gate, (state_clean row.opened, tt))))),
+    (byte_clean row.creator, (byte_clean row.creator_gate, (byte_clean row.dest, (byte_clean row.dest_gate, ((grind arith), tt))))),
   ),
 )
 
@@ -452,8 +424,7 @@ behind_told (entry.Tables n t) = rows_told t
 behind_told a = refl
 
 entry_told : (a : Entry) → entry_line a ≡ flat_map told_line (entry_lines a)
-entry_told a =
-    ap (λ lines. entry_text a ++ (10 ∷ lines)) (behind_told a) ∙ sym (append_assoc (entry_text a) (10 ∷ []) (flat_map told_line (words_behind a)))
+entry_told a = let h0 = behind_told a in let h1 = append_assoc (entry_text a) (10 ∷ []) (flat_map told_line (words_behind a)) in grind arith
 
 all_told : (xs : List Entry) → flat_map entry_line xs ≡ flat_map told_line (flat_map entry_lines xs)
 all_told [] = refl

@@ -1,13 +1,13 @@
 -- The frames of ends and wires, and a bare link with them, are in their ranges behind each thing that happens.
 use Rattle.told_laws.proofs.Words.{AllByRecursion, AllByRecursion-get, AllByRecursion-take, AsksReset, Bare, Bool, Control, Due, End, EndEvent, EndIsLow}
-use Rattle.told_laws.proofs.Words.{EndState, FetchMessage, FewRsets, Fragment, Give, Given, GoesOut, Hold, I, IsByte, Link, LinkEnd, LinkInput, LinkState, List}
-use Rattle.told_laws.proofs.Words.{Lose, Loss, Message, NextFrame, NoInput, None, NumberedEnd, OnWire, Option, Readied, Refused, Reset, Rset, S, Session, Some}
+use Rattle.told_laws.proofs.Words.{EndState, FetchMessage, FewRsets, Fragment, Give, Given, GoesOut, Hold, I, IsByte, Link, LinkEnd, LinkInput, List}
+use Rattle.told_laws.proofs.Words.{Lose, Loss, Message, NextFrame, NoInput, None, NumberedEnd, OnWire, Option, Readied, Refused, Reset, Rset, S, Some}
 use Rattle.told_laws.proofs.Words.{Step, Take, Taken, Tick, Ticked, Ua, WasLost, WasReset, WireIsLow, [], after_frames, after_input, aged, aged_wire}
-use Rattle.told_laws.proofs.Words.{all_frames, all_mapped, among, ap, arith, at, bare_link, becomes, by_list, by_option, by_test, common_steps, cond}
+use Rattle.told_laws.proofs.Words.{all_frames, all_mapped, among, ap, arith, at, bare_link, becomes, by_list, by_option, by_test, common_steps}
 use Rattle.told_laws.proofs.Words.{control_due, drop, each-append, ended_by, exchanged, expected, fetched, fits, fragment_due, frame_due, frames_of, frames_out}
-use Rattle.told_laws.proofs.Words.{give_refusal, given, had_tick, happens, happens_at_controller, has_input, in_phase, is_open, is_rset, is_some, length}
-use Rattle.told_laws.proofs.Words.{length-append, link_after, ltb-false, ltb-true, map, nat_lt, not, packet_bytes, packet_count, packets_of, parts_of, put}
-use Rattle.told_laws.proofs.Words.{put_all, put_out, refl, reset_with, sent_all, silent, slice_get, stopped, subst, suc, sym, take, taken, ticked}
+use Rattle.told_laws.proofs.Words.{give_refusal, given, had_tick, happens, happens_at_controller, has_input, is_open, is_rset, is_some, length}
+use Rattle.told_laws.proofs.Words.{length-append, link_after, map, nat_lt, not, packet_bytes, packet_count, packets_of, parts_of, put}
+use Rattle.told_laws.proofs.Words.{put_all, put_out, refl, reset_with, sent_all, silent, stopped, subst, suc, sym, take, taken, ticked}
 use Rattle.told_laws.proofs.Words.{ticks_at_controller, took, took_with, true, turn, unless, with_controller, with_ended, with_ready, zero, ℕ, ◌%◌, ◌++◌, ◌+◌}
 use Rattle.told_laws.proofs.Words.{◌<◌, ◌==◌, ◌∷◌, ◌≡◌, ◌≤◌}
 use Rattle.history.specs.Histories.{Cause}
@@ -43,19 +43,13 @@ fresh out own tries made few h = record { fragments = tt; window = h.window; few
 
 -- ### Frames that come
 
-take-in : (e : EndState) (p : LinkState) (c : Control) → Ranged e → Ranged (taken (in_phase p e) c)
-take-in e p c h = grind arith
-
 pub ranged_taken : (e : EndState) (c : Control) → Ranged e → Ranged (taken e c)
-ranged_taken e c h = take-in e e.phase c h
+ranged_taken e c h = grind arith
 
 -- ### Ticks
 
-tick-in : (e : EndState) (p : LinkState) → Ranged e → Ranged (ticked (in_phase p e))
-tick-in e p h = grind arith
-
 pub ranged_ticked : (e : EndState) → Ranged e → Ranged (ticked e)
-ranged_ticked e h = tick-in e e.phase h
+ranged_ticked e h = grind arith
 
 -- after so many tries an end gives up, where it does
 abbrev pub IfTries : Option ℕ → Type 0
@@ -64,11 +58,8 @@ IfTries (Some tries) = tries ≤ 5
 
 -- ### What the node asks for
 
-reset-in : (e : EndState) (p : LinkState) (w : ℕ) → w ≤ 4 → Ranged e → Ranged (reset_with (in_phase p e) w)
-reset-in e p w low h = grind arith
-
 pub ranged_reset : (e : EndState) (w : ℕ) → w ≤ 4 → Ranged e → Ranged (reset_with e w)
-ranged_reset e w low h = reset-in e e.phase w low h
+ranged_reset e w low h = grind arith
 
 pub ranged_stopped : (e : EndState) → Ranged e → Ranged (stopped e)
 ranged_stopped e h = fresh _ _ e.tries _ (omega arith) h
@@ -76,24 +67,15 @@ ranged_stopped e h = fresh _ _ e.tries _ (omega arith) h
 ready-in : (e : EndState) (before after answered : Bool) → e.ready ≡ before → e.session.answered_rnr ≡ answered → Ranged e → Ranged (with_ready e after)
 ready-in e before after answered q r h = grind arith
 
-pub ranged_ready : (e : EndState) (after : Bool) → Ranged e → Ranged (with_ready e after)
-ranged_ready e after h = ready-in e e.ready after _ refl refl h
-
 pub ranged_out : (e : EndState) (fragments : List Fragment) → AllByRecursion IsFragment fragments → Ranged e → Ranged (put_out e fragments)
 ranged_out e fragments more h =
     record { fragments = each-append IsFragment e.session.out fragments h.fragments more; window = h.window; few = h.few }
 
 -- ### What goes out
 
-control_frame : (e : EndState) (d : Due) → Ranged e → IsFrame (control_due e d)
-control_frame e d h = grind arith
-
-due_fragment : (s : Session) (info : Fragment) → fragment_due s ≡ Some info → slice_get s.out s.next ≡ Some info
-due_fragment s info q = grind (arith, common_steps)
-
 due_frame : (e : EndState) (due : List Due) (q : Option Fragment) (c : Control) → fragment_due e.session ≡ q → Ranged e
     → frame_due (record e { due = due }) ≡ Some c → IsFrame c
-due_frame e (d ∷ due) q c f h is = let same : control_due e d ≡ c = cc in subst IsFrame same (control_frame e d h)
+due_frame e (d ∷ due) q c f h is = let same : control_due e d ≡ c = cc in subst IsFrame same (grind arith)
 due_frame e [] None c f h is = absurd (let z : None ≡ Some c = rw f at is in cc)
 due_frame e [] (Some info) c f h is =
     let z : Some (I (e.session.next % 8) (expected e.session) info) ≡ Some c = rw f at is in
@@ -101,15 +83,12 @@ due_frame e [] (Some info) c f h is =
     let frame : IsFrame (I (e.session.next % 8) (expected e.session) info) = (
       omega arith,
       omega arith,
-      AllByRecursion-get IsFragment e.session.out e.session.next info h.fragments (due_fragment e.session info f),
+      AllByRecursion-get IsFragment e.session.out e.session.next info h.fragments (grind (arith, common_steps)),
     ) in
     subst IsFrame same frame
 
-fetched-in : (e : EndState) (due : List Due) (q : Option Fragment) → e.due ≡ due → fragment_due e.session ≡ q → Ranged e → Ranged (fetched e)
-fetched-in e due q p f h = grind arith
-
 ranged_fetched : (e : EndState) → Ranged e → Ranged (fetched e)
-ranged_fetched e h = fetched-in e e.due _ refl refl h
+ranged_fetched e h = grind arith
 
 pub ranged_after : (n : ℕ) (e : EndState) → Ranged e → Ranged (after_frames n e)
 ranged_after zero e h = h
@@ -162,23 +141,11 @@ module _ (P : Control → Type 0) where
   pushed_is n w x h is = each_pushed n w x h.frames is
 
   wire_put : (n : ℕ) (w : List OnWire) (x : OnWire) → WireIs P n w → FrameIs P n x → WireIs P n (fits (w ++ x ∷ []))
-  wire_put n w x h is = by_test (nat_lt 64 (length (w ++ x ∷ [])))
-      (λ q. let more = ltb-true 64 (length (w ++ x ∷ [])) q in
-      let few = h.few in
-      rw q (record {
-        frames = drop_each (FrameIs P n) 1 (w ++ x ∷ []) (pushed_is n w x h is);
-        few = one_less (w ++ x ∷ []) 64 more (omega (arith, long, few));
-      }))
-      (λ q. let less = ltb-false 64 (length (w ++ x ∷ [])) q in rw q (record { frames = pushed_is n w x h is; few = less }))
-    where
-      long : length (w ++ x ∷ []) ≡ length w + 1
-      long = length-append w (x ∷ [])
+  wire_put n w x h is = let h0 = pushed_is n w x h is in let h1 = length-append w (x ∷ []) in grind arith
 
   each_aged : (n : ℕ) (w : List OnWire) → AllByRecursion (FrameIs P n) w → AllByRecursion (FrameIs P n) (aged_wire w)
   each_aged n [] h = tt
-  each_aged n (x ∷ w) h = by_test (nat_lt x.age 4)
-      (λ q. rw q (record { frame = h.0.frame; number = h.0.number }, each_aged n w h.1))
-      (λ q. rw q (each_aged n w h.1))
+  each_aged n (x ∷ w) h = let h0 = each_aged n w h.1 in grind arith
 
   aged_few : (w : List OnWire) → length (aged_wire w) ≤ length w
   aged_few [] = omega arith
@@ -190,8 +157,7 @@ module _ (P : Control → Type 0) where
   -- no number on it is above another bound
   each_within : (n m k : ℕ) (w : List OnWire) → k ≤ m → AllByRecursion (FrameIs P n) w → WireIsLow k w → AllByRecursion (FrameIs P m) w
   each_within n m k [] more h low = tt
-  each_within n m k (x ∷ w) more h low =
-      (record { frame = h.0.frame; number = let a = low.0 in omega (arith, a, more) }, each_within n m k w more h.1 low.1)
+  each_within n m k (x ∷ w) more h low = let h0 = each_within n m k w more h.1 low.1 in grind arith
 
   wire_within : (n m k : ℕ) (w : List OnWire) → k ≤ m → WireIs P n w → WireIsLow k w → WireIs P m w
   wire_within n m k w more h low = record { frames = each_within n m k w more h.frames low; few = h.few }
@@ -349,13 +315,10 @@ take_few zero xs = omega arith
 take_few (suc n) [] = omega arith
 take_few (suc n) (x ∷ xs) = let few = take_few n xs in omega (arith, few)
 
-first_low : (last : Bool) (pipe : ℕ) → pipe < 112 → cond last 128 0 + pipe < 256
-first_low last pipe low = grind arith
-
 parts_in : (pipe n : ℕ) (left : List ℕ) → pipe < 112 → AllByRecursion IsByte left → AllByRecursion IsFragment (map packet_bytes (parts_of pipe n left))
 parts_in pipe zero left low h = tt
 parts_in pipe (suc n) left low h = (
-  ((first_low (n == 0) pipe low, AllByRecursion-take IsByte 28 left h), let few = take_few 28 left in omega (arith, few)),
+  (((grind arith), AllByRecursion-take IsByte 28 left h), let few = take_few 28 left in omega (arith, few)),
   parts_in pipe n (drop 28 left) low (drop_each IsByte 28 left h),
 )
 
@@ -404,7 +367,7 @@ end_given n e m is h =
     })
 
 pub end_held : (n : ℕ) (e : LinkEnd) (held : Bool) → EndIs n e → EndIs n (turn e (Hold held))
-end_held n e held h = record { bare = h.bare; acts = h.acts; few = h.few; ranged = ranged_ready e.shdlc (not held) h.ranged }
+end_held n e held h = record { bare = h.bare; acts = h.acts; few = h.few; ranged = ready-in e.shdlc e.shdlc.ready (not held) _ refl refl h.ranged }
 
 pub end_fetched : (n : ℕ) (e : LinkEnd) → EndIs n e → EndIs n (turn e FetchMessage)
 end_fetched n e h = record { bare = h.bare; acts = h.acts; few = h.few; ranged = h.ranged }

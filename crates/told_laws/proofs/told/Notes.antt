@@ -1,18 +1,17 @@
 -- What is noted of an input, of frames and of an event of a bare link is in its range, but for the messages that came.
 use Rattle.std.specs.Prelude.{is_some, not}
-use Rattle.told_laws.proofs.Words.{Acked, Active, AllByRecursion, AsksReset, Bool, Control, Controller, Emit, EndEvent, FetchMessage, GaveUp, Give, Given}
+use Rattle.told_laws.proofs.Words.{Acked, AllByRecursion, AsksReset, Bool, Control, Controller, Emit, EndEvent, FetchMessage, GaveUp, Give, Given}
 use Rattle.told_laws.proofs.Words.{GoesOut, Got, HasTick, Hold, Host, Link, LinkEnd, LinkInput, List, Loss, Lost, Message, NamedEnd, NextFrame, NoInput}
-use Rattle.told_laws.proofs.Words.{NumberedEnd, OnWire, Option, Readied, Refused, Report, Reset, Sent, Take, Taken, Ticked, TooMany, Took, WasLost, WasReset}
+use Rattle.told_laws.proofs.Words.{NumberedEnd, OnWire, Option, Readied, Report, Reset, Sent, Take, Taken, Ticked, TooMany, Took, WasLost, WasReset}
 use Rattle.told_laws.proofs.Words.{[], after_input, aged, aged_entries, all_map, all_mapped, anyone, arith, at, by_test, cond_both, each-append, ended_by}
-use Rattle.told_laws.proofs.Words.{event_entries, event_of, exchanged, far, first_lost, frames_out, gave_up_by, give_refusal, here_entries, idle, if_so, length}
-use Rattle.told_laws.proofs.Words.{map, nat_lt, number_of, option_to_list, pushed_out, put, put_entries, puts_entries, refl, report, rest_entries, sent_unless}
-use Rattle.told_laws.proofs.Words.{step_entries, subst, sym, taken_entries, tick_entries, ticks_at_controller, told, told_of, took_low, took_with, turn}
+use Rattle.told_laws.proofs.Words.{event_entries, event_of, exchanged, far, first_lost, frames_out, gave_up_by, here_entries, idle, if_so, length}
+use Rattle.told_laws.proofs.Words.{nat_lt, number_of, pushed_out, put, put_entries, puts_entries, refl, report, rest_entries}
+use Rattle.told_laws.proofs.Words.{step_entries, subst, sym, taken_entries, tick_entries, ticks_at_controller, told, told_of, took_with, turn}
 use Rattle.told_laws.proofs.Words.{turn_entries, turn_entry, whole_acked, wire_with, with_ended, ℕ, ◌++◌, ◌+◌, ◌∷◌, ◌≡◌, ◌≤◌}
 use Rattle.history.specs.Histories.{Cause}
 use Rattle.link_laws.proofs.machine.Sound.{whole_few}
 use Rattle.link_laws.specs.entries.Entries.{End, Entry}
-use Rattle.link_laws.specs.entries.Entries.Entry.{Down, Up}
-use Rattle.swp_base.specs.declared.link_terms.Cause.{Cause as EndedBy}
+use Rattle.link_laws.specs.entries.Entries.Entry.{Up}
 use Rattle.told_laws.proofs.told.Links.{CanTell, EndIs, FrameIs, IfTries, IsFrame, IsLowWindow, IsTellable, LinkIs, WireIs, end_fetched, end_given, end_held}
 use Rattle.told_laws.proofs.told.Links.{end_reset, end_ticked, end_took, left_with, link_more, link_ticked, out_is, so_aged, so_ended, so_exchanged, so_left}
 
@@ -51,18 +50,8 @@ module _ (P : Control → Type 0) (S G : Message → Type 0) (n : ℕ) where
   pub noted_told : (who : End) (k : ℕ) (r : Report) (acked : ℕ) → k ≤ n → acked ≤ n → IfTries r.gave_up → AllByRecursion G r.got
       → AreNotedOfNoting (told who k r acked)
   noted_told who k r acked low few tries got =
-      let a = each-append IsNotedOfNoting (if_so (nat_lt 0 r.acked) (Acked who k acked)) (map (Got who k) r.got)
-      (so_noted (nat_lt 0 r.acked) (Acked who k acked) (low, few)) (all_map G IsNotedOfNoting (Got who k) (λ m is. (low, is)) r.got got) in
-      let b = each-append IsNotedOfNoting (map (GaveUp who) (option_to_list r.gave_up)) _ (tried r.gave_up tries) a in
-      let c = each-append IsNotedOfNoting (if_so r.became_active (Active who)) _ (so_noted r.became_active (Active who) tt) b in
-      let d = each-append IsNotedOfNoting (if_so r.began (Up who k)) _ (so_noted r.began (Up who k) low) c in
-      each-append IsNotedOfNoting (map (Down who) (option_to_list r.ended)) _ (ended r.ended) d
-    where
-      tried : (o : Option ℕ) → IfTries o → AreNotedOfNoting (map (GaveUp who) (option_to_list o))
-      tried o h = grind arith
-
-      ended : (o : Option EndedBy) → AreNotedOfNoting (map (Down who) (option_to_list o))
-      ended o = grind arith
+      let h0 = if_so (nat_lt 0 r.acked) (Acked who k acked) in let h1 = so_noted (nat_lt 0 r.acked) (Acked who k acked) (low, few) in
+      let h2 = all_map G IsNotedOfNoting (Got who k) (λ m is. (low, is)) r.got got in grind arith
 
   -- ### Of frames
 
@@ -141,11 +130,8 @@ noted_sent n who l m is h =
     let b = h.near.took in
     let e : LinkEnd = turn l.controller.side (Give m) in
     each-append (IsNoted (n + 1)) (turn_entries who (number_of l.controller) l.controller.side (Give m ∷ [])) (puts_entries who l (frames_out e))
-    (each-append (IsNoted (n + 1)) (turn_entry who (number_of l.controller) l.controller.side (Give m)) [] (go (give_refusal l.controller.side m)) tt)
+    (each-append (IsNoted (n + 1)) (turn_entry who (number_of l.controller) l.controller.side (Give m)) [] (grind arith) tt)
     (noted_out (n + 1) n who (frames_out e) l (out_is (n + 1) e (end_given n l.controller.side m is h.near.side)) h)
-  where
-    go : (o : Option Refused) → AreNoted (n + 1) (sent_unless o who (number_of l.controller) m)
-    go o = grind arith
 
 noted_held : (n : ℕ) (who : End) (l : Link) (held : Bool) → LinkIs n n l → AreNoted n (step_entries who l NoInput (Hold held ∷ []) GoesOut)
 noted_held n who l held h =
@@ -186,7 +172,7 @@ noted_taken n who l h = go l.to_controller refl
         subst (AreNoted n) (sym some) (
           wire.frames.0.frame,
           each-append (IsNoted n) (told_of who near_end (Take x.frame)) (rest_entries who (left_with l x xs) e (FetchMessage ∷ []) GoesOut)
-              (noted_input n who near_end (Take x.frame) h.near.emitted (took_low n l.controller.took x h.near.took wire.frames.0.number) is tt)
+              (noted_input n who near_end (Take x.frame) h.near.emitted (grind arith) is tt)
               (noted_out n n who (frames_out (turn e FetchMessage)) (left_with l x xs) (out_is n (turn e FetchMessage) (end_fetched n e is))
               (so_left IsFrame n l x xs q h)),
         )
