@@ -11,10 +11,7 @@ all_map P Q f one (x ∷ xs) a = (one x a.0, all_map P Q f one xs a.1)
 -- those that pass a test become others
 pub all_changed : {X : Type 0} (P : X → Type 0) (test : X → Bool) (f : X → X) → ((x : X) → P x → P (f x)) → (xs : List X) → AllByRecursion P xs
     → AllByRecursion P (map (λ x. changed_if (test x) f x) xs)
-all_changed {X} P test f one xs a = all_map P P (λ x. changed_if (test x) f x) (λ x b. by (test x) x b) xs a
-  where
-    by : (b : Bool) (x : X) → P x → P (changed_if b f x)
-    by b x p = grind arith
+all_changed {X} P test f one xs a = all_map P P (λ x. changed_if (test x) f x) (λ x b. grind arith) xs a
 
 pub changed_same : {X Y : Type 0} (g : X → Y) (b : Bool) (f : X → X) (x : X) → ((x : X) → g (f x) ≡ g x) → g (changed_if b f x) ≡ g x
 changed_same g b f x same = grind arith

@@ -34,16 +34,12 @@ use Rattle.trace_model.specs.declared.line.Line.TheVariants as line
 
 -- ### One frame
 
--- what the controller takes is at its end
-near_at : (h : ℕ) (w : NodeWorld) (k : ℕ) → AllAtController (controller_takes h w k)
-near_at h w k = grind arith
-
 -- at the end of another link it takes none on this one
 near_none : (h : ℕ) (w : NodeWorld) (k : ℕ) → (h == k) ≡ false → TakeNoFrames (controller_takes h w k)
 near_none h w k other = grind arith
 
 pub near_takes : (h k : ℕ) (w : NodeWorld) → AllAtController (link_events_in h w (Takes (end_c k)))
-near_takes h k w = by_option (site_at w.sites h) (λ q. rw q tt) (λ s q. rw q (near_at s.host w k))
+near_takes h k w = by_option (site_at w.sites h) (λ q. rw q tt) (λ s q. rw q (grind arith))
 
 pub far_takes : (h k : ℕ) (w : NodeWorld) → AllAtHost (link_events_in h w (Takes (end_h k)))
 far_takes h k w = grind arith
@@ -98,15 +94,7 @@ none_joins = record { none = tt; both = both }
 many : (P : List LinkEvent → Type 0) → Joins P → (h : ℕ) (e : End) → ((w : NodeWorld) → P (link_events_in h w (Takes e))) → (n : ℕ) (w : NodeWorld)
     → P (events_on h w (replicate n (Takes e)))
 many P joins h e each zero w = joins.none
-many P joins h e each (suc n) w = by_test (can_happen w (Takes e))
-    (λ q. rw q (joins.both now later (each w) (many P joins h e each n (world_step w (Takes e)).0)))
-    (λ q. rw q joins.none)
-  where
-    now : List LinkEvent
-    now = link_events_in h w (Takes e)
-
-    later : List LinkEvent
-    later = events_on h (world_step w (Takes e)).0 (replicate n (Takes e))
+many P joins h e each (suc n) w = let h0 = can_happen w (Takes e) in let h1 = many P joins h e each n (world_step w (Takes e)).0 in grind arith
 
 -- the ends of other links take frames
 others : (P : List LinkEvent → Type 0) → Joins P → (h : ℕ) → ((k : ℕ) → (h == k) ≡ false → (w : NodeWorld) → P (link_events_in h w (Takes (end_c k))))
@@ -292,13 +280,10 @@ found_before sites [] h t same q = absurd (cc q)
 found_before [] (y ∷ later) h t same q = absurd (let z : y.host ∷ hosts_in later ≡ [] = same in cc)
 found_before (x ∷ sites) (y ∷ later) h t same q = by_test (x.host == h)
     (λ p. (x, rw p refl))
-    (λ p. let not_here : (y.host == h) ≡ false = ap (λ k. k == h) first ∙ p in
+    (λ p. let not_here : (y.host == h) ≡ false = ap (λ k. k == h) (let z : y.host ∷ hosts_in later ≡ x.host ∷ hosts_in sites = same in cc) ∙ p in
     let there = found_before sites later h t rest (rw not_here at q) in
     (there.0, rw p there.1))
   where
-    first : y.host ≡ x.host
-    first = let z : y.host ∷ hosts_in later ≡ x.host ∷ hosts_in sites = same in cc
-
     rest : hosts_in later ≡ hosts_in sites
     rest = let z : y.host ∷ hosts_in later ≡ x.host ∷ hosts_in sites = same in cc
 

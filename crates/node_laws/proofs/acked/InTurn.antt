@@ -3,13 +3,13 @@
 use Rattle.node_laws.proofs.Words.{AcksAtMost, Activate, Acts, AllAllowed, AllAtController, AllAtHost, AllShdlcAllowed, AreSendable, AreTakenInTurn, AreTurns}
 use Rattle.node_laws.proofs.Words.{AtController, AtHost, Bool, Control, CoreEndEvent, CoreLink, Deliver, EndEvent, EndState, Ending, Good, Ignore, Link}
 use Rattle.node_laws.proofs.Words.{LinkEnd, LinkEvent, LinkState, List, Message, None, NumberedEnd, NumberedShdlc, OnWire, Option, Reached, SafeLink, Session}
-use Rattle.node_laws.proofs.Words.{ShdlcEndEvent, ShdlcLink, ShdlcLinkEvent, ShdlcTurn, Some, Starts, TakeNoFrames, TakesNoFrame, TicksWithout, Turn, Turns, Up}
+use Rattle.node_laws.proofs.Words.{ShdlcEndEvent, ShdlcLink, ShdlcLinkEvent, ShdlcTurn, Some, TakeNoFrames, TakesNoFrame, TicksWithout, Turn, Turns, Up}
 use Rattle.node_laws.proofs.Words.{Waiting, [], acked_at_controller, act_frame, after_link_events, ap, append-nil, arith, by_test, core_event, core_here}
 use Rattle.node_laws.proofs.Words.{core_of, core_tick_rest, ended_session, exchanged, false, frames_of, happens, inl, is_rset, is_some, is_up, is_waiting}
-use Rattle.node_laws.proofs.Words.{leb-true, length, map, most_frames, nat_le, new_end, no_session, packet_count, refl, reset_with, safe_reached, shdlc_after}
+use Rattle.node_laws.proofs.Words.{length, map, most_frames, nat_le, new_end, no_session, packet_count, refl, reset_with, safe_reached, shdlc_after}
 use Rattle.node_laws.proofs.Words.{shdlc_aged, shdlc_all_at_controller, shdlc_becomes, shdlc_exchanged, shdlc_happens, shdlc_happens_at_controller}
 use Rattle.node_laws.proofs.Words.{shdlc_number_of, shdlc_put, shdlc_put_all, shdlc_session_of, shdlc_silent, shdlc_ticks_at_controller, shdlc_turned}
-use Rattle.node_laws.proofs.Words.{steps_at_controller, stopped, subst, sym, take_answer, taken, tick_answer, ticked, ticks_if_waiting, ticks_or_cut, took_with}
+use Rattle.node_laws.proofs.Words.{stopped, subst, sym, take_answer, taken, tick_answer, ticked, ticks_if_waiting, ticks_or_cut, took_with}
 use Rattle.node_laws.proofs.Words.{true, whole_acked, whole_among, with_shdlc_ended, ℕ, ◌++◌, ◌+◌, ◌-◌, ◌==◌, ◌∙◌, ◌∷◌, ◌≡◌, ◌≤◌, ◌⊎◌}
 use Rattle.link_laws.proofs.entries.Stepping.{fetched_acked}
 use Rattle.link_laws.proofs.messages.Project.{Tells}
@@ -17,8 +17,8 @@ use Rattle.link_laws.proofs.messages.Runs.{run, sendable}
 use Rattle.link_laws.proofs.sessions.Data.{Below, none_ended}
 use Rattle.link_laws.proofs.sessions.Steps.{safe_event, safe_exchanged}
 use Rattle.link_laws.specs.messages.Links.LinkEvent.{Ticks}
-use Rattle.link_laws.specs.messages.Projection.{core_events, core_step}
-use Rattle.link_laws.specs.sessions.Sessions.{IsTurn, ShdlcLinkEvent as CoreLinkEvent, shdlc_after as core_after, shdlc_turn}
+use Rattle.link_laws.specs.messages.Projection.{core_events}
+use Rattle.link_laws.specs.sessions.Sessions.{ShdlcLinkEvent as CoreLinkEvent, shdlc_after as core_after, shdlc_turn}
 use Rattle.link_laws.specs.sessions.Sessions.ShdlcEndEvent.{Cut, Lose as CoreLose, Reset, Stop}
 use Rattle.link_laws.specs.sessions.Sessions.ShdlcLinkEvent.{AtController as CoreAtController, AtHost as CoreAtHost, Tick, TickWithout}
 use Rattle.shdlc_core.specs.declared.answers.LinkState.TheVariants.{Down}
@@ -130,10 +130,6 @@ room_first kn kf l h up = grind arith
 room_holds : (kn kf b : ℕ) (l : ShdlcLink) → SafeLink kn kf l → HasRoom b l → acked_here l ≤ b
 room_holds kn kf b l h room = grind arith
 
--- the sessions that ended before have lower numbers, too
-below_before : (b : ℕ) (past later : List (ℕ × Session)) → AreKept past later → Below b later → Below b past
-below_before b past later a h = grind arith
-
 -- in a session that begins the other end has accepted nothing
 room_then : (kn kf jn jf b : ℕ) (l m : ShdlcLink) → SafeLink kn kf l → SafeLink jn jf m → ActsAlone l m → HasRoom b l → HasRoom b m
 room_then kn kf jn jf b l m h k a room up = go l.controller.side.phase (n == shdlc_number_of l.controller) refl refl
@@ -147,7 +143,7 @@ room_then kn kf jn jf b l m h k a room up = go l.controller.side.phase (n == shd
     none : ended_session l.controller.past n ≡ no_session
     none =
         let z : Below n m.controller.past = rw up at k.n_past in
-        none_ended n n l.controller.past (omega arith) (below_before n l.controller.past m.controller.past a.past z)
+        none_ended n n l.controller.past (omega arith) (grind arith)
 
     began : shdlc_session_of l.controller n ≡ ended_session l.controller.past n → length (shdlc_session_of m.host n).acc ≤ b
     began q =
@@ -199,10 +195,6 @@ far_in_room b (CoreAtHost e ∷ es) l a far h room =
     (room_then 0 0 0 0 b k m (safe_exchanged 0 0 l h) (safe_exchanged 0 0 n s.0) alone room) in
     (more.0, more.1 ∙ alone.host)
 far_in_room b (_ ∷ es) l a far h room = absurd far
-
-near_alone : (es : List ShdlcLinkEvent) (l : ShdlcLink) → AllShdlcAllowed es → AllNear es → SafeLink 0 0 l
-    → (acked_here (shdlc_after l es) ≤ acked_here l + 4) × ((shdlc_after l es).host ≡ l.host)
-near_alone es l a near h = near_in_room (acked_here l + 4) es l a near h (room_first 0 0 l h)
 
 far_alone : (es : List ShdlcLinkEvent) (l : ShdlcLink) → AllShdlcAllowed es → AllFar es → SafeLink 0 0 l
     → (acked_here (shdlc_exchanged (shdlc_after l es)) ≤ acked_here (shdlc_exchanged l) + 4) × ((shdlc_after l es).controller ≡ l.controller)
@@ -278,14 +270,11 @@ adds_then l m k a b = record { acked = omega (arith, a.acked, b.acked); host = b
 adds_here : (l : ShdlcLink) (e : ShdlcEndEvent) → DeliversNone e → AddsNone l (shdlc_happens_at_controller l e)
 adds_here l e d = record { acked = none_here l e d; host = (happens_alone l e).host }
 
-is_turn : (e : ShdlcEndEvent) → IsTurn e → DeliversNone e
-is_turn e t = grind arith
-
 turns_add : (es : List ShdlcEndEvent) (l : ShdlcLink) → AreTurns es → AddsNone l (shdlc_all_at_controller l es)
 turns_add [] l a = record { acked = omega arith; host = refl }
 turns_add (e ∷ es) l a =
     let m : ShdlcLink = shdlc_happens_at_controller l e in
-    adds_then l m (shdlc_all_at_controller m es) (adds_here l e (is_turn e a.0)) (turns_add es m a.1)
+    adds_then l m (shdlc_all_at_controller m es) (adds_here l e (grind arith)) (turns_add es m a.1)
 
 tick_adds : (l : ShdlcLink) (ts : List ShdlcTurn) → AddsNone l (shdlc_ticks_at_controller l ts)
 tick_adds l ts =
@@ -333,9 +322,7 @@ ticks_add l near turns d a one =
 
 event_adds_none : (l : ShdlcLink) (e : ShdlcLinkEvent) (es : List ShdlcLinkEvent) → AllShdlcAllowed (e ∷ es) → NoneDelivered (e ∷ es)
     → NoneAdded l (shdlc_happens l e) × AllShdlcAllowed es × NoneDelivered es
-event_adds_none l (CoreAtController e) es a d =
-    let m : ShdlcLink = shdlc_happens_at_controller l e in
-    (both_add l m (shdlc_exchanged m) (adds_here l e d.0) (nothing_added (shdlc_exchanged m)), a.1, d.1)
+event_adds_none l (CoreAtController e) es a d = let h0 = adds_here l e d.0 in grind arith
 event_adds_none l (CoreAtHost e) es a d =
     let k : ShdlcLink = shdlc_exchanged l in
     (both_add l l (shdlc_happens_at_controller k e) (nothing_added l) (adds_here k e d.0), a.1, d.1)
@@ -427,18 +414,12 @@ none_core (AtHost e ∷ es) l t =
     none-append (map CoreAtHost (core_here (exchanged l) e)) (core_events (happens l (AtHost e)) es)
     (none_far (core_here (exchanged l) e) (here_none (exchanged l) e t.0)) (none_core es (happens l (AtHost e)) t.1)
 none_core (Ticks c events h ∷ es) l t =
-    none-append (core_event l (Ticks c events h)) (core_events (happens l (Ticks c events h)) es)
-    (none_far (core_tick_rest l.host.side h.turns h.ending) (rest_none l.host.side h.turns h.ending)) (none_core es (happens l (Ticks c events h)) t)
+    let h0 = core_event l (Ticks c events h) in let h1 = happens l (Ticks c events h) in let h2 = none_core es (happens l (Ticks c events h)) t in grind arith
 none_core (TicksWithout events h ∷ es) l t =
     none-append (core_event l (TicksWithout events h)) (core_events (happens l (TicksWithout events h)) es)
     (none_far (core_tick_rest l.host.side h.turns h.ending) (rest_none l.host.side h.turns h.ending)) (none_core es (happens l (TicksWithout events h)) t)
 none_core (Activate power c id h ∷ es) l t =
-    let m : Link = exchanged (steps_at_controller l (Starts power) c.turns c.ending) in
-    let near : List CoreEndEvent = core_step l (Starts power) c.turns c.ending in
-    let far : List CoreEndEvent = core_step m (Starts id) h.turns h.ending in
-    none-append (map CoreAtController near ++ map CoreAtHost far) (core_events (happens l (Activate power c id h)) es)
-    (grind arith)
-    (none_core es (happens l (Activate power c id h)) t)
+    let h0 = happens l (Activate power c id h) in let h1 = none_core es (happens l (Activate power c id h)) t in grind arith
 
 -- ### How many more are acknowledged
 
@@ -451,7 +432,7 @@ pub near_acks : (es : List LinkEvent) (l : Link) → AllAllowed l es → Good l 
 near_acks es l a k at =
     let r = run es l a k.0 k.1 in
     let c : CoreLink = core_of l in
-    let p = near_alone (core_events l es) c r.allowed (near_core es l at) (safe_reached c k.1) in
+    let p = near_in_room (acked_here c + 4) (core_events l es) c r.allowed (near_core es l at) (safe_reached c k.1) (room_first 0 0 c (safe_reached c k.1)) in
     let far = ap (λ h. h.side.session.acked) p.1 in
     so_of 4 0 l (after_link_events l es) (core_after c (core_events l es)) r.core p.0 (omega (arith, far))
 
@@ -584,11 +565,9 @@ front_acks es front back l q a k t =
 
 whole_within : (ms : List Message) (places : ℕ) → AreSendable ms → whole_among ms places ≤ places
 whole_within [] places a = omega arith
-whole_within (m ∷ ms) places a = by_test (nat_le (packet_count (length m.1)) places)
-    (λ q. let some : 1 ≤ packet_count (length m.1) = let z = a.0.1 in omega (arith, z) in
-    let fits = leb-true (packet_count (length m.1)) places q in
-    rw q (omega (arith, some, fits, whole_within ms (places - packet_count (length m.1)) a.1)))
-    (λ q. rw q (omega arith))
+whole_within (m ∷ ms) places a =
+    let h0 = nat_le (packet_count (length m.1)) places in let h1 = packet_count (length m.1) in
+    let h2 = whole_within ms (places - packet_count (length m.1)) a.1 in grind arith
 
 -- no more messages count as acknowledged than fragments
 pub whole_few : (h : NumberedEnd) → Tells h → whole_acked h.side ≤ h.side.shdlc.session.acked

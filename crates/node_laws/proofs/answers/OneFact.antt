@@ -246,10 +246,6 @@ module _ (hosts : List ℕ) (lines : List Line) (different : AreDifferent hosts)
         heard = hear_first (header_of_hosts hosts) lines (history_of_lines hosts lines) follows different some;
       }
 
-all_in_turn : (hosts : List ℕ) (lines : List Line) → list_any is_damage lines ≡ false → AreDifferent hosts
-    → AllByRecursion (λ h. (h == 0) ≡ false) hosts → IsOrderly (history_of_lines hosts lines)
-all_in_turn hosts lines none different some = orderly_if hosts lines different some (sure lines none (new_world hosts))
-
 -- also where frames are damaged
 pub all_in_turn_still : (hosts : List ℕ) (lines : List Line) → finds_none (new_world hosts) lines ≡ true → AreDifferent hosts
     → AllByRecursion (λ h. (h == 0) ≡ false) hosts → IsOrderly (history_of_lines hosts lines)
@@ -511,4 +507,4 @@ module _ (t : NodeHistory) (orderly : IsOrderly t) (same : IsFoundAnswered t) wh
 pub lines_answered : (hosts : List ℕ) (lines : List Line) → list_any is_damage lines ≡ false → AreDifferent hosts
     → AllByRecursion (λ h. (h == 0) ≡ false) hosts → IsFoundAnswered (history_of_lines hosts lines) → Answered (history_of_lines hosts lines)
 lines_answered hosts lines none different some same =
-    answered (history_of_lines hosts lines) (all_in_turn hosts lines none different some) same
+    answered (history_of_lines hosts lines) (orderly_if hosts lines different some (sure lines none (new_world hosts))) same

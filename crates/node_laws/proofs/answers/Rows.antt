@@ -1,6 +1,6 @@
 -- What a controller or a host does with a message is what the first row says that applies.
-use Rattle.node_laws.proofs.Words.{About, Bool, Decision, Deed, Drops, EndView, Err, IsResponse, List, Message, MessageFault, MessageKind, NodeView, None, Ok}
-use Rattle.node_laws.proofs.Words.{Option, OwnView, PipeRow, Response, Result, Some, Waits, [], administration, answers, ap, arith, body_in, by_option, by_test}
+use Rattle.node_laws.proofs.Words.{Bool, Decision, Deed, EndView, Err, IsResponse, List, Message, MessageFault, MessageKind, NodeView, None, Ok}
+use Rattle.node_laws.proofs.Words.{Option, OwnView, PipeRow, Response, Result, Some, [], administration, answers, ap, arith, body_in, by_option, by_test}
 use Rattle.node_laws.proofs.Words.{carried_out, closing, cond, controller_deeds, controller_rows, decided, deeds_by_relay, deeds_far, deeds_for, deeds_near}
 use Rattle.node_laws.proofs.Words.{eqb, eqb-true, false, far_end, far_host, first_of, first_row, gate_of_pipe, header_of, host_deeds, host_rows, instruction_in}
 use Rattle.node_laws.proofs.Words.{is_gate, is_opened, is_order, is_relayed, kind_deeds, length, ne_eqb, opening, option_map_or, own_deeds, pipe_named_in, refl}
@@ -178,13 +178,7 @@ module _ (v : NodeView) (h : ℕ) (m : Message) where
 
     response_row : header_of m.1 ≡ Ok (IsResponse, instruction_in m.1)
         → kind_deeds v h m (Ok (IsResponse, instruction_in m.1)) ≡ first_row (controller_rows v h m)
-    response_row x = by (eqb m.0 1) (v.notice h) refl refl where
-      by : (b : Bool) (o : Option About) → eqb m.0 1 ≡ b → v.notice h ≡ o
-          → kind_deeds v h m (Ok (IsResponse, instruction_in m.1)) ≡ first_row (controller_rows v h m)
-      by false o one is = rw (off, up, x, one) refl
-      by true (Some (Waits c)) one is = rw (off, up, x, one, is) refl
-      by true (Some _) one is = rw (off, up, x, one, is) refl
-      by true None one is = rw (off, up, x, one, is) (ap (λ pid. Drops pid ∷ []) (sym (eqb-true m.0 1 one)))
+    response_row x = let h0 = off in grind arith
 
     own_row : (hd : Result (MessageKind × ℕ) MessageFault) → header_of m.1 ≡ hd → AsRow
     own_row (Ok (IsCommand, n)) is =

@@ -185,9 +185,6 @@ committed_in_order : (b : Bool) (h pipe : ℕ) (c : Command) (answer message : L
 committed_in_order true h pipe c answer message hosts = told_last false true message hosts
 committed_in_order false h pipe c answer message hosts = refl
 
-counted_in_order : (h pipe : ℕ) (answer : List ℕ × Option ℕ) → InOrder (link_deeds h pipe answer)
-counted_in_order h pipe answer = by_option answer.1 (λ q. rw q refl) (λ errors q. rw q refl)
-
 module _ (v : NodeView) (h : ℕ) (m : Message) where
   decided_in_order : (d : Decision) → InOrder (decides v h m d)
   decided_in_order (Answer answer) = refl
@@ -283,7 +280,7 @@ module _ (own : OwnView) where
                   λ _. (
                     λ _. refl,
                     λ _. (
-                      λ _. counted_in_order own.node 0 (link_served e.errors (instruction_in m.1) (body_in m.1)),
+                      λ _. (by_option (link_served e.errors (instruction_in m.1) (body_in m.1)).1 (λ q. rw q refl) (λ errors q. rw q refl)),
                       λ _. (
                         λ _. refl,
                         λ _. (

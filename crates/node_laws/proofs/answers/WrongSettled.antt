@@ -1,7 +1,7 @@
 -- A small wrong history of a link that settles isn't legal, and the law of what has settled refuses it too.
 use Rattle.node_laws.proofs.Words.{AsksReset, AtController, AtHost, Bare, Clf, GoesOut, HasSettled, IsActive, IsRunOf, IsSettled, IsUpheld, LegalWorld, Link}
 use Rattle.node_laws.proofs.Words.{LinkEvent, List, NextFrame, None, NumberedEnd, Occurrence, PowerMode, Ready, Resets, Role, Some, Starts, Step, Uicc, []}
-use Rattle.node_laws.proofs.Words.{after_link_events, ap, end_c, end_h, entries_in, is_some, new_line, new_link_end, refl, sure_of, sym, true≢false, ℕ, ◌++◌}
+use Rattle.node_laws.proofs.Words.{ap, end_c, end_h, entries_in, is_some, new_line, new_link_end, refl, sure_of, sym, true≢false, ℕ, ◌++◌}
 use Rattle.node_laws.proofs.Words.{◌∙◌, ◌∷◌, ◌≡◌}
 use Rattle.trace_model.specs.declared.entry.LostCause.TheVariants as lost
 use Rattle.trace_model.specs.declared.entry.Entry.TheVariants.{Up, Emit, Took, Lost}
@@ -60,9 +60,6 @@ settled_link = record {
   resets = 1;
 }
 
-law_makes_it : after_link_events new_line happened ≡ settled_link
-law_makes_it = refl
-
 world_makes_it : (site settles).link ≡ settled_link
 unfolding found_from hosts_where lowest_free
 world_makes_it = refl
@@ -86,7 +83,7 @@ refused_by_law law = true≢false (sym (ap is_some (law happened run settled).up
           ),
         ),
       );
-      is = law_makes_it ∙ sym world_makes_it;
+      is = (refl) ∙ sym world_makes_it;
     }
 
     settled : IsSettled (site settles).link (sure_of new_line happened)

@@ -4,7 +4,7 @@ use Rattle.node_laws.proofs.Words.{AreCausedSo, AreDifferent, AreHosts, AreInTur
 use Rattle.node_laws.proofs.Words.{Got, Happening, HasEnds, Host, IfItRuns, IsFrontOf, LinkInput, List, Message, NextFrame, NoInput, NodeInput, NodeWorld, None}
 use Rattle.node_laws.proofs.Words.{Noted, NumberedEnd, Occurrence, Option, Port, Report, Reset, Running, Saying, Site, Some, Start, Starts, Stop, Stops, Takes}
 use Rattle.node_laws.proofs.Words.{TimePasses, Work, [], after_input, aged, aged_entries, all_aged, all_come, ap, append-nil, append_assoc, arith, arrival}
-use Rattle.node_laws.proofs.Words.{as_it_ticks, at_end, by_option, by_test, comes_to, comes_to_pass, commands_by_events, commands_noted, cond, cons_option}
+use Rattle.node_laws.proofs.Words.{as_it_ticks, by_option, by_test, comes_to, comes_to_pass, commands_by_events, commands_noted, cond}
 use Rattle.node_laws.proofs.Words.{controller_begins, controller_work, deeds_of, end_c, end_of_node, entries_for, entries_in, eqb, false, filter_map-append}
 use Rattle.node_laws.proofs.Words.{flat_map, flat_map-append, forgets, frames_noted, goes_through_ends, good_of, got_in, got_in_session, handles, has_come_so}
 use Rattle.node_laws.proofs.Words.{has_freed, has_synced, have_turns, holds_back, hosts_in, hosts_of_ends, input_at, input_of, is_good, lack, length}
@@ -31,7 +31,6 @@ use Rattle.node_laws.proofs.telling.Accounts.{all_owed_mute, all_synced_mute, de
 use Rattle.node_laws.proofs.telling.Events.{hosts_same_of_nodes as hosts_same}
 use Rattle.node_laws.proofs.turns.Passing.{AreNoGots, AreStill, Goes, goes-append, notes_still}
 use Rattle.node_laws.proofs.turns.Worlds.{AllWait}
-use Rattle.node_laws.proofs.turns.Passing.Doing.{Adds, Nothing}
 use Rattle.node_laws.proofs.turns.Nodes.{Leaves, aged_none, arrival_still, flat_leaves, sites_is, still_leaves}
 use Rattle.trace_model.specs.declared.entry.Entry.TheVariants as entry
 
@@ -56,8 +55,7 @@ abbrev NoGets : List Entry → Type 0
 NoGets es = (e : End) (n : ℕ) → got_in es e n ≡ []
 
 gets-append : (s t : List Entry) → NoGets s → NoGets t → NoGets (s ++ t)
-gets-append s t a b e n =
-    filter_map-append (λ x. got_in_session n (said_of e x)) s t ∙ (ap (λ z. z ++ got_in t e n) (a e n) ∙ b e n)
+gets-append s t a b e n = let h0 = filter_map-append (λ x. got_in_session n (said_of e x)) s t in grind arith
 
 -- it tells of no message that came
 abbrev IsNoGet : Saying → Type 0
@@ -68,21 +66,11 @@ abbrev SaysNoGet : Option (End × Saying) → Type 0
 SaysNoGet None = Unit {0}
 SaysNoGet (Some (f, saying)) = IsNoGet saying
 
-ungot : (n : ℕ) (f : End) (o : Option (End × Saying)) → SaysNoGet o → got_in_session n (at_end f o) ≡ None
-ungot n f o none = grind arith
-
 -- what leaves the messages that wait at an end brings none there
 still_gets : (e : End) (es : List Entry) (n : ℕ) → AreStill e es → got_in es e n ≡ []
 still_gets e [] n a = refl
-still_gets e (entry.Got f k pid m ∷ es) n a = by_test (same_end f e)
-    (λ q. let no : Adds (pid, m) ≡ Nothing = rw q at a.0 in absurd (cc no))
-    (λ q. rw q (still_gets e es n a.1))
-still_gets e (x ∷ es) n a =
-    ap (λ o. cons_option o (got_in es e n)) (ungot n e (said x) tt) ∙ still_gets e es n a.1
-
--- a turn tells of none that came
-turn_gets : (f : End) (pid : ℕ) (m : List ℕ) → NoGets (entry.Turn f pid m ∷ [])
-turn_gets f pid m e n = refl
+still_gets e (entry.Got f k pid m ∷ es) n a = let h0 = same_end f e in let h1 = still_gets e es n a.1 in grind arith
+still_gets e (x ∷ es) n a = let h0 = got_in es e n in let h1 = said x in let h2 = still_gets e es n a.1 in grind arith
 
 -- behind a node as its pass begins nothing came
 record Behind (w v : Work) : Type 0 where
@@ -102,7 +90,7 @@ comes_behind w v c = comes_so (Behind w) (record {
   handled = λ u h m messages b on waiting room still.
       more w u (handles h m (deeds_of u.core u.ports h m) u) _ b (handles_entries h m (deeds_of u.core u.ports h m) u)
       (gets-append (entry.Turn (end_of_node u.core h) m.0 m.1 ∷ []) (noted_by_deeds h (deeds_of u.core u.ports h m) (takes_up h m u))
-      (turn_gets (end_of_node u.core h) m.0 m.1)
+      (λ e n. refl)
       (λ e n. still_gets e (noted_by_deeds h (deeds_of u.core u.ports h m) (takes_up h m u)) n
       (deeds_still e h (deeds_of u.core u.ports h m) (takes_up h m u) (deeds_mute u.core u.ports h m))));
   held = λ u h m messages short b on waiting lacks.

@@ -1,11 +1,11 @@
 -- What messages pay was paid for by the ends that sent them, and so in the end by causes: a history notes as many commands as its lines ask
 -- for.
 use Rattle.node_laws.proofs.Words.{AreCausedSo, AreHosts, AreInTurn, AreNodeLinesOf, ArePlayable, Bool, End, Entry, FollowsNodes, Happening, Header, IsFrontOf}
-use Rattle.node_laws.proofs.Words.{IsNodeHeader, IsNodeLineOf, IsPlayable, Line, List, MayBeCaused, MayBoot, Message, NoCause, NodeHistory, NodeWorld, None}
+use Rattle.node_laws.proofs.Words.{IsNodeHeader, IsNodeLineOf, IsPlayable, Line, List, MayBeCaused, Message, NodeHistory, NodeWorld, None}
 use Rattle.node_laws.proofs.Words.{Occurrence, Option, Running, Saying, Site, Some, Takes, Ticks, Verdict, [], all_happen, ap, append-nil, append_assoc, arith}
-use Rattle.node_laws.proofs.Words.{at_end, by_option, by_test, can_happen, commands_by, commands_by_all, commands_by_events, commands_noted, cond, cons_option}
-use Rattle.node_laws.proofs.Words.{entries_in, eqb-false, eqb-true, false, filter_map, filter_map-append, first_cause, first_verdict, flat_map-append}
-use Rattle.node_laws.proofs.Words.{frames_at, goes_on, good_of, got_entry, got_in, got_in_session, happenings, happens_by, if_off, is_good, is_some, length}
+use Rattle.node_laws.proofs.Words.{at_end, by_option, by_test, can_happen, commands_by, commands_by_all, commands_by_events, commands_noted, cons_option}
+use Rattle.node_laws.proofs.Words.{entries_in, eqb-false, eqb-true, false, filter_map, filter_map-append, first_verdict, flat_map-append}
+use Rattle.node_laws.proofs.Words.{frames_at, goes_on, good_of, got_entry, got_in, got_in_session, happenings, happens_by, is_good, length}
 use Rattle.node_laws.proofs.Words.{length-map, line_step, lines_asking, ne_eqb, new_world, node_at, node_number, not, occurrences_in, occurrences_of, other_end}
 use Rattle.node_laws.proofs.Words.{refl, refusal_in, replicate, said, said_of, same_end, same_end_itself, sent_by, sent_in, since_boot, steps_from, subst, suc}
 use Rattle.node_laws.proofs.Words.{sym, tables_told, taken_of, true, true≢false, turn_entry_at, unwrap_or, world_behind, world_step, zero, ℕ, ◌*◌, ◌++◌, ◌+◌}
@@ -16,12 +16,11 @@ use Rattle.node_laws.specs.schedules.Ranges.{asking}
 use Rattle.node_laws.proofs.bounds.Syncs.{all_calm}
 use Rattle.node_laws.proofs.bounds.Turns.{costs, costs-append, message_cost, pays, pays-append, worth}
 use Rattle.node_laws.proofs.bounds.Worlds.{event_paid, sites_hold, world_holds}
-use Rattle.node_laws.proofs.links.Worlds.{MayHappen}
 use Rattle.node_laws.proofs.order.Lines.{IsSo, history_so, next_so, of_none}
 use Rattle.node_laws.proofs.order.Sessions.{in_order_so}
 use Rattle.node_laws.proofs.reply_passes.Ordered.{in_turn_of}
 use Rattle.node_laws.proofs.schedules.Ranges.{count, ends_same, fewer, hosts_are, hosts_few, one_at, playable}
-use Rattle.node_laws.proofs.telling.Lasting.{AllMay, AreCaused, damaged_may, events_of_steps, lines_caused, occurs, repeated_may, stands_none}
+use Rattle.node_laws.proofs.telling.Lasting.{AllMay, damaged_may, events_of_steps, lines_caused, occurs, repeated_may, stands_none}
 use Rattle.node_laws.proofs.turns.Worlds.{Waiting, events_move, none_wait}
 use Rattle.node_laws.proofs.turns.Passing.{goes-append}
 use Rattle.node_laws.proofs.turns.Nodes.{Moves, end_at}
@@ -167,9 +166,7 @@ module _ (e : End) where
   hit_got : (f : End) (k pid : ℕ) (m : List ℕ) (n : ℕ) → same_end f e ≡ true
       → got_by (entry.Got f k pid m) n ≡ hits k (message_cost (not e.at_host) pid m) n
   hit_got f k pid m zero on = refl
-  hit_got f k pid m (suc n) on =
-      let one : worth_if e.at_host (got_in_session n (said_of e (entry.Got f k pid m))) ≡ worth (message_cost (not e.at_host) pid m) (k == n) = grind arith in
-      omega (arith, one, hit_got f k pid m n on)
+  hit_got f k pid m (suc n) on = let h0 = hit_got f k pid m n on in grind arith
 
   -- the greatest number of a session in which a message came, and one more
   abbrev top : List Entry → ℕ
@@ -240,13 +237,7 @@ count_off e f (suc n) fs off = let rest = count_off e f n fs off in let one : on
 module _ (e : End) where
   turns_are : (t : List Entry) → count e (turn_list t) ≡ turns e t
   turns_are [] = refl
-  turns_are (entry.Turn f pid m ∷ t) = by_test (same_end f e)
-      (λ q. let is : turns e (entry.Turn f pid m ∷ t) ≡ message_cost (not e.at_host) pid m + turns e t = rw q refl in
-      omega (arith, count_on e f n (turn_list t) q, ap (λ (x : End). message_cost (not x.at_host) pid m) (ends_same f e q), is, turns_are t))
-      (λ q. let is : turns e (entry.Turn f pid m ∷ t) ≡ turns e t = rw q refl in
-      omega (arith, count_off e f n (turn_list t) q, is, turns_are t)) where
-        n : ℕ
-        n = message_cost (not f.at_host) pid m
+  turns_are (entry.Turn f pid m ∷ t) = let h0 = turns_are t in grind arith
   turns_are (x ∷ t) = turns_are t
 
 -- ### What was sent
@@ -274,16 +265,11 @@ module _ (e : End) where
   hit_sent : (f : End) (k pid : ℕ) (m : List ℕ) (n : ℕ) → same_end f (other_end e) ≡ true
       → sent_of e (entry.Sent f k pid m) n ≡ hits k (message_cost (not e.at_host) pid m) n
   hit_sent f k pid m zero on = refl
-  hit_sent f k pid m (suc n) on =
-      let one : worth_if e.at_host (sent_by n (said_of (other_end e) (entry.Sent f k pid m))) ≡ worth (message_cost (not e.at_host) pid m)
-      (k == n) = grind arith in
-      omega (arith, one, hit_sent f k pid m n on)
+  hit_sent f k pid m (suc n) on = let h0 = hit_sent f k pid m n on in grind arith
 
   miss_sent : (f : End) (k pid : ℕ) (m : List ℕ) (n : ℕ) → same_end f (other_end e) ≡ false → sent_of e (entry.Sent f k pid m) n ≡ 0
   miss_sent f k pid m zero off = refl
-  miss_sent f k pid m (suc n) off =
-      let one : worth_if e.at_host (sent_by n (said_of (other_end e) (entry.Sent f k pid m))) ≡ 0 = rw off refl in
-      omega (arith, one, miss_sent f k pid m n off)
+  miss_sent f k pid m (suc n) off = let h0 = miss_sent f k pid m n off in grind arith
 
   all_sent : (t : List Entry) (n : ℕ) → sent_below e t n ≤ count e (sent_list t)
   all_sent [] n = none_below n where
@@ -325,13 +311,6 @@ few_committed all t turned fronts paid =
 
 -- ## Whatever happens to a new world, what its nodes commit is paid for by what came of the causes
 
--- what may come may happen
-may_happen : (w : NodeWorld) (c : Happening) → MayBeCaused w c → MayHappen w c
-may_happen w c may = grind arith
-
-may_boot : (w : NodeWorld) (c : Happening) → MayBeCaused w c → MayBoot w c
-may_boot w c may = grind arith
-
 -- A world and what happened until then: its links are told, what waits at its ends is read, and all was paid for, but for what came of
 -- the causes.
 pub record PaidSo (hosts : List ℕ) (all : ℕ) (os : List Occurrence) (w : NodeWorld) : Type 0 where
@@ -352,11 +331,11 @@ module _ (hosts : List ℕ) (most : length hosts ≤ 7) where
       let cs = costs-append t u in
       let ps = pays-append t u in
       record {
-        so = next_so of_none hosts os w c a.so (may_happen w c may) (λ h q. absurd (true≢false (sym q)));
+        so = next_so of_none hosts os w c a.so (grind arith) (λ h q. absurd (true≢false (sym q)));
         waiting = λ b h.
             let was : Waiting t w b h = a.waiting b h in
             let moved : Moves b h (world_step w c).0 u was.messages =
-            events_move w c a.so.well.orderly (may_boot w c may) b h was.messages was.waits in
+            events_move w c a.so.well.orderly (grind arith) b h was.messages was.waits in
             subst (λ z. Waiting z (world_step w c).0 b h) (sym same) (record {
               messages = moved.left;
               goes = goes-append (end_at b h) t u [] was.messages moved.left was.goes moved.goes;
@@ -376,9 +355,7 @@ module _ (hosts : List ℕ) (most : length hosts ≤ 7) where
 
   all_so : (causes : List Happening) (all : ℕ) (os : List Occurrence) (w : NodeWorld) → PaidSo hosts all os w → AllCome w causes
       → commands_noted (entries_in (os ++ (all_happen w causes).1)) ≤ all + commands_by_all causes
-  all_so [] all os w a may =
-      let same : commands_noted (entries_in (os ++ [])) ≡ commands_noted (entries_in os) = ap (λ l. commands_noted (entries_in l)) (append-nil os) in
-      omega (arith, few_so all os w a, same)
+  all_so [] all os w a may = let h0 = entries_in (os ++ []) in let h1 = entries_in os in let h2 = append-nil os in let h3 = few_so all os w a in grind arith
   all_so (c ∷ causes) all os w a may =
       by_test (can_happen w c)
       (λ q. rw q (let same : commands_noted (entries_in ((os ++ occurs w c ∷ []) ++ later.1)) ≡ commands_noted (entries_in (os ++ (occurs w c ∷ later.1))) =
@@ -391,9 +368,7 @@ module _ (hosts : List ℕ) (most : length hosts ≤ 7) where
 
   all_events : (events : List Occurrence) (all : ℕ) (os : List Occurrence) (w : NodeWorld) → PaidSo hosts all os w → AreCausedSo w events
       → commands_noted (entries_in (os ++ events)) ≤ all + commands_by_events events
-  all_events [] all os w a are =
-      let same : commands_noted (entries_in (os ++ [])) ≡ commands_noted (entries_in os) = ap (λ l. commands_noted (entries_in l)) (append-nil os) in
-      omega (arith, few_so all os w a, same)
+  all_events [] all os w a are = let h0 = entries_in (os ++ []) in let h1 = entries_in os in let h2 = append-nil os in let h3 = few_so all os w a in grind arith
   all_events (o ∷ events) all os w a are =
       let is : occurs w o.cause ≡ o = ap (λ es. let made : Occurrence = record { cause = o.cause; entries = es } in made) (sym are.0) in
       let next : PaidSo hosts (all + commands_by o.cause) (os ++ o ∷ []) (world_step w o.cause).0 =
@@ -432,9 +407,7 @@ events_bounded hosts events are most caused =
 -- behind these events
 paid_behind : (hosts : List ℕ) (most : length hosts ≤ 7) (events : List Occurrence) (all : ℕ) (os : List Occurrence) (w : NodeWorld)
     → PaidSo hosts all os w → AreCausedSo w events → PaidSo hosts (all + commands_by_events events) (os ++ events) (world_behind w events)
-paid_behind hosts most [] all os w a are =
-    subst (λ l. PaidSo hosts (all + 0) l w) (sym (append-nil os))
-    (let paid = a.paid in record { so = a.so; waiting = a.waiting; paid = omega (arith, paid) })
+paid_behind hosts most [] all os w a are = let h0 = append-nil os in grind arith
 paid_behind hosts most (o ∷ events) all os w a are =
     let is : occurs w o.cause ≡ o = ap (λ es. let made : Occurrence = record { cause = o.cause; entries = es } in made) (sym are.0) in
     let v : NodeWorld = (world_step w o.cause).0 in
@@ -454,9 +427,6 @@ paid_so hosts events are most caused = paid_behind hosts most events 0 [] (new_w
 
 -- ### What lines cause may come
 
-both_on : (b : Bool) (why : Option NoCause) → first_cause (cond b None (Some no.Off)) why ≡ None → b ≡ true
-both_on b why q = grind arith
-
 line_may : (w : NodeWorld) (l : Line) → IsPlayable l → refusal_in w l ≡ None → AllMay MayBeCaused w (happenings w l)
 line_may w (line.Send e pid message) p q = (p, tt)
 line_may w (line.Deliver e count) p q = repeated_may MayBeCaused (Takes e) (λ v. tt) (taken_of count (frames_at w e)) w
@@ -466,13 +436,10 @@ line_may w (line.Reset e window) p q = (p, tt)
 line_may w (line.Busy e) p q = tt
 line_may w (line.Ready e) p q = tt
 line_may w (line.Boot n) p q = (stands_none (node_at w n) q, tt)
-line_may w (line.Activate host sync power) p q = (both_on (is_some w.controller) (if_off w host) q, tt)
+line_may w (line.Activate host sync power) p q = ((grind arith), tt)
 line_may w (line.Tables n) p q = tt
 line_may w (line.Settle n) p q = tt
 line_may w _ p q = (tt, tt)
-
-caused_so : (events : List Occurrence) (w : NodeWorld) → AreCaused MayBeCaused w events → AreCausedSo w events
-caused_so events w are = grind arith
 
 front_caused : (front back : List Occurrence) (w : NodeWorld) → AreCausedSo w (front ++ back) → AreCausedSo w front
 front_caused [] back w are = tt
@@ -553,7 +520,7 @@ pub front_so : (header : Header) (lines : List Line) (t : NodeHistory) → Follo
 front_so header lines t follows play front back parts =
     let first : NodeWorld = new_world header.hosts.items in
     let events : List Occurrence = events_of_steps (steps_from first lines) in
-    let all : AreCausedSo first events = caused_so events first (lines_caused MayBeCaused IsPlayable line_may lines first play) in
+    let all : AreCausedSo first events = let h0 = (lines_caused MayBeCaused IsPlayable line_may lines first play) in grind arith in
     front_caused front back first (subst (AreCausedSo first) (ap events_of_steps (sym follows.steps_are) ∙ parts) all)
 
 -- few commands come of them

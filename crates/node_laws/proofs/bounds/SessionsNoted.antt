@@ -2,7 +2,7 @@
 use Rattle.node_laws.proofs.Words.{Activate, AllByRecursion, AreHosts, ArePlayable, AsksReset, AtController, AtEnd, AtHost, Bool, Comes, Control, Controller}
 use Rattle.node_laws.proofs.Words.{Core, Creation, CutOff, Deed, EndEvent, Ending, Entry, FetchMessage, FollowsNodes, GoesOut, HasTick, Header, Hold, Host}
 use Rattle.node_laws.proofs.Words.{IsLine, IsLinkTold, IsStart, Line, Link, LinkEnd, LinkEvent, LinkInput, List, Lose, Loss, Message, NextFrame, NoInput, Node}
-use Rattle.node_laws.proofs.Words.{NodeHistory, NodeInput, None, NumberedEnd, Occurrence, OnWire, Option, Port, Releases, Report, Reset, Response, Site, Some}
+use Rattle.node_laws.proofs.Words.{NodeHistory, NodeInput, None, NumberedEnd, Occurrence, OnWire, Option, Port, Releases, Reset, Response, Site, Some}
 use Rattle.node_laws.proofs.Words.{Start, Starts, Step, Stop, Stops, Take, TicksWithout, TimePasses, TooMany, Turn, Work, [], after_input, after_link_events}
 use Rattle.node_laws.proofs.Words.{after_sessions, after_turn, aged, aged_entries, all_at_controller, all_come, all_done, all_owed, ap, arith, asked_at}
 use Rattle.node_laws.proofs.Words.{begins_with, by_list, by_option, by_test, comes_to_pass, cond, cond_both, controller_deeds, deactivated, deeds_of}
@@ -160,17 +160,11 @@ flat_costs f one [] = refl
 flat_costs f one (x ∷ xs) =
     let both = costs-append (f x) (flat_map f xs) in let first = one x in let rest = flat_costs f one xs in omega (arith, both, first, rest)
 
-come_desk : (p : Port) (o : Option LinkInput) → notice_holds (has_come p o).desk.notice ≤ notice_holds p.desk.notice
-come_desk p o = grind arith
-
 older_desk : (p : Port) → notice_holds (with_older p).desk.notice ≤ notice_holds p.desk.notice
 older_desk p = by_option p.desk.notice (λ q. rw q (omega arith)) (λ n q. rw q (omega arith))
 
 late_desk : (p : Port) → notice_holds (reset_late p).desk.notice ≤ notice_holds p.desk.notice
 late_desk p = grind arith
-
-forgets_desk : (ports : List Port) (p : Port) → notice_holds (forgets ports p).desk.notice ≤ notice_holds p.desk.notice
-forgets_desk ports p = grind arith
 
 without_desk : (p : Port) → notice_holds (without_notice p).desk.notice ≤ notice_holds p.desk.notice
 without_desk p = cond_both (is_over p) _ p (λ (q : Port). notice_holds q.desk.notice ≤ notice_holds p.desk.notice) (λ _. omega arith) (λ _. omega arith)
@@ -211,7 +205,7 @@ module _ (side : Side) (all : ℕ) where
       let none = flat_costs (λ p. told_at w.core p (input_at input p)) (λ p. told_costs w.core p (input_at input p)) w.ports in
       let told : Owes side k all (all_come input w) =
       noted side all k k (flat_map (λ p. told_at w.core p (input_at input p)) w.ports) begun (omega (arith, none))
-      (mapped k (λ p. has_come p (input_at input p)) (λ p. come_desk p (input_at input p)) w a) in
+      (mapped k (λ p. has_come p (input_at input p)) (λ p. grind arith) w a) in
       let came : Work = times_out input (all_come input w) in
       let syncs : List Deed = flat_map (synced w.core input) w.ports in
       let left : List Port = map (forgets came.ports) came.ports in
@@ -221,7 +215,7 @@ module _ (side : Side) (all : ℕ) where
       kept side all k k core came (sessions_node came.core came.ports) (omega (arith, less_core)) (timed k input (all_come input w) told) in
       let begins : Owes side k all (record came { core = core; ports = map without_notice left }) =
       mapped k without_notice without_desk (record came { core = core; ports = left })
-      (mapped k (forgets came.ports) (forgets_desk came.ports) (record came { core = core }) cored) in
+      (mapped k (forgets came.ports) (λ p. grind arith) (record came { core = core }) cored) in
       before_pass k (forgotten came.ports) syncs (all_owed left) (record came { core = core; ports = map without_notice left })
       (forgotten_weigh side came.ports) (all_synced side w.core input w.ports) (all_owed_weigh side left) begins
 
@@ -247,11 +241,8 @@ more m n (x ∷ t) q a = (within_more m n q x a.0, more m n t q a.1)
 
 -- ### What comes, and turns
 
-told_within : (n : ℕ) (who : End) (k : ℕ) (r : Report) (acked : ℕ) → k ≤ n → AreNotedWithin n (told who k r acked)
-told_within n who k r acked q = told_all (NotedWithin n) who k acked q tt (λ t. tt) q (λ m. q) (λ c. tt) r
-
 input_told : (n : ℕ) (who : End) (h : NumberedEnd) (i : LinkInput) → number_of h ≤ n → AreNotedWithin n (told_of who h i)
-input_told n who h i q = told_within n who (number_of h) (report h.side i) (whole_acked (after_input h.side i)) q
+input_told n who h i q = told_all (NotedWithin n) who (number_of h) (whole_acked (after_input h.side i)) q tt (λ t. tt) q (λ m. q) (λ c. tt) (report h.side i)
 
 turn_within : (n : ℕ) (who : End) (k : ℕ) (e : LinkEnd) (t : Turn) → k ≤ n → AreNotedWithin n (turn_entry who k e t)
 turn_within n who k e t q = grind arith
@@ -331,11 +322,8 @@ restart_within who l i ts ending a =
     let low = number_low l.resets l.controller a.controller in (
       tt,
       each_append (NotedWithin l.resets) (told_of who l.controller i) (rest_entries who (silent l e) e ts ending) (input_told l.resets who l.controller i low)
-          (rest_within l.resets who (silent l e) e ts ending (silent_low e)),
+          (rest_within l.resets who (silent l e) e ts ending (grind arith)),
     )
-  where
-    silent_low : (e : LinkEnd) → number_of (silent l e).controller ≤ l.resets
-    silent_low e = grind arith
 
 step_within : (who : End) (l : Link) (comes : Comes) (ts : List Turn) (ending : Ending) → HasLowNumbers l
     → AreNotedWithin l.resets (step_entries who l comes ts ending)
@@ -528,10 +516,6 @@ after_causes : (causes : List Cause) (l : Link) → after_link_events l (map eve
 after_causes [] l = refl
 after_causes (c ∷ causes) l = after_causes causes (link_after l c)
 
--- both ends are up in session 0 from the start
-traced : (n : ℕ) (events : List LinkEvent) → AreNotedWithin n (entries bare_link events) → AreNotedWithin n (trace bare_link events)
-traced n events a = (omega arith, (omega arith, a))
-
 pub sessions_in_bare_history : (header : Header) (lines : List Line) (t : History) → AllByRecursion (IsLineOf header) lines → Follows header lines t
     → AreSessionsWithin (rsets_by_all_bare (causes_of (all_events t))) (all_entries t)
 sessions_in_bare_history header lines t valid follows =
@@ -543,4 +527,4 @@ sessions_in_bare_history header lines t valid follows =
     let noted : AreNotedWithin n (entries bare_link events) =
     more (after_link_events bare_link events).resets n (entries bare_link events) (omega (arith, few, same)) (run_within bare_link IsBare events) in
     subst (AreSessionsWithin n) (sym (run_entries (host_of header) t.opening (all_events t) run.opening run.events))
-    (entries_within (host_of header) n (trace bare_link events) (traced n events noted))
+    (entries_within (host_of header) n (trace bare_link events) ((omega arith, (omega arith, noted))))

@@ -182,12 +182,9 @@ input_sends e Stop is once = restarted_sends e ActStop is tt
 input_sends e (FromNode t) is once = absurd once
 input_sends e Fetch is once = absurd once
 
-turn_sends : (e : LinkEnd) (t : Turn) → may_send (turn e t) ≡ may_send e
-turn_sends e t = grind arith
-
 turned_sends : (e : LinkEnd) (ts : List Turn) → may_send (turned e ts) ≡ may_send e
 turned_sends e [] = refl
-turned_sends e (t ∷ ts) = turned_sends (turn e t) ts ∙ turn_sends e t
+turned_sends e (t ∷ ts) = turned_sends (turn e t) ts ∙ (grind arith)
 
 -- ### What an end tells
 
@@ -216,11 +213,8 @@ on-append : (xs ys : List OnWire) → syncs_on (xs ++ ys) ≡ syncs_on xs + sync
 on-append [] ys = omega arith
 on-append (x ∷ xs) ys = let rest = on-append xs ys in omega (arith, rest)
 
-drop_less : (w : List OnWire) → syncs_on (drop 1 w) ≤ syncs_on w
-drop_less w = grind arith
-
 fits_less : (w : List OnWire) → syncs_on (fits w) ≤ syncs_on w
-fits_less w = by_test (nat_lt 64 (length w)) (λ q. rw q (drop_less w)) (λ q. rw q (omega arith))
+fits_less w = by_test (nat_lt 64 (length w)) (λ q. rw q (grind arith)) (λ q. rw q (omega arith))
 
 aged_less : (w : List OnWire) → syncs_on (aged_wire w) ≤ syncs_on w
 aged_less [] = omega arith
@@ -270,9 +264,6 @@ among_syncs n (a ∷ acts) cs none =
     let own = act_frame_is a in
     omega (arith, both, one, rest, own)
 
-out_syncs : (e : LinkEnd) → syncs_in (frames_out e) ≡ syncs_due e.acts
-out_syncs e = among_syncs 0 e.acts _ (no_acts most_frames e.shdlc)
-
 put_syncs : (l : Link) (c : Control) → syncs_on (put l c).to_host ≤ syncs_on l.to_host + sync_frame c
 put_syncs l c = by_test (is_rset c) (λ q. rw q (pushed (l.resets + 1))) (λ q. rw q (pushed 0)) where
   number : Bool → ℕ
@@ -298,7 +289,7 @@ renewed_none : (r : Role) → tries_of (renewed r) ≡ 0
 renewed_none r = grind arith
 
 finished_out : (l : Link) (e : LinkEnd) (ending : Ending) → out_holds (finished l e ending) ≤ syncs_on l.to_host + may_send e
-finished_out l e GoesOut = let put = put_all_syncs (frames_out e) l in let is = out_syncs e in omega (arith, put, is)
+finished_out l e GoesOut = let put = put_all_syncs (frames_out e) l in let is = among_syncs 0 e.acts _ (no_acts most_frames e.shdlc) in omega (arith, put, is)
 finished_out l e CutOff = let none = renewed_none e.role in omega (arith, none)
 
 cut_out : (l : Link) (e : LinkEnd) → out_holds (finished l e CutOff) ≡ 0
@@ -428,9 +419,7 @@ all_resting sites calm = all_so IsCalm IsResting (λ s b. b.rests) sites calm
 pub still_rest : (g : Site → Site) → ((s : Site) → (g s).link.host.side ≡ s.link.host.side) → (sites : List Site) → AllByRecursion IsResting sites
     → AllByRecursion IsResting (map g sites)
 still_rest g same [] rest = tt
-still_rest g same (s ∷ sites) rest =
-    let P : LinkEnd → Type 0 = λ e. IsUicc e.role in
-    (record { uicc = subst P (sym (same s)) rest.0.uicc; acts = ap (λ (e : LinkEnd). e.acts) (same s) ∙ rest.0.acts }, still_rest g same sites rest.1)
+still_rest g same (s ∷ sites) rest = let h0 = still_rest g same sites rest.1 in grind arith
 
 -- ### What a link holds
 
@@ -442,15 +431,10 @@ link_holds l = syncs_on l.to_controller + tries_of l.host.side.role
 pub near_holds : (l : Link) (comes : Comes) (ts : List Turn) (ending : Ending)
     → link_holds (happens l (AtController (Step comes ts ending))) + taken_by comes l.to_controller ≤ link_holds l
 near_holds l comes ts ending =
-    let same : tries_of (happens_at_controller l (Step comes ts ending)).host.side.role ≡ tries_of l.host.side.role =
-    ap (λ (k : NumberedEnd). tries_of k.side.role) (here_host l (Step comes ts ending)) in
-    omega (arith, step_in l comes ts ending, same)
+    let h0 = happens_at_controller l (Step comes ts ending) in let h1 = here_host l (Step comes ts ending) in let h2 = step_in l comes ts ending in grind arith
 
 input_holds : (l : Link) (i : LinkInput) (ts : List Turn) (ending : Ending) → link_holds (has_input l i ts ending) ≤ link_holds l
-input_holds l i ts ending =
-    let same : tries_of (has_input l i ts ending).host.side.role ≡ tries_of l.host.side.role =
-    ap (λ (k : NumberedEnd). tries_of k.side.role) (host_left l i ts ending) in
-    omega (arith, input_in l i ts ending, same)
+input_holds l i ts ending = let h0 = has_input l i ts ending in let h1 = host_left l i ts ending in let h2 = input_in l i ts ending in grind arith
 
 pub ticked_holds : (l : Link) (late : Bool) (ts : List Turn) (ending : Ending) → link_holds (ticked_so l late ts ending) ≤ link_holds l
 ticked_holds l late ts ending =

@@ -82,10 +82,6 @@ near_most pid m = worth_most (eqb pid 1 && is_command_message m) 1
 pub far_most : (pid : ℕ) (m : List ℕ) → message_cost true pid m ≤ 16
 far_most pid m = worth_most (is_command_message m) 16
 
--- on another pipe than 01 the controller sends nothing that costs
-off_free : (pid : ℕ) (m : List ℕ) → eqb pid 1 ≡ false → message_cost false pid m ≡ 0
-off_free pid m off = ap (λ c. worth 1 (c && is_command_message m)) off
-
 -- ### Of a link
 
 abbrev pub costs_at : ℕ → List Noted → ℕ
@@ -195,17 +191,13 @@ holds_at h ports = option_map_or (λ (p : Port). waiting (asked_at p)) (port_at 
 pub stays_at : (h : ℕ) (f : Port → Port) → ((p : Port) → (f p).desk.host ≡ p.desk.host) → ((p : Port) → (f p).desk.notice ≡ p.desk.notice)
     → (ports : List Port) → holds_at h (with_port h f ports) ≡ holds_at h ports
 stays_at h f host notice [] = refl
-stays_at h f host notice (p ∷ ports) = by_test (eqb p.desk.host h)
-    (λ q. rw (q, ap (λ n. eqb n h) (host p) ∙ q) (ap notice_holds (notice p)))
-    (λ q. rw (q, q) (stays_at h f host notice ports))
+stays_at h f host notice (p ∷ ports) = let h0 = stays_at h f host notice ports in grind arith
 
 -- where the notice is answered, it holds nothing any more
 frees : (h : ℕ) (f : Port → Port) → ((p : Port) → notice_holds (f p).desk.notice ≡ 0) → (ports : List Port)
     → ports_hold (with_port h f ports) + holds_at h ports ≤ ports_hold ports
 frees h f none [] = omega arith
-frees h f none (p ∷ ports) = by_test (eqb p.desk.host h)
-    (λ q. let z = none p in rw q (omega (arith, (with_less h f (λ p. let z = none p in omega (arith, z)) ports), z)))
-    (λ q. rw q (omega (arith, frees h f none ports)))
+frees h f none (p ∷ ports) = let h0 = frees h f none ports in grind arith
 
 -- ## What each deed of a node costs, and that a node can always pay for it
 
@@ -395,9 +387,6 @@ module _ (side : Side) (all : ℕ) where
 pub answer_plain : (r : Response) (value : List ℕ) → is_command_message (answer_of r value) ≡ false
 answer_plain r value = grind arith
 
-pub answer_free : (b : Bool) (pid : ℕ) (r : Response) (value : List ℕ) → message_cost b pid (answer_of r value) ≡ 0
-answer_free b pid r value = plain_free b pid (answer_of r value) (answer_plain r value)
-
 -- nor is an event
 event_plain : (m : List ℕ) (n : ℕ) → header_of m ≡ Ok (IsEvent, n) → is_command_message m ≡ false
 event_plain m n is = rw is refl
@@ -461,11 +450,11 @@ module _ (all : ℕ) (core : Core) (ports : List Port) (h : ℕ) (m : Message) w
   pub controller_pays : IsPaidNear (controller_deeds (view_of core ports) h m)
   controller_pays = controller_holds IsPaidNear core ports h m (record {
     drops = λ pid none. weighed_near (Drops pid ∷ []) (omega arith);
-    goes_on = λ to off. weighed_near (Sends to m ∷ []) (let free = off_free m.0 m.1 off in omega (arith, free));
+    goes_on = λ to off. weighed_near (Sends to m ∷ []) (let free = ap (λ c. worth 1 (c && is_command_message m.1)) off in omega (arith, free));
     goes_back = λ n event.
         weighed_near (Sends h m ∷ []) (let free = plain_free false m.0 m.1 (event_plain m.1 n event) in omega (arith, free));
     refuses = λ r off free.
-        weighed_near (answers_on h m.0 (answer_of r [])) (let none = answer_free false m.0 r [] in omega (arith, none));
+        weighed_near (answers_on h m.0 (answer_of r [])) (let none = plain_free false m.0 (answer_of r []) (answer_plain r []) in omega (arith, none));
     names = λ n served gate.
         weighed_near (answers_on h m.0 (identity_served gates n (body_in m.1)))
         (let one = near_most m.0 (identity_served gates n (body_in m.1)) in let pays = far_cost m.0 m.1 n served.command in omega (arith, one, pays));

@@ -1,7 +1,7 @@
 -- What is noted of an event of a world of nodes is paid for, with what its nodes keep, but for what comes of its cause.
 use Rattle.node_laws.proofs.Words.{Activates, AllByRecursion, AreDifferent, Arms, AsksReset, AtController, AtEnd, Bare, Bool, Boots, Broken, Comes, Controller}
-use Rattle.node_laws.proofs.Words.{CutOff, Deed, Desk, End, Entry, Gives, GoesOut, Happening, HasEnds, Host, IfItRuns, Init, Inits, IsCut, IsOrderly, IsUicc}
-use Rattle.node_laws.proofs.Words.{Link, LinkEnd, LinkInput, List, Loses, Loss, Memory, Message, NextFrame, NoInput, NodeInput, NodeWorld, None, NumberedEnd}
+use Rattle.node_laws.proofs.Words.{CutOff, Deed, Desk, End, Entry, Gives, GoesOut, Happening, HasEnds, Host, IfItRuns, Inits, IsCut, IsOrderly, IsUicc}
+use Rattle.node_laws.proofs.Words.{Link, LinkEnd, LinkInput, List, Loses, Loss, Memory, NextFrame, NoInput, NodeInput, NodeWorld, None, NumberedEnd}
 use Rattle.node_laws.proofs.Words.{OnWire, Option, Plan, Port, Reset, Resets, Running, Site, Some, Start, Starts, Step, Stop, Stops, Take, Takes, Tick, Ticks}
 use Rattle.node_laws.proofs.Words.{TimePasses, Work, [], activates, after_host, after_planned, aged, aged_entries, all_aged, ap, arith, arrival, beginning}
 use Rattle.node_laws.proofs.Words.{begins_with, boot_found, boot_writes, boot_written, boots, by_boot, by_coming, by_controller, by_controller_tick, by_host}
@@ -19,7 +19,7 @@ use Rattle.node_laws.proofs.telling.Events.{comes_goes, hosts_same_of_nodes as h
 use Rattle.node_laws.proofs.links.Sites.{here_host}
 use Rattle.node_laws.proofs.telling.WorldTicks.{aged_orderly, near_orderly}
 use Rattle.node_laws.proofs.telling.Ticks.{ending_all, lost_all, wires_all}
-use Rattle.node_laws.proofs.bounds.Turns.{IsNoSent, Owes, core_holds, costs, costs-append, desks_are, desks_hold, far_most, less, node_holds, notes_free}
+use Rattle.node_laws.proofs.bounds.Turns.{IsNoSent, Owes, core_holds, costs, costs-append, desks_are, desks_hold, less, node_holds, notes_free}
 use Rattle.node_laws.proofs.bounds.Turns.{notice_holds, pays, pays-append, ports_hold, weights, worth}
 use Rattle.node_laws.proofs.bounds.Syncs.{FirstOnce, IsCalm, IsResting, aged_holds, all_resting, far_cut_holds, far_holds, far_tells, far_tick_holds}
 use Rattle.node_laws.proofs.bounds.Syncs.{input_sync, link_holds, lost_holds, near_holds, near_tells, near_tick_holds, near_tick_host, start_by, still_rest}
@@ -355,14 +355,9 @@ begins_paid w h deeds most few calm orderly =
     (λ s here is. absurd (cc is)) orderly in
     omega (arith, paid, few)
 
-sending_weighs : (h : ℕ) (m : Message) → weights Host (sending h m) ≤ 18
-sending_weighs h m = grind arith
-
 beginning_weighs : (identity : List ℕ) (pipes : List (List ℕ)) → weights Host (beginning identity pipes) ≤ 18 * (5 + length pipes)
 beginning_weighs identity pipes =
-    let i : Init = record { identity = identity; pipes = pipes; answered = 0 } in
-    let most = far_most 1 (3 ∷ []) in
-    omega (arith, length-map pipes (λ (pipe : List ℕ). 16 ∷ pipe), length-append (map (λ pipe. 16 ∷ pipe) pipes) ((1 ∷ 1 ∷ identity) ∷ []), most)
+    let h0 = length-map pipes (λ (pipe : List ℕ). 16 ∷ pipe) in let h1 = length-append (map (λ pipe. 16 ∷ pipe) pipes) ((1 ∷ 1 ∷ identity) ∷ []) in grind arith
 
 -- ## Time
 
@@ -506,7 +501,7 @@ pub event_paid : (w : NodeWorld) (c : Happening) → AllByRecursion IsCalm w.sit
     → IsPaid (commands_by c) w (world_step w c)
 event_paid w (Boots n) calm orderly few = boots_paid w n
 event_paid w (IsCut n) calm orderly few = let less = power_less n w in omega (arith, less)
-event_paid w (Gives e m) calm orderly few = begins_paid w e.link (sending e.link m) 18 (sending_weighs e.link m) calm orderly
+event_paid w (Gives e m) calm orderly few = begins_paid w e.link (sending e.link m) 18 (grind arith) calm orderly
 event_paid w (Inits e identity pipes) calm orderly few =
     begins_paid w e.link (beginning identity pipes) (18 * (5 + length pipes)) (beginning_weighs identity pipes) calm orderly
 event_paid w (Takes e) calm orderly few = comes_paid w e NextFrame calm orderly few

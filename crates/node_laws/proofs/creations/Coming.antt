@@ -84,17 +84,11 @@ older_asked p = by_option p.desk.notice (λ q. rw q refl) (λ n q. rw q refl)
 reset_asked : (p : Port) → asked_at (reset_late p) ≡ asked_at p
 reset_asked p = by_test (is_late p) (λ e. rw e refl) (λ e. rw e refl)
 
-come_asked : (p : Port) (o : Option LinkInput) → asked_at (has_come p o) ≡ asked_at p
-come_asked p o = grind arith
-
 -- where a notice is late its end was up until then
 late_is : (n : ℕ) (l : List Creation) (q : Port) (r s : Option (List ℕ)) → q.late ≡ false
     → (q.ended ≡ false → is_some q.desk.notice ≡ true → q.side.shdlc.phase ≡ Up) → IsShut q.side → IsCome n l r s (Some q)
     → IsCome n l r (cond (is_late q) (cond (is_some (ended_by q.side (Reset None))) None s) s) (Some (reset_late q))
 late_is n l q r s fresh up shut a = grind arith
-
-late_flag : (q : Port) → q.late ≡ false → (reset_late q).late ≡ true → (reset_late q).ended ≡ false
-late_flag q fresh = grind arith
 
 abbrev pub AreFlagged : List Port → Type 0
 AreFlagged ports = AllByRecursion (λ (p : Port). p.late ≡ true → p.ended ≡ false) ports
@@ -165,7 +159,7 @@ module _ (x : ℕ) (before : List Entry) (hosts : List ℕ) (asked : Asked) (n :
     come_hosts = hosts_map come (λ p. come_host p (input_at input p)) w.ports ∙ a.hosts_are
 
     come_asks : asked_of (map come w.ports) ≡ asked
-    come_asks = asked_map come (λ p. come_host p (input_at input p)) (λ p. come_asked p (input_at input p)) w.ports ∙ a.asked_are
+    come_asks = asked_map come (λ p. come_host p (input_at input p)) (λ p. grind arith) w.ports ∙ a.asked_are
 
     come_book : IsProperBook (book_in (before ++ (w.entries ++ noted)) 0)
     come_book =
@@ -248,7 +242,7 @@ module _ (x : ℕ) (before : List Entry) (hosts : List ℕ) (asked : Asked) (n :
 
     flags_last : (ports : List Port) → AllByRecursion IsFresh ports → AreFlagged (map reset_late (map with_older (map (come TimePasses tt) ports)))
     flags_last [] f = tt
-    flags_last (p ∷ ports) f = (late_flag (with_older (come TimePasses tt p)) f.0.1, flags_last ports f.1)
+    flags_last (p ∷ ports) f = ((grind arith), flags_last ports f.1)
 
     pub came_tick : HasCome (times_out TimePasses (all_come TimePasses w))
     came_tick = record {
@@ -294,10 +288,7 @@ without_due p a = by_test (is_over p) (λ e. rw e tt) (λ e. rw e a)
 
 owed_due : (test : Port → Bool) (ports : List Port) → AllAwaited ports → AllByRecursion IsAwaited (filter_map asked_at (filter test ports))
 owed_due test [] a = tt
-owed_due test (p ∷ ports) a = by_test (test p) refl (owed_due test ports a.1) where
-  by_test : (b : Bool) → test p ≡ b → AllByRecursion IsAwaited (filter_map asked_at (filter test ports))
-      → AllByRecursion IsAwaited (filter_map asked_at (filter test (p ∷ ports)))
-  by_test b e later = grind arith
+owed_due test (p ∷ ports) a = let h0 = owed_due test ports a.1 in grind arith
 
 -- ### What stays of an end
 
@@ -312,19 +303,7 @@ flags_left all (p ∷ ports) f = ((λ z. forgets_ended all p ∙ f.0 (sym (forge
 freed_are : (x : ℕ) (all ports : List Port) → owes x (filter (λ (c : Creation). is_over_at all c.asker) (filter_map asked_at ports))
     ≡ cond (is_over_at all x) (waits x (asked_of ports)) []
 freed_are x all [] = by_test (is_over_at all x) (λ q. rw q refl) (λ q. rw q refl)
-freed_are x all (p ∷ ports) = by_creation (asked_at p) refl (freed_are x all ports) where
-  l : List Creation
-  l = filter (λ (c : Creation). is_over_at all c.asker) (filter_map asked_at ports)
-
-  w : List Creation
-  w = waits x (asked_of ports)
-
-  Goal : Type 0
-  Goal = owes x (filter (λ (c : Creation). is_over_at all c.asker) (filter_map asked_at (p ∷ ports)))
-      ≡ cond (is_over_at all x) (waits x (asked_of (p ∷ ports))) []
-
-  by_creation : (o : Option Creation) → asked_at p ≡ o → owes x l ≡ cond (is_over_at all x) w [] → Goal
-  by_creation o q later = grind arith
+freed_are x all (p ∷ ports) = let h0 = asked_at p in let h1 = freed_are x all ports in grind arith
 
 module _ (x : ℕ) (before : List Entry) (hosts : List ℕ) where
   -- blocks are freed, one after another

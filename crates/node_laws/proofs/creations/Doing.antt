@@ -1,10 +1,10 @@
 -- A controller does the deeds of a message: the creation that a host asked for stays the one that is read.
 use Rattle.node_laws.proofs.Words.{AllByRecursion, AreProper, Asks, Book, Bool, Command, Commits, Controller, Core, Creation, Deed, Desk, Drops, Entry, Give}
 use Rattle.node_laws.proofs.Words.{IfAwaited, IsAnswered, IsAwaited, IsNoticeOf, IsProperBook, IsProperCommand, IsReadSo, LinkEnd, LinkInput, List, Message}
-use Rattle.node_laws.proofs.Words.{None, Noted, Option, PipeRow, Port, Refused, Release, Releases, Removed, SaysOk, Sends, SetAside, SetsErrors, Some, Tells}
+use Rattle.node_laws.proofs.Words.{None, Noted, Option, Port, Refused, Release, Releases, Removed, SaysOk, Sends, SetAside, SetsErrors, Some, Tells}
 use Rattle.node_laws.proofs.Words.{Turn, Up, Waits, Work, [], after_input, after_turn, agreed, all_done, and-false, answer_of, ap, append-nil, append_assoc}
 use Rattle.node_laws.proofs.Words.{ap₂, arith, asked_at, asking_after, asking_in, body_of, book_after, book_in, by_option, by_test, cases_Bool, changed_if}
-use Rattle.node_laws.proofs.Words.{commit, commit_writes, cond, count_of, creation_in, done, end_c, end_of, end_of_node, ended_by, ends_of, entries_for, eq-eqb}
+use Rattle.node_laws.proofs.Words.{commit, commit_writes, cond, count_of, creation_in, done, end_c, end_of, end_of_node, ended_by, entries_for, eq-eqb}
 use Rattle.node_laws.proofs.Words.{eqb, eqb-true, fails_within, false, flat_map, fold, fold-append, give_refusal, in_use, inl, inr, is_response, is_some}
 use Rattle.node_laws.proofs.Words.{length, map, nat_lt, noted_of, notified, noting, option_map, option_map_or, own_side, port_at, refl, report, same_end}
 use Rattle.node_laws.proofs.Words.{sent_unless, spare, subst, sym, told_at, true, true≢false, turn, turn_at, unless_cut, whole_acked, with_desk, with_port, ℕ}
@@ -99,13 +99,10 @@ IsPlainTurn SetAside = ⊥
 IsPlainTurn Release = ⊥
 IsPlainTurn _ = Unit {0}
 
-plain_aside : (e : LinkEnd) (t : Turn) → IsPlainTurn t → (turn e t).aside ≡ e.aside
-plain_aside e t is = grind arith
-
 plain_has : (n : ℕ) (l : List Creation) (e : LinkEnd) (t : Turn) → IsPlainTurn t → EndHas n l e → EndHas n l (turn e t)
 plain_has n l e t is a = record {
   within = turn_within e t a.within;
-  aside = plain_aside e t is ∙ a.aside;
+  aside = (grind arith) ∙ a.aside;
   up = λ some. turn-phase e t ∙ a.up some;
 }
 
@@ -383,11 +380,8 @@ module _ (x : ℕ) (before : List Entry) (hosts : List ℕ) where
         new = option_map_or (noted_of v.core (Give (1, answer))) (port_at v.ports c.asker) []
 
         took : give_refusal p.side (1, answer) ≡ None
-        took = takes_short p.side answer (z.up some) short (fewer (released_room (port_at w.ports x) refl a.end))
+        took = takes_short p.side answer (z.up some) short (omega (arith, (released_room (port_at w.ports x) refl a.end), z.aside))
           where
-            fewer : in_use p.side + 1 ≤ 128 → in_use p.side + p.side.aside ≤ 127
-            fewer r = omega (arith, r, z.aside)
-
             released_room : (o : Option Port) → port_at w.ports x ≡ o → EndAt n (waits x asked ++ owes x (c ∷ owed)) o → in_use p.side + 1 ≤ 128
             released_room None f y = absurd (some y.1)
             released_room (Some q) f y =
@@ -491,9 +485,6 @@ abbrev pub HasBlock : Option Port → Type 0
 HasBlock None = ⊥
 HasBlock (Some p) = (p.side.shdlc.phase ≡ Up) × (nat_lt 0 (spare p.side) ≡ true)
 
-is_answer : (row : PipeRow) → is_response (answer_of response.Ok (ends_of row)) ≡ true
-is_answer row = refl
-
 proper_due : (c : Creation) → IsAwaited c → IsProperCommand c.command
 proper_due c due = subst IsProperCommand (sym due.command) due.proper
 
@@ -577,7 +568,7 @@ module _ (x : ℕ) (before : List Entry) (hosts : List ℕ) where
       subst Fine (sym (on_is x before hosts (all_done k (Commits c.command ∷ rest)) v first.on))
       (then Fine new (c ∷ []) n (all_done k rest) (commit c.command v) (commits x before hosts new (c ∷ []) n c.command v (proper_due c due) first)
       (λ lost. inr lost)
-      (λ b. pays_then Fine k new [] c c.answer (SaysOk ∷ []) (commit c.command v) (subst (λ m. is_response m ≡ true) (sym due.answer) (is_answer due.row))
+      (λ b. pays_then Fine k new [] c c.answer (SaysOk ∷ []) (commit c.command v) (subst (λ m. is_response m ≡ true) (sym due.answer) (refl))
       (subst (λ (m : List ℕ). length m ≤ 32) (sym due.answer) (omega arith)) b (λ u d. says_ok k new u d)))
   agrees k asked c false w s due a =
       let v : Work = done k IsAnswered w in

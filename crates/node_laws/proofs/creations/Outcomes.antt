@@ -4,7 +4,7 @@ use Rattle.node_laws.proofs.Words.{Creation, Decision, Deed, Delete, Drops, Goes
 use Rattle.node_laws.proofs.Words.{IsProperCommand, IsReadSo, LinkView, List, Message, None, Notice, Ok, Option, PipeRow, Port, SaysOk, Sends, Set, SetOpened}
 use Rattle.node_laws.proofs.Words.{SetsErrors, Some, Sync, Tells, [], after_commands, agreed, all_append, all_false, answer_of, ap, append-nil, append_assoc}
 use Rattle.node_laws.proofs.Words.{apply, ap₂, arith, asked_at, asks_for, body_in, by_option, by_test, carried_out, cases_Bool, changed_if, closing}
-use Rattle.node_laws.proofs.Words.{commit_deeds, commits_and_tells, cond, cond_both, controller_deeds, controller_holds, creation_in, creations_at, decided}
+use Rattle.node_laws.proofs.Words.{commit_deeds, commits_and_tells, cond, cond_both, controller_deeds, controller_holds, creations_at, decided}
 use Rattle.node_laws.proofs.Words.{decided_holds, decision_deeds, dest_in, ends_of, eqb, eqb-true, false, far_end, far_end_of, filter, filter_map, finds_room}
 use Rattle.node_laws.proofs.Words.{first_of, forgets, gates, goes_through, has, has_link, has_notice, header_of, hosts_where, identity_served, inl, inr}
 use Rattle.node_laws.proofs.Words.{is_none, is_opened, is_over_at, is_response, is_some, length, length-append, link_deeds, link_served, ltb, map, new_book}
@@ -103,17 +103,14 @@ one_else x c e = rw e refl
 -- what a desk keeps and what is read of it
 pub desks_wait : (x : ℕ) (ports : List Port) → creations_at (map (λ (p : Port). p.desk) ports) x ≡ waits x (asked_of ports)
 desks_wait x [] = refl
-desks_wait x (p ∷ ports) = by_option (creation_in p.desk.notice)
-    (λ e. rw e (desks_wait x ports))
-    (λ c e. by_test (eqb c.asker x) (λ is. rw (e, is) (ap (λ l. c ∷ l) (desks_wait x ports))) (λ off. rw (e, off) (desks_wait x ports)))
+desks_wait x (p ∷ ports) = let h0 = desks_wait x ports in grind arith
 
 -- ### Ends
 
 pub asked_map : (f : Port → Port) → ((p : Port) → (f p).desk.host ≡ p.desk.host) → ((p : Port) → asked_at (f p) ≡ asked_at p) → (ports : List Port)
     → asked_of (map f ports) ≡ asked_of ports
 asked_map f host same [] = refl
-asked_map f host same (p ∷ ports) =
-    ap₂ (λ h o. (h, o) ∷ asked_of (map f ports)) (host p) (same p) ∙ ap (λ l. (p.desk.host, asked_at p) ∷ l) (asked_map f host same ports)
+asked_map f host same (p ∷ ports) = let h0 = asked_at p in let h1 = asked_map f host same ports in grind arith
 
 pub asked_with : (k : ℕ) (g : Port → Port) → ((p : Port) → (g p).desk.host ≡ p.desk.host) → ((p : Port) → asked_at (g p) ≡ asked_at p) → (ports : List Port)
     → asked_of (with_port k g ports) ≡ asked_of ports
@@ -505,9 +502,7 @@ module _ (x : ℕ) where
         IsAsking dest notice.items (record { asker = h; command = c; answer = answer.items }) refl ((grind arith))
 
     link_stays : (pipe : ℕ) (answer : List ℕ × Option ℕ) → (eqb pipe 1 ≡ true → asks_for ports h ≡ false) → All (link_deeds h pipe answer)
-    link_stays pipe answer free = by_option answer.1
-        (λ q. rw q ((one_sent pipe answer.0 free, tt)))
-        (λ errors q. rw q ((tt, (one_sent pipe answer.0 free, tt))))
+    link_stays pipe answer free = let h0 = one_sent pipe answer.0 free in grind arith
 
     -- ### A message
 

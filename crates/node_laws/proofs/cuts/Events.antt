@@ -141,9 +141,8 @@ now_node k w q (inr far) =
 now_loses : (k : ℕ) (w : NodeWorld) → IsThere w k → IsNowAt k (loses_power_at k w) (memory_at w k) None
 now_loses k w (inl z) = subst (λ j. IsNowAt j (loses_power_at j w) (memory_at w j) None) (sym z) (now_near 0 (controller_cut w) refl)
 now_loses k w (inr far) =
-    subst (λ v. IsNowAt k v (memory_at w k) None) (sym (loses_is w k far.0))
-    (subst (λ m. IsNowAt k (record w { sites = with_site k host_cut w.sites }) m None) (sym (memory_far w k far.1.0 far.0 far.1.1))
-    (now_far k w far.1.0 host_cut (λ x. refl) far.0 far.1.1))
+    let h0 = memory_at w k in let h1 = loses_is w k far.0 in let h2 = memory_far w k far.1.0 far.0 far.1.1 in
+    let h3 = now_far k w far.1.0 host_cut (λ x. refl) far.0 far.1.1 in grind arith
 
 -- ### What it keeps
 
@@ -209,10 +208,7 @@ module _ (n : ℕ) (t : List Entry) (r : Reckoning) (m : Memory) where
     now : count_of (found n links m.content).core.journal ≡ s.many
     now =
         counted m.content (state_of m.content) (started_state (state_of m.content)) (grind arith) refl
-        ∙ s.finds.keeps.count_is ∙ small s.many (length r.book.commands) (least r.lost s.many (length r.book.commands) s.which) few
-      where
-        small : (x l : ℕ) → x ≤ l → l ≤ 2 ^ 32 - 1 → min x (2 ^ 32 - 1) ≡ x
-        small x l a b = omega (arith, a, b)
+        ∙ s.finds.keeps.count_is ∙ (omega (arith, (least r.lost s.many (length r.book.commands) s.which), few))
 
   boot_run : (links : List ℕ) (k : ℕ) (node : Option Running) (q : Running) → Stands n t r m node
       → RunsSo n links (after_planned (boot_writes m.content) m).content (t ++ entry.Booted n k ∷ []) q

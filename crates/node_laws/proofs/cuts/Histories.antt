@@ -1,12 +1,12 @@
 -- What is known of each node at each event of a history, and how many writes its commands make.
 use Rattle.std.proofs.lemmas.Grind.{flat_map-append}
 use Rattle.node_laws.proofs.Words.{AllByRecursion, AllKeep, AreHosts, Arms, Book, Bool, Boots, Command, CutBehindCommand, EachIsAsRead, Entry, FindsBy}
-use Rattle.node_laws.proofs.Words.{FindsCommands, FindsExactly, FollowsNodes, Happening, HciTables, Header, IsAsRead, IsCut, IsCutAsPlanned, IsFew, IsNodeOf}
+use Rattle.node_laws.proofs.Words.{FindsCommands, FindsExactly, FollowsNodes, Happening, HciTables, Header, IsCut, IsCutAsPlanned, IsFew, IsNodeOf}
 use Rattle.node_laws.proofs.Words.{IsSentByHost, IsSome, Line, LineStep, List, MayHappen, Memory, NodeHistory, NodeWorld, None, Occurrence, Option, Reckoning}
 use Rattle.node_laws.proofs.Words.{Side, Site, Some, State, [], after_planned, ap, append-nil, append_assoc, arith, begun_by, body_of, book_in, boot_writes}
 use Rattle.node_laws.proofs.Words.{by_test, commands_in, commit_writes, cond, cond-false, cond-true, cond_both, current, entries_in, eqb, eqb-true, false}
 use Rattle.node_laws.proofs.Words.{flat_map, fold, fold-append, format_writes, fresh, happenings, inl, inr, is_open_beside, last_in, length, list_any}
-use Rattle.node_laws.proofs.Words.{list_any-append, map, memory_at, new_book, new_memory, new_site, new_world, node_entries, occurrences_in, occurrences_of}
+use Rattle.node_laws.proofs.Words.{list_any-append, map, new_book, new_memory, new_site, new_world, node_entries, occurrences_in, occurrences_of}
 use Rattle.node_laws.proofs.Words.{option_map_or, reckoned, reckoned_within, reckoning_in, reckoning_of, record_fits, refl, replicate, site_at, state_of, subst}
 use Rattle.node_laws.proofs.Words.{suc, sym, true, true≢false, with_event, world_behind, world_step, writes_of, ℕ, ◌++◌, ◌-◌, ◌^◌, ◌||◌, ◌∙◌, ◌∷◌, ◌≡◌, ◌≤◌}
 use Rattle.node_laws.specs.cuts.Histories.{AreCutAsPlanned, AreFoundExactly, BootsWriteSo, CommandsWriteSo, KeptExactly, MemoriesHold, StandsInMemories}
@@ -14,8 +14,8 @@ use Rattle.node_laws.specs.cuts.Histories.{boots_it}
 use Rattle.node_laws.proofs.cuts.Events.{GoesExactly, event_exact}
 use Rattle.node_laws.proofs.cuts.Standing.{Stands, book_then}
 use Rattle.node_laws.proofs.cuts.Ticking.{IsThere, StandsAt}
-use Rattle.node_laws.proofs.kept.Ticking.{MayAllHappen, all_begin, are_kept, line_may, world_goes}
-use Rattle.node_laws.proofs.telling.Lasting.{AllMay, AreCaused, lines_caused}
+use Rattle.node_laws.proofs.kept.Ticking.{all_begin, are_kept, line_may, world_goes}
+use Rattle.node_laws.proofs.telling.Lasting.{AreCaused, lines_caused}
 use Rattle.trace_model.specs.declared.entry.Entry.TheVariants as entry
 
 -- ## How many writes a command makes
@@ -74,9 +74,6 @@ entries-append xs ys = flat_map-append (λ (o : Occurrence). o.entries) xs ys
 or_false_left : (a b : Bool) → (a || (b || false)) ≡ false → a ≡ false
 or_false_left a b is = grind arith
 
-or_false_right : (a b : Bool) → (a || (b || false)) ≡ false → b ≡ false
-or_false_right a b is = grind arith
-
 abbrev pub blank : List ℕ
 blank = replicate 65536 255
 
@@ -88,13 +85,9 @@ pub record IsNew (r : Reckoning) : Type 0 where
 abbrev pub boots_in : ℕ → List Occurrence → Bool
 boots_in n events = list_any (λ (o : Occurrence). boots_it n o.cause) events
 
--- entries in which it doesn't boot leave it so
-new_one : (n : ℕ) (r : Reckoning) (e : Entry) → IsAsRead n r e → IsNew r → IsNew (reckoned n r e)
-new_one n r e as_read new = grind arith
-
 new_all : (n : ℕ) (r : Reckoning) (es : List Entry) → EachIsAsRead n r es → IsNew r → IsNew (fold (reckoned n) r es)
 new_all n r [] each new = new
-new_all n r (e ∷ es) each new = new_all n (reckoned n r e) es each.2 (new_one n r e each.1 new)
+new_all n r (e ∷ es) each new = new_all n (reckoned n r e) es each.2 (grind arith)
 
 new_event : (n : ℕ) (r : Reckoning) (c : Happening) (es : List Entry) → boots_it n c ≡ false → IsCutAsPlanned n r c es → IsNew r
     → IsNew (reckoned_within n c r es)
@@ -146,7 +139,7 @@ module _ (hosts : List ℕ) (are : AreHosts hosts) (n : ℕ) where
             let both : (boots_in n front || (boots_it n o.cause || false)) ≡ false =
             sym (list_any-append (λ (x : Occurrence). boots_it n x.cause) front (o ∷ [])) ∙ none in
             let first : boots_in n front ≡ false = or_false_left (boots_in n front) (boots_it n o.cause) both in
-            let last : boots_it n o.cause ≡ false = or_false_right (boots_in n front) (boots_it n o.cause) both in
+            let last : boots_it n o.cause ≡ false = grind arith in
             subst IsNew (sym read) (new_event n (reckoning_in front n) o.cause es last g.planned (k.new first));
         stands = grind arith;
       }
@@ -167,14 +160,7 @@ module _ (hosts : List ℕ) (are : AreHosts hosts) (n : ℕ) where
   event_is front w o events k =
       let g = goes front w o events k in (grind arith)
 
--- what an event begins with leaves the commands
-begun_book : (n : ℕ) (c : Happening) (r : Reckoning) → (begun_by n c r).book ≡ r.book
-begun_book n c r = grind arith
-
 -- ### Schedules
-
-may_all : (causes : List Happening) (w : NodeWorld) → MayAllHappen w causes → AllMay MayHappen w causes
-may_all causes w may = grind arith
 
 module _ (header : Header) (lines : List Line) (t : NodeHistory) (follows : FollowsNodes header lines t) (are : AreHosts header.hosts.items)
     (sides : AllByRecursion IsSentByHost lines) (few : IsFew (node_entries t)) where
@@ -188,7 +174,7 @@ module _ (header : Header) (lines : List Line) (t : NodeHistory) (follows : Foll
   caused =
       subst (λ steps. AreCaused MayHappen w0 (flat_map (λ (s : LineStep). occurrences_of s.outcome) steps)) (sym follows.steps_are)
       (lines_caused MayHappen IsSentByHost
-      (λ w l side none. may_all (happenings w l) w (line_may header.hosts.items are w l side none)) lines w0 sides)
+      (λ w l side none. (let h0 = (happenings w l) in let h1 = (line_may header.hosts.items are w l side none) in grind arith)) lines w0 sides)
 
   pub known : (n : ℕ) → IsNodeOf t.header.hosts.items n → (front back : List Occurrence) → occurrences_in t ≡ front ++ back
       → IsKnown header.hosts.items are n front (world_behind w0 front) back
@@ -221,7 +207,7 @@ module _ (header : Header) (lines : List Line) (t : NodeHistory) (follows : Foll
         ∙ sym (append_assoc (entries_in front) before (entry.Booted n many ∷ (behind ++ entries_in back)))
 
     book_is : (reckoned_within n o.cause (reckoning_in front n) before).book ≡ book_in seen n
-    book_is = book_then n (entries_in front) (begun_by n o.cause (reckoning_in front n)) before (begun_book n o.cause (reckoning_in front n) ∙ k.stands.book_is)
+    book_is = book_then n (entries_in front) (begun_by n o.cause (reckoning_in front n)) before ((grind arith) ∙ k.stands.book_is)
 
     of_entries : FindsBy (reckoned_within n o.cause (reckoning_in front n) before).lost many (length (commands_in seen n))
     of_entries = subst (λ (b : Book). FindsBy (reckoned_within n o.cause (reckoning_in front n) before).lost many (length b.commands)) book_is finds
@@ -241,8 +227,7 @@ module _ (header : Header) (lines : List Line) (t : NodeHistory) (follows : Foll
       (event_is header.hosts.items are n front (world_behind w0 front) o back (known n node front (o ∷ back) is)).0
 
   pub stands_in_memories : StandsInMemories t
-  stands_in_memories front back n node is =
-      ap (λ l. memory_at (world_behind (new_world l) front) n) hosts_are ∙ sym (known n node front back is).stands.memory_is
+  stands_in_memories front back n node is = let h0 = known n node front back is in grind arith
 
   -- what a boot writes, by whether a bank is in use
   writes_none : (content : List ℕ) → IsSome (current content) → boot_writes content ≡ []

@@ -49,10 +49,6 @@ use Rattle.trace_model.specs.declared.line.Line.TheVariants as line
 
 -- ## In a tick of the world the controller answers before its first turn exactly what is due
 
--- an end that is reset where its notice is late
-reset_ended : (p : Port) → (reset_late p).ended ≡ p.ended
-reset_ended p = by_test (is_late p) (λ z. rw z refl) (λ z. rw z refl)
-
 reset_flag : (p : Port) → p.late ≡ false → (reset_late p).late ≡ is_late p
 reset_flag p fresh = by_test (is_late p) (λ z. rw z refl) (λ z. rw z fresh)
 
@@ -211,7 +207,7 @@ module _ (hosts : List ℕ) (are : AreHosts hosts) (past : List Occurrence) (w :
         ∙ (ap₂ (λ a b. a || b) (reset_is w before.orderly t before.notices k u.site u.there r runs)
         (other_end_is w before.orderly t before.notices k u.site u.there r runs)
         ∙ (swap (is_late z) z.ended
-        ∙ (ap₂ (λ a b. a || b) (sym (reset_ended z)) (sym (reset_flag z refl)) ∙ ap is_over (sym u.same)))))
+        ∙ (ap₂ (λ a b. a || b) (sym (by_test (is_late z) (λ z. rw z refl) (λ z. rw z refl))) (sym (reset_flag z refl)) ∙ ap is_over (sym u.same)))))
       where
         swap : (a b : Bool) → (a || b) ≡ (b || a)
         swap true true = refl

@@ -2,7 +2,7 @@
 use Rattle.node_laws.proofs.Words.{AllByRecursion, AreDifferent, AreHosts, AreTaken, AtEnd, Bool, Commits, CountsCommands, Creation, Deed, End, EndedBy, Entry}
 use Rattle.node_laws.proofs.Words.{Give, HciTables, IsFresh, IsOutside, LinkInput, LinkState, List, Message, NodeInput, None, Option, Port, Release, Releases}
 use Rattle.node_laws.proofs.Words.{Response, Sends, Some, State, TakesMessage, Tick, TimePasses, Up, Work, [], after_sessions, after_turn, all_append, all_done}
-use Rattle.node_laws.proofs.Words.{all_owed, all_synced_hold, answer_of, ap, append-nil, append_assoc, ap₂, arith, asked_at, asking_in, by_test, cond}
+use Rattle.node_laws.proofs.Words.{all_owed, all_synced_hold, answer_of, ap, append-nil, append_assoc, arith, asked_at, asking_in, by_test, cond}
 use Rattle.node_laws.proofs.Words.{creation_read, done, end_c, end_of_number, ends_session, entries_of_reply, eq-eqb, eqb, eqb-true, false, filter, filter_map}
 use Rattle.node_laws.proofs.Words.{flat_map, fold-append, forgets, forgotten, forgotten_hold, has_come, has_come_so, has_freed, has_synced, hosts_of_ends}
 use Rattle.node_laws.proofs.Words.{in_use, input_at, is_down, is_over, is_over_at, is_up, length, length-append, map, option_map_or, owed, owed_in_step}
@@ -11,7 +11,7 @@ use Rattle.node_laws.proofs.Words.{with_older, without_notice, ℕ, ◌&&◌, �
 use Rattle.node_laws.proofs.creations.Outcomes.{Asked, asked_of, owes, waits}
 use Rattle.node_laws.proofs.creations.Coming.{ComeAt, HasCome, all_kept, answer_response, begins, came_near, came_tick, forgets_ended, frees, keeps_all}
 use Rattle.node_laws.proofs.creations.Coming.{over_at, shared}
-use Rattle.node_laws.proofs.creations.Doing.{EndAt, Good, IsOff, IsOn, at_here, many, on_is, pays, takes_short}
+use Rattle.node_laws.proofs.creations.Doing.{EndAt, Good, IsOn, at_here, many, on_is, pays, takes_short}
 use Rattle.node_laws.proofs.links.Noticing.{at_host}
 use Rattle.node_laws.proofs.passes.Replying.{commit_sessions, session_in, session_map, turn_sessions}
 use Rattle.node_laws.proofs.read_steps.Knowing.{to_creations, to_notices}
@@ -45,32 +45,15 @@ downs_are (x ∷ es) = by_test (is_down x)
     (λ q. subst (λ b. AreDowns (cond b (x ∷ filter is_down es) (filter is_down es))) (sym q) (downs_are es))
 
 module _ (test : EndedBy → Bool) (e : End) where
-  no_end : (x : Entry) → is_down x ≡ false → ends_session test e x ≡ false
-  no_end x q = grind arith
-
   pub downs_end : (es : List Entry) → ends_in_list test e (filter is_down es) ≡ ends_in_list test e es
   downs_end [] = refl
-  downs_end (x ∷ es) = by_test (is_down x)
-      (λ q. ap (λ b. ends_in_list test e (cond b (x ∷ filter is_down es) (filter is_down es))) q ∙ ap (λ b. ends_session test e x || b) (downs_end es))
-      (λ q. ap (λ b. ends_in_list test e (cond b (x ∷ filter is_down es) (filter is_down es))) q
-      ∙ (downs_end es ∙ ap (λ b. b || ends_in_list test e es) (sym (no_end x q))))
+  downs_end (x ∷ es) = let h0 = is_down x in let h1 = downs_end es in grind arith
 
 -- two causes together
 pub either_ends : (one other : EndedBy → Bool) → ((cause : EndedBy) → (one cause || other cause) ≡ true) → (e : End) → (es : List Entry)
     → ends_in_list any_cause e es ≡ (ends_in_list one e es || ends_in_list other e es)
 either_ends one other all e [] = refl
-either_ends one other all e (x ∷ es) =
-    ap (λ b. ends_session any_cause e x || b) (either_ends one other all e es)
-    ∙ (grind arith)
-  where
-    spread : (a b c : Bool) → (b || c) ≡ true → (a && true) ≡ ((a && b) || (a && c))
-    spread a b c q = grind arith
-
-    at : (x : Entry) → ends_session any_cause e x ≡ (ends_session one e x || ends_session other e x)
-    at x = grind arith
-
-    swap : (a b c d : Bool) → ((a || b) || (c || d)) ≡ ((a || c) || (b || d))
-    swap a b c d = grind arith
+either_ends one other all e (x ∷ es) = let h0 = either_ends one other all e es in grind arith
 
 -- ### What is read behind them
 
@@ -89,12 +72,7 @@ module _ (x : ℕ) where
       (one : (t : List Entry) (y : Entry) → is_down y ≡ true → read (t ++ y ∷ []) ≡ cond (ends_session any_cause (end_c x) y) None (read t)) where
     behind : (ds t : List Entry) → AreDowns ds → read (t ++ ds) ≡ cond (ends_at x ds) None (read t)
     behind [] t a = ap read (append-nil t)
-    behind (y ∷ ds) t a =
-        ap read (sym (append_assoc t (y ∷ []) ds))
-        ∙ (behind ds (t ++ y ∷ []) a.1
-        ∙ (ap (cond (ends_at x ds) None) (one t y a.0) ∙ by (ends_session any_cause (end_c x) y) (ends_at x ds))) where
-          by : (b c : Bool) → cond c None (cond b None (read t)) ≡ cond (b || c) None (read t)
-          by b c = grind arith
+    behind (y ∷ ds) t a = let h0 = append_assoc t (y ∷ []) ds in let h1 = behind ds (t ++ y ∷ []) a.1 in grind arith
 
   pub session_behind : (t ds : List Entry) → AreDowns ds → session_now (t ++ ds) (end_c x) 0 ≡ cond (ends_at x ds) None (session_now t (end_c x) 0)
   session_behind t ds a = behind (λ l. session_now l (end_c x) 0) down_session ds t a
@@ -200,14 +178,7 @@ module _ (sessions : ℕ → Option ℕ) where
       → AreReplyEntries (entries_of_reply 0 sessions 0 count deeds) × (commands_told (entries_of_reply 0 sessions 0 count deeds) ≡ 0)
   owed_entries count [] a = (tt, refl)
   owed_entries count (Releases asker ∷ deeds) a = owed_entries count deeds a.1
-  owed_entries count (Sends to m ∷ deeds) a = go (sessions to) (owed_entries count deeds a.1) where
-    es : List Entry
-    es = entries_of_reply 0 sessions 0 count deeds
-
-    go : (o : Option ℕ) → AreReplyEntries es × (commands_told es ≡ 0)
-        → AreReplyEntries (option_map_or (λ n. entry.Sent (end_of_number 0 to) n m.0 m.1 ∷ []) o [] ++ es)
-        × (commands_told (option_map_or (λ n. entry.Sent (end_of_number 0 to) n m.0 m.1 ∷ []) o [] ++ es) ≡ 0)
-    go o later = grind arith
+  owed_entries count (Sends to m ∷ deeds) a = let h0 = owed_entries count deeds a.1 in grind arith
   owed_entries count (_ ∷ deeds) a = absurd a.0
 
 -- its message goes out in the session that is read
@@ -220,9 +191,7 @@ pub owed_same : (s t : ℕ → Option ℕ) (j k : ℕ) (deeds : List Deed) → A
     → entries_of_reply 0 s 0 j deeds ≡ entries_of_reply 0 t 0 k deeds
 owed_same s t j k [] a = refl
 owed_same s t j k (Releases asker ∷ deeds) a = owed_same s t j k deeds a.1
-owed_same s t j k (Sends to m ∷ deeds) a =
-    ap₂ (λ o es. option_map_or (λ n. entry.Sent (end_of_number 0 to) n m.0 m.1 ∷ []) o [] ++ es) a.0
-    (owed_same s t j k deeds a.1)
+owed_same s t j k (Sends to m ∷ deeds) a = let h0 = end_of_number 0 to in let h1 = owed_same s t j k deeds a.1 in grind arith
 owed_same s t j k (_ ∷ deeds) a = absurd a.0
 
 -- what holds of the two deeds for each creation whose host has lost its session holds of all that is owed
@@ -233,23 +202,14 @@ module _ (Q : Deed → Type 0) where
   some_owed : (r : Response) (test : Port → Bool) → ((p : Port) → test p ≡ true → (p.ended || p.late) ≡ true) → (ports : List Port)
       → AllByRecursion IfOwed ports → AllByRecursion Q (flat_map (λ p. owed r (asked_at p)) (filter test ports))
   some_owed r test over [] a = tt
-  some_owed r test over (p ∷ ports) a = by_test (test p)
-      (λ z. subst (λ b. AllByRecursion Q (flat_map (λ p. owed r (asked_at p)) (cond b (p ∷ filter test ports) (filter test ports)))) (sym z)
-      (all_append Q (owed r (asked_at p)) (flat_map (λ p. owed r (asked_at p)) (filter test ports)) (of (asked_at p) refl z) (some_owed r test over ports a.1)))
-      (λ z. subst (λ b. AllByRecursion Q (flat_map (λ p. owed r (asked_at p)) (cond b (p ∷ filter test ports) (filter test ports)))) (sym z)
-      (some_owed r test over ports a.1)) where
-        of : (o : Option Creation) → asked_at p ≡ o → test p ≡ true → AllByRecursion Q (owed r o)
-        of o q z = grind arith
+  some_owed r test over (p ∷ ports) a = let h0 = owed r (asked_at p) in let h1 = some_owed r test over ports a.1 in grind arith
 
   owed_all : (ports : List Port) → AllByRecursion IfOwed ports → AllByRecursion Q (all_owed ports)
   owed_all ports a =
       all_append Q (flat_map (λ p. owed response.NotConnected (asked_at p)) (filter (λ p. p.ended) ports))
       (flat_map (λ p. owed response.Timeout (asked_at p)) (filter (λ p. p.late) ports))
       (some_owed response.NotConnected (λ p. p.ended) (λ p z. ap (λ b. b || p.late) z) ports a)
-      (some_owed response.Timeout (λ p. p.late) (λ p z. second p.ended p.late z) ports a)
-    where
-      second : (a b : Bool) → b ≡ true → (a || b) ≡ true
-      second a b z = grind arith
+      (some_owed response.Timeout (λ p. p.late) (λ p z. grind arith) ports a)
 
 -- ## A step of a controller: as its pass begins each answer that it owes is taken, and goes out in the session that its asker had as the step began
 
@@ -365,11 +325,7 @@ module _ (hosts : List ℕ) (are : AreHosts hosts) (t : List Entry) (input : Nod
 
   synced_good : (has_synced input w).cut ≡ false → AllGood hosts t now owing (has_synced input w)
   synced_good on x =
-      by (keeps_all x t hosts now owing (syncs_in input w) (has_freed input w) (all_kept x t hosts w.core input w.ports) (freed_good x))
-    where
-      by : Good x t hosts now owing (has_synced input w) ⊎ IsOff x t hosts (has_synced input w)
-          → Good x t hosts now owing (has_synced input w)
-      by a = grind arith
+      (let h0 = (keeps_all x t hosts now owing (syncs_in input w) (has_freed input w) (all_kept x t hosts w.core input w.ports) (freed_good x)) in grind arith)
 
   pub owed_goes : (has_synced input w).cut ≡ false → Goes hosts t (owed_in_step input w) (has_synced input w)
   owed_goes on =

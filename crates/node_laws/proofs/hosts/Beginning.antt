@@ -1,7 +1,7 @@
 -- What a host keeps between its steps is what is read, and so a step of it begins.
 use Rattle.node_laws.proofs.Words.{Activates, AllByRecursion, AllKeep, AreDifferent, AreHosts, AreNoTurns, AreNotOf, ArePortsRead, Arms, AsksReset, AtEnd, Book}
 use Rattle.node_laws.proofs.Words.{Bool, Boots, Comes, Deed, End, Entry, FollowsNodes, Gives, Happening, HasEnds, Header, HoldsInStep, Host, IfHostRuns, IfRuns}
-use Rattle.node_laws.proofs.Words.{Init, Inits, IsCut, IsFew, IsFresh, IsHost, IsOf, IsOutside, IsPlain, IsSentByHost, IsSilent, Journal, Last, LeavesInit}
+use Rattle.node_laws.proofs.Words.{Init, Inits, IsCut, IsFew, IsFresh, IsHost, IsOf, IsOutside, IsPlain, IsSentByHost, IsSilent, Last, LeavesInit}
 use Rattle.node_laws.proofs.Words.{Line, Link, LinkEnd, LinkInput, LinkState, List, Loses, Loss, Memory, Message, NextFrame, NoInput, NodeHistory, NodeInput}
 use Rattle.node_laws.proofs.Words.{NodeWorld, None, NumberedEnd, Occurrence, Option, Orders, Plan, Port, Resets, Running, RunsSo, Sends, Site, SiteKeeps}
 use Rattle.node_laws.proofs.Words.{SiteKeepsInit, SiteReads, Some, Starts, Takes, Ticks, TimePasses, Work, [], after_host, after_planned, aged, all_aged, ap}
@@ -11,7 +11,7 @@ use Rattle.node_laws.proofs.Words.{by_running, by_test, changed_if, comes_at, co
 use Rattle.node_laws.proofs.Words.{end_c, end_h, entries_for, entries_in, eq-eqb, eqb, eqb-true, exchanged, false, fold, frame_lost, frames_noted, fresh}
 use Rattle.node_laws.proofs.Words.{has_come, holds_in, host_cut, host_does, host_tick, host_ticks, host_work, hosts_in, hosts_of_ends, hosts_tick, input_at}
 use Rattle.node_laws.proofs.Words.{inr, is_command_message, is_of_node, last_after, last_in, loses_power_at, map, memory_at, near_end_in, near_tick, new_world}
-use Rattle.node_laws.proofs.Words.{no_errors, no_journal, node_entries, occurrences_in, option_map_or, order_of, own_side, port_at, refl, replicate, sending}
+use Rattle.node_laws.proofs.Words.{no_errors, node_entries, occurrences_in, option_map_or, order_of, own_side, port_at, refl, sending}
 use Rattle.node_laws.proofs.Words.{site_at, site_ticked, site_unticked, steps, subst, sym, true, true≢false, waiting_at, wires_for, with_site, work_of}
 use Rattle.node_laws.proofs.Words.{world_behind, world_step, world_ticks, ℕ, ◌&&◌, ◌++◌, ◌+◌, ◌∙◌, ◌∷◌, ◌≡◌, ◌≤◌}
 use Rattle.node_laws.specs.reply_passes.Counts.{commands_noted as commits}
@@ -303,10 +303,7 @@ module _ (hosts : List ℕ) (are : AreHosts hosts) where
 
 new_grown : (hosts : List ℕ) → AreGrown [] (new_world hosts).sites
 new_grown [] = tt
-new_grown (h ∷ hosts) = (
-  (let a = ap (λ (j : Journal). j.head.generation) (no_journal (replicate 65536 255) (fresh 65536 (omega arith)).closed) in omega (arith, a)),
-  new_grown hosts,
-)
+new_grown (h ∷ hosts) = let h0 = fresh 65536 (omega arith) in let h1 = new_grown hosts in grind arith
 
 -- behind any first events of a history
 pub history_sites : (header : Header) (lines : List Line) (t : NodeHistory) → FollowsNodes header lines t → AreHosts header.hosts.items
@@ -407,9 +404,6 @@ pub record OpensQuietly (n : ℕ) (es : List Entry) : Type 0 where
 
 pub blank_opens : (n : ℕ) → OpensQuietly n []
 blank_opens n = record { order = λ c. refl; init = λ y. refl; errors = tt; plain = tt; queue = tt; turns = tt; boots = tt; own = tt; uncut = tt }
-
-pub arrival_opens : (n : ℕ) (l : Link) (comes : Comes) → OpensQuietly n (entries_for n (arrival Host l comes))
-arrival_opens n l comes = grind arith
 
 module _ (u : List Entry) (i : Option Init) (s : Site) (a : HostStands u i s) (r : Running) (q : s.node ≡ Some r) (near_end : NumberedEnd)
     (side : near_end.side ≡ s.link.host.side) (es : List Entry) (opens : OpensQuietly s.host es) (input : NodeInput) (outside : IsOutside input) where

@@ -15,7 +15,7 @@ use Rattle.link_laws.specs.entries.Entries.{End as Side}
 use Rattle.node_laws.specs.passes.Passing.ComesTo.{Begins}
 use Rattle.node_laws.specs.reply_passes.Counts.{commands_noted as commits}
 use Rattle.node_laws.proofs.hosts.Passes.{AreUnanswered, BeginsSo, IsMomentOf, pass_replies}
-use Rattle.node_laws.proofs.hosts.Beginning.{HostStands, OpensQuietly, arrival_opens, begins_so, blank_opens, init_stays, others_act, power, steps_boot}
+use Rattle.node_laws.proofs.hosts.Beginning.{HostStands, OpensQuietly, begins_so, blank_opens, init_stays, others_act, power, steps_boot}
 use Rattle.node_laws.proofs.kept.Events.{none_found}
 use Rattle.node_laws.proofs.links.Sites.{here_host}
 use Rattle.node_laws.proofs.order.Events.{WasThere, was_there}
@@ -64,8 +64,7 @@ module _ (n : ℕ) where
 
   stands_in : (k : ℕ) (a b c front : List Entry) (x : Entry) (behind : List Entry) → NoneAt a → NoneAt c → turn_link n x ≡ Some k
       → a ++ (b ++ c) ≡ front ++ (x ∷ behind) → StandsInOfLifting a b c front x behind
-  stands_in k [] [] c front x behind none after turn is =
-      let no : None ≡ Some k = sym (is_none front x behind (subst NoneAt is after)) ∙ turn in absurd (cc no)
+  stands_in k [] [] c front x behind none after turn is = let h0 = is_none front x behind (subst NoneAt is after) in grind arith
   stands_in k [] (y ∷ b) c [] x behind none after turn is =
       let same : y ≡ x = cc in
       let tail : b ++ c ≡ behind = cc in
@@ -426,7 +425,7 @@ module _ (hosts : List ℕ) (past : List Occurrence) (w : NodeWorld) (so : IsSo 
           let at : s.host ≡ n = site_host v.sites n s found in
           let came : input_of (exchanged s.link) comes ≡ Some i = ap (λ l. input_of (exchanged l) comes) (sym (link_is v.sites n s found)) ∙ seen in
           let es : List Entry = entries_for s.host (arrival Host (exchanged s.link) comes) in
-          let opens : OpensQuietly n es = subst (λ k. OpensQuietly k es) at (arrival_opens s.host (exchanged s.link) comes) in
+          let opens : OpensQuietly n es = subst (λ k. OpensQuietly k es) at (grind arith) in
           let frames : List Entry = frames_noted Host n (wires_for (exchanged s.link) comes) (steps (AtEnd n i) (host_begins_step s r comes)) in
           inr (own_at s at cause i0 plain (all s found) lead frames r q (near_end_in (exchanged s.link) comes) (near_end_side (exchanged s.link) comes) es opens
           (AtEnd n i) (comes_outside (exchanged s.link) comes i came) not leaves
@@ -698,11 +697,7 @@ module _ (hosts : List ℕ) (past : List Occurrence) (w : NodeWorld) (so : IsSo 
     event_parted (Inits e identity pipes) few =
         turnless_so (Inits e identity pipes) (world_step w (Inits e identity pipes)).1 refl
         (begun_turnless w e.link (beginning identity pipes) (beginning_turnless identity pipes))
-    event_parted (Takes e) few = coming_so e NextFrame (Takes e) refl (λ q. q) (λ same none. (same, empty e same (link_to w.sites n).to_host refl none)) few
-      where
-        empty : (e : End) → e ≡ end_h n → (xs : List OnWire) → (link_to w.sites n).to_host ≡ xs
-            → input_of (exchanged (link_to w.sites n)) NextFrame ≡ None → frames_at w e ≡ []
-        empty e same xs q none = grind arith
+    event_parted (Takes e) few = coming_so e NextFrame (Takes e) refl (λ q. q) (λ same none. (same, grind arith)) few
     event_parted (Loses e why) few = turnless_so (Loses e why) (frame_lost w e why).1 refl (lost_turnless w e why)
     event_parted Ticks few = ticking_so few
     event_parted (Resets e window) few = coming_so e (AsksReset window) (Resets e window) refl (λ q. q) (λ same none. absurd (cc none)) few

@@ -13,7 +13,6 @@ use Rattle.node_laws.proofs.Words.{node_of, not, noted_by_deeds, noted_of_deeds,
 use Rattle.node_laws.proofs.Words.{own_read, own_side, own_view, passes, port_at, prefix_len, refl, reply, sent_in_session, session_now, session_of_port, spare}
 use Rattle.node_laws.proofs.Words.{spare_at, spare_read, spare_with, subst, sym, tables_in, take, takes_up, to_command, true, true≢false, unhandled_in, until}
 use Rattle.node_laws.proofs.Words.{waiting_at, ℕ, ◌++◌, ◌+◌, ◌-◌, ◌^◌, ◌||◌, ◌∙◌, ◌∷◌, ◌≡◌, ◌≤◌, ◌⊎◌}
-use Rattle.node_laws.specs.answers.Moments.{is_linked}
 use Rattle.node_laws.specs.passes.Passing.ComesTo.{Begins}
 use Rattle.node_laws.specs.reply_passes.Counts.{commands_noted as commits}
 use Rattle.node_laws.proofs.hosts.Knowing.{HasNone, HaveNone, HostKnows, comes_none, knows_lasts, own_end}
@@ -198,15 +197,12 @@ module _ (n : ℕ) where
   -- each end gets one message at most
   once_given : (may : Bool) (deeds : List Deed) → GivesOnce n may deeds → GiveOnce n (cond may [] (n ∷ [])) deeds
   once_given may [] o = tt
-  once_given may (Sends to m ∷ deeds) o =
-      subst (λ b. GiveOnce n (cond b [] (n ∷ [])) (Sends to m ∷ deeds)) (sym o.0)
-      (tt, subst (λ k. GiveOnce n (k ∷ []) deeds) (sym o.1) (once_given false deeds o.2))
+  once_given may (Sends to m ∷ deeds) o = let h0 = once_given false deeds o.2 in grind arith
   once_given may (Asks to message c ∷ deeds) o = absurd o
   once_given may (Releases asker ∷ deeds) o = absurd o
   once_given may (Tells to message ∷ deeds) o = absurd o
   once_given may (IsAnswered ∷ deeds) o = absurd o
-  once_given may (Orders message ∷ deeds) o =
-      subst (λ b. GiveOnce n (cond b [] (n ∷ [])) (Orders message ∷ deeds)) (sym o.0) (tt, once_given false deeds o.1)
+  once_given may (Orders message ∷ deeds) o = let h0 = once_given false deeds o.1 in grind arith
   once_given may (Ends e ∷ deeds) o = once_given may deeds o.1
   once_given may (_ ∷ deeds) o = once_given may deeds o
 
@@ -218,20 +214,15 @@ module _ (n : ℕ) where
     AreAnswers es = AllByRecursion (λ x. is_answer_of n x ≡ true) es
 
     module _ (sessions : ℕ → Option ℕ) where
-      sent_answers : (to : ℕ) (m : Message) (es : List Entry) → to ≡ n → AreAnswers es → AreAnswers (sent_in_session n sessions to m ++ es)
-      sent_answers to m es is all = by_option (sessions to) (λ q. rw q all) (λ k q. rw q (own_number to is, all))
-
       -- all that they note is answers of the host
       reply_answers : (count : ℕ) (may : Bool) (deeds : List Deed) → GivesOnce n may deeds → AreAnswers (entries_of_reply n sessions n count deeds)
       reply_answers count may [] o = tt
       reply_answers count may (Commits c ∷ deeds) o = (eq-eqb n n refl, reply_answers (next_count count) may deeds o)
-      reply_answers count may (Sends to m ∷ deeds) o =
-          sent_answers to m (entries_of_reply n sessions n count deeds) o.1 (reply_answers count false deeds o.2)
+      reply_answers count may (Sends to m ∷ deeds) o = let h0 = reply_answers count false deeds o.2 in grind arith
       reply_answers count may (SaysOk ∷ deeds) o = (eq-eqb n n refl, reply_answers count may deeds o)
       reply_answers count may (Drops pid ∷ deeds) o = (own_number n refl, reply_answers count may deeds o)
       reply_answers count may (SetsErrors errors ∷ deeds) o = reply_answers count may deeds o
-      reply_answers count may (Orders message ∷ deeds) o =
-          sent_answers n (1, message) (entries_of_reply n sessions n count deeds) refl (reply_answers count false deeds o.1)
+      reply_answers count may (Orders message ∷ deeds) o = let h0 = reply_answers count false deeds o.1 in grind arith
       reply_answers count may (Hears ∷ deeds) o = reply_answers count may deeds o
       reply_answers count may (GoesOn i ∷ deeds) o = reply_answers count may deeds o
       reply_answers count may (Ends e ∷ deeds) o = (o.0, reply_answers count may deeds o.1)
@@ -276,27 +267,19 @@ module _ (n : ℕ) (sessions : ℕ → Option ℕ) (h : ℕ) where
   reply_few count (Some s) command init (Commits c ∷ deeds) may =
       let later = reply_few (next_count count) None command init deeds may.1 in omega (arith, later)
   reply_few count journal command init (Sends to m ∷ deeds) may =
-      below (sent_in_session n sessions to m ++ entries_of_reply n sessions h count deeds) (entries_of_reply n sessions h count deeds) (most_of journal)
-      (sent_none to m (entries_of_reply n sessions h count deeds))
-      (reply_few count journal command init deeds may)
+      let h0 = most_of journal in let h1 = reply_few count journal command init deeds may in grind arith
   reply_few count None command init (Asks to message c ∷ deeds) may = absurd may.0
   reply_few count (Some s) command init (Asks to message c ∷ deeds) may =
       let later = reply_few count None command init deeds may.1 in
       let one = sent_none to (1, message) (entries_of_reply n sessions h count deeds) in omega (arith, later, one)
   reply_few count journal command init (Tells to message ∷ deeds) may =
-      below (sent_in_session n sessions to (1, message) ++ entries_of_reply n sessions h count deeds) (entries_of_reply n sessions h count deeds)
-      (most_of journal) (sent_none to (1, message) (entries_of_reply n sessions h count deeds))
-      (reply_few count journal command init deeds may)
+      let h0 = most_of journal in let h1 = reply_few count journal command init deeds may in grind arith
   reply_few count journal command init (Orders message ∷ deeds) may =
-      below (sent_in_session n sessions h (1, message) ++ entries_of_reply n sessions h count deeds) (entries_of_reply n sessions h count deeds)
-      (most_of journal) (sent_none h (1, message) (entries_of_reply n sessions h count deeds))
-      (reply_few count journal (Some message) init deeds may)
+      let h0 = most_of journal in let h1 = reply_few count journal (Some message) init deeds may in grind arith
   reply_few count journal command init (Hears ∷ deeds) may = reply_few count journal None init deeds may
   reply_few count journal command init (GoesOn i ∷ deeds) may = reply_few count journal command (Some i) deeds may
   reply_few count journal command init (Ends e ∷ deeds) may =
-      below (e ∷ entries_of_reply n sessions h count deeds) (entries_of_reply n sessions h count deeds) (most_of journal)
-      (plain_none e (entries_of_reply n sessions h count deeds) may.0)
-      (reply_few count journal command None deeds may.1)
+      let h0 = most_of journal in let h1 = reply_few count journal command None deeds may.1 in grind arith
   reply_few count journal command init (_ ∷ deeds) may = reply_few count journal command init deeds may
 
 -- ## At its turn a message gets from a host the reply that is read, and lacks what is read
@@ -304,10 +287,6 @@ module _ (n : ℕ) (sessions : ℕ → Option ℕ) (h : ℕ) where
 -- REC_ERROR of a host's end, and what is read of the controller beside, behind these entries
 abbrev pub errors_behind : ℕ → List Entry → ErrorCount
 errors_behind n u = reads (end_h n) u no_errors
-
--- a host has one link, its own
-pub linked_far : (hosts : List ℕ) (n : ℕ) → eqb n 0 ≡ false → (j : ℕ) → is_linked hosts n j ≡ eqb n j
-linked_far hosts n off j = ap (λ b. is_one_of (cond b hosts (n ∷ [])) j) off ∙ or-false (eqb n j)
 
 -- the reply of a host, by what is read of it and of its end
 pub far_reply : (hosts : List ℕ) (n : ℕ) → eqb n 0 ≡ false → (m : Moment) (message : Message)
@@ -392,7 +371,7 @@ module _ (hosts : List ℕ) (n : ℕ) (host : IsHost n) (u : List Entry) (i0 : O
 
       spares_alike : (j : ℕ) → spare_read hosts (until m) n j ≡ spare_with (its_port ∷ []) j
       spares_alike j =
-          ap (λ b. cond b (spare_at (until m) (end_of_number n j)) 0) (linked_far hosts n zero j)
+          ap (λ b. cond b (spare_at (until m) (end_of_number n j)) 0) (ap (λ b. is_one_of (cond b hosts (n ∷ [])) j) zero ∙ or-false (eqb n j))
           ∙ (by (cases_Bool (eqb n j))
           ∙ ap (λ h. option_map_or (λ (p : Port). spare p.side) (cond (eqb h j) (Some its_port) None) 0) (sym k.inits.base.at)) where
             there : Bool → ℕ

@@ -3,7 +3,7 @@ use Rattle.std.proofs.Math.Seq.{take-append_seam, take-length}
 use Rattle.node_laws.proofs.Words.{About, AllByRecursion, AreTables, AreTables-apply, AreToldBehind, Asks, Book, Bool, BootFinds, Command, CommandLast, Commits}
 use Rattle.node_laws.proofs.Words.{Core, Creation, Cut, CutBehindCommand, Deed, Desk, Drops, Ends, Entry, FetchMessage, FindsRoom, Give, GoesOn, HciTables}
 use Rattle.node_laws.proofs.Words.{Hears, Init, IsAllowedBy, IsAllowedFor, IsAllowedStill, IsAnswered, IsCommand, IsOf, IsOnOrder, IsPlain, IsRecordable}
-use Rattle.node_laws.proofs.Words.{IsSome, IsTold, Knows, Last, List, MakeOf, MayBeDone, MayWait, Memory, None, Noted, NothingYet, Option, Orders, Port}
+use Rattle.node_laws.proofs.Words.{IsSome, Knows, Last, List, MakeOf, MayBeDone, MayWait, Memory, None, Noted, NothingYet, Option, Orders, Port}
 use Rattle.node_laws.proofs.Words.{Reckoning, Release, Releases, Removed, SaysOk, Sends, SetAside, SetsErrors, Some, State, StillRuns, Tells, Turn, Waits}
 use Rattle.node_laws.proofs.Words.{WaitsAt, WaitsFor, Work, WouldFind, Write, [], after_commands, after_planned, after_turn, all_append, all_done, all_so, ap}
 use Rattle.node_laws.proofs.Words.{append-nil, append_assoc, apply, ap₂, arith, asked_at, body_of, book_after, book_in, by_test, cases_Bool, changed_if, close}
@@ -28,25 +28,13 @@ last_more t es n = fold-append (last_after n) NothingYet t es
 
 -- ### Plain entries
 
-plain_one : (n : ℕ) (b : Book) (e : Entry) → IsPlain e → book_after n b e ≡ b
-plain_one n b e is = grind arith
-
-plain_last_one : (n : ℕ) (l : Last) (e : Entry) → IsPlain e → last_after n l e ≡ l
-plain_last_one n l e is = grind arith
-
-plain_told_one : (t : List Entry) (e : Entry) → IsPlain e → IsTold t e
-plain_told_one t e is = grind arith
-
-plain_own_one : (n : ℕ) (e : Entry) → IsPlain e → IsOf n e
-plain_own_one n e is = grind arith
-
 pub plain_fold : (n : ℕ) (b : Book) (es : List Entry) → AllByRecursion IsPlain es → fold (book_after n) b es ≡ b
 plain_fold n b [] all = refl
-plain_fold n b (e ∷ es) all = ap (λ x. fold (book_after n) x es) (plain_one n b e all.0) ∙ plain_fold n b es all.1
+plain_fold n b (e ∷ es) all = ap (λ x. fold (book_after n) x es) (grind arith) ∙ plain_fold n b es all.1
 
 plain_last_fold : (n : ℕ) (l : Last) (es : List Entry) → AllByRecursion IsPlain es → fold (last_after n) l es ≡ l
 plain_last_fold n l [] all = refl
-plain_last_fold n l (e ∷ es) all = ap (λ x. fold (last_after n) x es) (plain_last_one n l e all.0) ∙ plain_last_fold n l es all.1
+plain_last_fold n l (e ∷ es) all = ap (λ x. fold (last_after n) x es) (grind arith) ∙ plain_last_fold n l es all.1
 
 pub plain_book : (t es : List Entry) (n : ℕ) → AllByRecursion IsPlain es → book_in (t ++ es) n ≡ book_in t n
 plain_book t es n all = book_more t es n ∙ plain_fold n (book_in t n) es all
@@ -56,10 +44,10 @@ plain_last t es n all = last_more t es n ∙ plain_last_fold n (last_in t n) es 
 
 pub plain_told : (t es : List Entry) → AllByRecursion IsPlain es → AreToldBehind t es
 plain_told t [] all = tt
-plain_told t (e ∷ es) all = (plain_told_one t e all.0, plain_told (t ++ e ∷ []) es all.1)
+plain_told t (e ∷ es) all = ((grind arith), plain_told (t ++ e ∷ []) es all.1)
 
 pub plain_own : (n : ℕ) (es : List Entry) → AllByRecursion IsPlain es → AllByRecursion (IsOf n) es
-plain_own n es all = all_so IsPlain (IsOf n) (plain_own_one n) es all
+plain_own n es all = all_so IsPlain (IsOf n) (λ e is. grind arith) es all
 
 pub told_append : (t xs ys : List Entry) → AreToldBehind t xs → AreToldBehind (t ++ xs) ys → AreToldBehind t (xs ++ ys)
 told_append t [] ys a b = subst (λ x. AreToldBehind x ys) (append-nil t) b
@@ -144,11 +132,7 @@ may_still t a b new may x q c here asked = let p = new x q c here asked in may x
 pub map_found : {X : Type 0} (key : X → ℕ) (f : X → Port) → ((p : X) → (f p).desk.host ≡ key p) → (g : X → Port) → ((p : X) → (g p).desk.host ≡ key p)
     → (xs : List X) (x : ℕ) (q : Port) → port_at (map f xs) x ≡ Some q → (p : X) × (port_at (map g xs) x ≡ Some (g p)) × (q ≡ f p) × (key p ≡ x)
 map_found key f same g also [] x q here = absurd (cc here)
-map_found {X} key f same g also (p ∷ xs) x q here = by_host (cases_Bool (eqb (key p) x)) (map_found key f same g also xs x q) where
-  by_host : (eqb (key p) x ≡ true) ⊎ (eqb (key p) x ≡ false)
-      → (port_at (map f xs) x ≡ Some q → (r : X) × (port_at (map g xs) x ≡ Some (g r)) × (q ≡ f r) × (key r ≡ x))
-      → (r : X) × (port_at (map g (p ∷ xs)) x ≡ Some (g r)) × (q ≡ f r) × (key r ≡ x)
-  by_host a later = grind arith
+map_found {X} key f same g also (p ∷ xs) x q here = let h0 = cases_Bool (eqb (key p) x) in let h1 = map_found key f same g also xs x q in grind arith
 
 map_id : (ports : List Port) → map (λ (p : Port). p) ports ≡ ports
 map_id [] = refl
@@ -235,15 +219,12 @@ runs_plainly n hosts old before w v r p = record {
 
 -- ### Entries of links
 
-plain_entry : (h : ℕ) (x : Noted) → AllByRecursion IsPlain (entry_of h x)
-plain_entry h x = grind arith
-
 pub plain_flat : {X : Type 0} (f : X → List Entry) → ((x : X) → AllByRecursion IsPlain (f x)) → (xs : List X) → AllByRecursion IsPlain (flat_map f xs)
 plain_flat f one [] = tt
 plain_flat f one (x ∷ xs) = all_append IsPlain (f x) (flat_map f xs) (one x) (plain_flat f one xs)
 
 pub plain_entries : (h : ℕ) (xs : List Noted) → AllByRecursion IsPlain (entries_for h xs)
-plain_entries h xs = plain_flat (entry_of h) (plain_entry h) xs
+plain_entries h xs = plain_flat (entry_of h) (λ x. grind arith) xs
 
 -- ### Ends
 
@@ -304,9 +285,7 @@ plainly_noting w es plain = grind arith
 pub plainly_map : (w : Work) (f : Port → Port) (es : List Entry) → AllByRecursion IsPlain es → ((p : Port) → (f p).desk.host ≡ p.desk.host)
     → ((p : Port) → WaitsAt p → WaitsAt (f p)) → ((p : Port) (c : Creation) → asked_at (f p) ≡ Some c → asked_at p ≡ Some c)
     → Plainly w (noting es (record w { ports = map f w.ports }))
-plainly_map w f es plain host waits none =
-    let v : Work = record w { ports = map f w.ports } in
-    plainly_then w v (noting es v) (plainly_ports w f host waits none) (plainly_noting v es plain)
+plainly_map w f es plain host waits none = let h0 = plainly_ports w f host waits none in grind arith
 
 plain_option : (core : Core) (t : Turn) (o : Option Port) → AllByRecursion IsPlain (option_map_or (noted_of core t) o [])
 plain_option core t o = grind arith

@@ -4,16 +4,16 @@ use Rattle.node_laws.proofs.Words.{ActTick, AllByRecursion, Answer, AreDifferent
 use Rattle.node_laws.proofs.Words.{Create, Creation, Decision, Deed, Delete, Entry, FetchMessage, Give, HciTables, Hold, Init, IsAllowedStill, IsCommand}
 use Rattle.node_laws.proofs.Words.{IsHost, IsNodeNumber, IsOnOrder, IsPlain, IsRecordableDecision, IsSome, IsTrue, LinkInput, LinkView, List, MayBeDone}
 use Rattle.node_laws.proofs.Words.{MayWait, Memory, Message, NodeInput, None, Notice, Option, Phase, PipeRow, Port, Release, Releases, Reset, Role, Sends}
-use Rattle.node_laws.proofs.Words.{SetOpened, Some, State, StillRuns, Sync, Tells, TimePasses, WaitsAt, WaitsFor, Work, [], accepts, act_answer, act_out}
+use Rattle.node_laws.proofs.Words.{SetOpened, Some, State, StillRuns, Sync, Tells, TimePasses, WaitsAt, WaitsFor, Work, [], accepts, act_out}
 use Rattle.node_laws.proofs.Words.{after_input, after_sessions, agreed, all_append, all_come, all_done, all_false, all_owed, all_owed_hold, and_from, answer_of}
 use Rattle.node_laws.proofs.Words.{ap, append-nil, apply, arith, asked_at, body_in, by_option, by_test, cases_Bool, commit_deeds, cond, cond_both}
 use Rattle.node_laws.proofs.Words.{controller_deeds, controller_holds, creation_in, decided, decided_holds, decision_deeds, deeds_of, end_of_node, end_view}
 use Rattle.node_laws.proofs.Words.{eq-eqb, eqb, eqb-true, false, far_end, far_end_of, finds_room, flat_map, forgets, forgotten, forgotten_hold}
 use Rattle.node_laws.proofs.Words.{goes_through_ends, handles, has, has_come, have_turns, holds_back, host_deeds, host_holds, hosts_of_ends, hosts_where}
 use Rattle.node_laws.proofs.Words.{init_agreed, init_deeds, inl, input_at, inr, is_allowed, is_command, is_forgotten, is_held, is_host, is_kept, is_kept_sync}
-use Rattle.node_laws.proofs.Words.{is_late, is_none, is_open, is_over, is_some, is_welcome, lack, le-leb, learned, learned_holds, leb, lets_go, link_deeds}
+use Rattle.node_laws.proofs.Words.{is_late, is_none, is_open, is_over, is_some, lack, le-leb, learned, learned_holds, leb, lets_go, link_deeds}
 use Rattle.node_laws.proofs.Words.{link_served, list_any, lt-ltb, ltb, map, needs, not, not-false, noting, option_and_then, option_map_or, ordered_deeds}
-use Rattle.node_laws.proofs.Words.{ordered_holds, orders_of, out_ticked, own_side, own_view, param_in, passes, pid_of, pipe_at, pipe_named_in, port_at, refl}
+use Rattle.node_laws.proofs.Words.{ordered_holds, orders_of, out_ticked, own_side, own_view, param_in, passes, pid_of, pipe_at, port_at, refl}
 use Rattle.node_laws.proofs.Words.{report, reset_late, slice_get, steps, subst, suc, sym, synced, tests_of_pipe, tests_to_delete, tests_to_set_it, times_out}
 use Rattle.node_laws.proofs.Words.{told, told_at, told_late, true, true≢false, turn_at, unless_cut, value_in, view_for, view_of, whole_acked, with_desk}
 use Rattle.node_laws.proofs.Words.{with_older, without_notice, zero, ℕ, ◌&&◌, ◌++◌, ◌+◌, ◌<◌, ◌||◌, ◌∙◌, ◌∷◌, ◌≡◌, ◌≤◌, ◌⊎◌}
@@ -125,13 +125,6 @@ module _ (core : Core) (on : IsOnOrder core.command core.init) where
 
 -- ## A host may do what it does with a message
 
--- a pipe that a message names is closed
-named_closed : (body : List ℕ) (row : PipeRow) → pipe_named_in body ≡ Some row → row.opened ≡ false
-named_closed body row is = grind arith
-
-welcome_may : (own : ℕ) (row : PipeRow) → own ≤ 7 → is_welcome own row ≡ true → row.opened ≡ false → IsCommand (Create row)
-welcome_may own row most is closed = grind arith
-
 delete_may : (t : HciTables) (pid : ℕ) → AreTables t → is_some (pipe_at t.rows pid) ≡ true → IsCommand (Delete pid)
 delete_may t pid are some =
     let within = row_of-within pid_of 2 112 pid t.rows are.rows some in
@@ -211,7 +204,7 @@ module _ (core : Core) (on : IsOnOrder core.command core.init) (sorted : AreTabl
   ordered_may errors pipe n body = ordered_holds FineOfHostsReply core errors pipe n body (record {
     none = on;
     refuses = λ r. on;
-    creates = λ row named welcome. accepts_may (Create row) (welcome_may core.node row most welcome (named_closed body row named));
+    creates = λ row named welcome. accepts_may (Create row) (grind arith);
     deletes = λ pid kept. accepts_may (Delete pid) (delete_may core.tables pid sorted kept);
     clears = λ x host. accepts_may (Clear x) host;
     counts = λ zero. link_may core on core.node 0 (link_served errors n body);
@@ -313,12 +306,6 @@ module _ (n : ℕ) (hosts : List ℕ) (old : Memory) (before : List Entry) where
 
 -- ### What comes
 
-come_waits : (p : Port) (o : Option LinkInput) → WaitsAt p → WaitsAt (has_come p o)
-come_waits p o w = grind arith
-
-come_new : (p : Port) (o : Option LinkInput) (c : Creation) → asked_at (has_come p o) ≡ Some c → asked_at p ≡ Some c
-come_new p o c e = grind arith
-
 told_plain : (core : Core) (p : Port) (o : Option LinkInput) → AllByRecursion IsPlain (told_at core p o)
 told_plain core p None = tt
 told_plain core p (Some i) = plain_entries p.desk.host (told (own_side core) p.session (report p.side i) (whole_acked (after_input p.side i)))
@@ -327,21 +314,15 @@ pub plainly_come : (input : NodeInput) (w : Work) → Plainly w (all_come input 
 plainly_come input w =
     plainly_map w (λ p. has_come p (input_at input p)) (flat_map (λ p. told_at w.core p (input_at input p)) w.ports)
     (plain_flat (λ p. told_at w.core p (input_at input p)) (λ p. told_plain w.core p (input_at input p)) w.ports)
-    (λ p. come_host p (input_at input p)) (λ p. come_waits p (input_at input p)) (λ p c e. come_new p (input_at input p) c e)
+    (λ p. come_host p (input_at input p)) (λ p. (λ w. grind arith)) (λ p c e. grind arith)
 
 -- ### Timeouts
 
 older_waits : (p : Port) → WaitsAt p → WaitsAt (with_older p)
 older_waits p w = grind arith
 
-older_new : (p : Port) (c : Creation) → asked_at (with_older p) ≡ Some c → asked_at p ≡ Some c
-older_new p c asked = grind arith
-
 late_new : (p : Port) (c : Creation) → asked_at (reset_late p) ≡ Some c → asked_at p ≡ Some c
 late_new p c asked = grind arith
-
-late_plain : (core : Core) (p : Port) → AllByRecursion IsPlain (told_late core p)
-late_plain core p = grind arith
 
 late_waits : (p : Port) → WaitsAt p → WaitsAt (reset_late p)
 late_waits p w = cond_both (is_late p) (record p { side = after_input p.side (Reset None); late = true }) p WaitsAt (λ _. w) (λ _. w)
@@ -350,8 +331,8 @@ plainly_late : (input : NodeInput) (w : Work) → Plainly w (times_out input w)
 plainly_late (AtEnd h i) w = plainly_same w
 plainly_late TimePasses w =
     let a : Work = record w { ports = map with_older w.ports } in
-    plainly_then w a (times_out TimePasses w) (plainly_ports w with_older (λ p. refl) older_waits older_new)
-    (plainly_map a reset_late (flat_map (told_late w.core) a.ports) (plain_flat (told_late w.core) (late_plain w.core) a.ports) late_host late_waits late_new)
+    plainly_then w a (times_out TimePasses w) (plainly_ports w with_older (λ p. refl) older_waits (λ p c asked. grind arith))
+    (plainly_map a reset_late (flat_map (told_late w.core) a.ports) (plain_flat (told_late w.core) (λ p. grind arith) a.ports) late_host late_waits late_new)
 
 -- what came changes no core
 core_late : (input : NodeInput) (w : Work) → (times_out input w).core ≡ w.core
@@ -365,19 +346,13 @@ forgets_waits ports p w = cond_both (is_forgotten ports (asked_at p)) _ p WaitsA
 without_waits : (p : Port) → WaitsAt p → WaitsAt (without_notice p)
 without_waits p w = cond_both (is_over p) (record p { desk = record p.desk { notice = None } }) p WaitsAt (λ _. tt) (λ _. w)
 
-forgets_new : (ports : List Port) (p : Port) (c : Creation) → asked_at (forgets ports p) ≡ Some c → asked_at p ≡ Some c
-forgets_new ports p c asked = grind arith
-
-without_new : (p : Port) (c : Creation) → asked_at (without_notice p) ≡ Some c → asked_at p ≡ Some c
-without_new p c asked = grind arith
-
 plainly_sessions : (w : Work) → Plainly w (record w { core = after_sessions w.core w.ports; ports = map without_notice (map (forgets w.ports) w.ports) })
 plainly_sessions w =
     let a : Work = record w { ports = map (forgets w.ports) w.ports } in
     let b : Work = record a { ports = map without_notice a.ports } in
     plainly_then w b (record b { core = after_sessions w.core w.ports })
-    (plainly_then w a b (plainly_ports w (forgets w.ports) (forgets_host w.ports) (forgets_waits w.ports) (forgets_new w.ports))
-    (plainly_ports a without_notice without_host without_waits without_new))
+    (plainly_then w a b (plainly_ports w (forgets w.ports) (forgets_host w.ports) (forgets_waits w.ports) (λ p c asked. grind arith))
+    (plainly_ports a without_notice without_host without_waits (λ p c asked. grind arith)))
     (cond_both (list_any is_over w.ports) (record w.core { command = None; init = None }) w.core (λ (c : Core). Plainly b (record b { core = c }))
     (λ _. plainly_core b None None) (λ _. plainly_same b))
 
@@ -406,8 +381,7 @@ freed_core [] all w on = refl
 freed_core (Releases asker ∷ deeds) all w on =
     ap (λ (x : Work). x.core) (uncut (all_done 0 deeds) (turn_at asker Release w) on) ∙ freed_core deeds all.1 (turn_at asker Release w) on
 freed_core (Sends to m ∷ deeds) all w on =
-    ap (λ (x : Work). x.core) (uncut (all_done 0 deeds) (turn_at to (Give m) w) on)
-    ∙ freed_core deeds all.1 (turn_at to (Give m) w) on
+    let h0 = uncut (all_done 0 deeds) (turn_at to (Give m) w) on in let h1 = freed_core deeds all.1 (turn_at to (Give m) w) on in grind arith
 freed_core (_ ∷ deeds) all w on = absurd all.0
 
 freed_cut : (deeds : List Deed) → AllByRecursion IsFree deeds → (w : Work) → w.cut ≡ false → (all_done 0 deeds w).cut ≡ false
@@ -423,11 +397,8 @@ freed_cut (_ ∷ deeds) all w on = absurd all.0
 pub ticked_sync : (phase : Phase) (last : Option Act) → (out_ticked phase last).sync ≡ None
 ticked_sync phase last = grind arith
 
-answer_sync : (role : Role) → (act_answer role ActTick).sync ≡ None
-answer_sync role = grind arith
-
 tick_sync : (role : Role) → (act_out role (cond (is_open role) None (Some ActTick))).sync ≡ None
-tick_sync role = cond_both (is_open role) None (Some ActTick) (λ e. (act_out role e).sync ≡ None) (λ _. refl) (λ _. answer_sync role)
+tick_sync role = cond_both (is_open role) None (Some ActTick) (λ e. (act_out role e).sync ≡ None) (λ _. refl) (λ _. grind arith)
 
 synced_tick : (core : Core) (p : Port) → synced core TimePasses p ≡ []
 synced_tick core p = rw (tick_sync p.side.role) refl

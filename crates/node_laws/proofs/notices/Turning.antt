@@ -35,8 +35,7 @@ module _ (x : ℕ) where
   -- what is read behind more entries
   pub read_more : (before now es : List Entry) (c d : Option (List ℕ)) → notice_in (before ++ now) x ≡ c → reads es c ≡ d
       → notice_in (before ++ (now ++ es)) x ≡ d
-  read_more before now es c d was more =
-      ap (λ l. notice_in l x) (sym (append_assoc before now es)) ∙ (notice_more (before ++ now) es ∙ (ap (reads es) was ∙ more))
+  read_more before now es c d was more = let h0 = append_assoc before now es in let h1 = notice_more (before ++ now) es in grind arith
 
   -- ### Notes
 
@@ -436,10 +435,7 @@ takes_with : (k x : ℕ) (g : Port → Port) (ports : List Port) (m : List ℕ) 
     → ((q : Port) → give_refusal (g q).side (1, m) ≡ give_refusal q.side (1, m)) → Takes (port_at ports x) m → Takes (port_at (with_port k g ports) x) m
 takes_with k x g ports m host same takes =
     subst (λ o. Takes o m) (sym (at_all ports x (λ p. changed_if (eqb p.desk.host k) g p) (λ p. changed_host (eqb p.desk.host k) g p host)))
-    (go (port_at ports x) takes)
-  where
-    go : (o : Option Port) → Takes o m → Takes (option_map (λ (p : Port). changed_if (eqb p.desk.host k) g p) o) m
-    go o t = grind arith
+    (grind arith)
 
 pub kept_none : (r : Option (List ℕ)) (n : Option Notice) → n ≡ None → IsKeptNotice r n → r ≡ None
 kept_none r n e k = grind arith
@@ -535,7 +531,7 @@ module _ (x : ℕ) (before : List Entry) (k : ℕ) where
   leaves_stand m deeds w a leaves may reach room =
       all_stand x before k (λ n. Takes (port_at w.ports x) n) deeds (fetched m w) (λ n t. fetched_takes m w n t)
       (ready x k IsShort (λ n. Takes (port_at w.ports x) n) w.ports (λ n short has. takes_it w.ports x n short has) deeds may reach room)
-      still
+      (begun)
     where
       begun : Holds x before IsKeptNotice (fetched m w)
       begun = by_test (eqb k x && answers x k m)
@@ -550,9 +546,6 @@ module _ (x : ℕ) (before : List Entry) (k : ℕ) where
           (λ r n b. grind arith)
           ((grind arith)))))
           (λ e. fetched_holds IsKeptNotice m w (λ r n kept. subst (λ c. IsKeptNotice (cond c None r) n) (sym e) kept) a)
-
-      still : On (fetched m w)
-      still = begun
 
   heard_stand : (m : Message) (deeds : List Deed) (w : Work) → On w → answers x k m ≡ true
       → MayTell x IsShort deeds → AllReach w.ports deeds → lack w.ports (needs k deeds) ≡ None → Fine (handles k m (IsAnswered ∷ deeds) w)

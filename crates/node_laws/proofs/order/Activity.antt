@@ -1,7 +1,7 @@
 -- What is noted of a link says at which of its ends activation is done.
 use Rattle.node_laws.proofs.Words.{Acked, ActEvent, Activate, Active, AllAllowed, AllByRecursion, AreOwn, AsksReset, AtController, AtHost, Bool, Controller}
 use Rattle.node_laws.proofs.Words.{Cut, CutOff, Down, EndEvent, Ending, GaveUp, GoesOut, Got, HasTick, Host, IsEvent, IsLine, IsOwn, Link, LinkEnd, LinkEvent}
-use Rattle.node_laws.proofs.Words.{LinkInput, List, Lose, NextFrame, NoInput, Node, Noted, NumberedEnd, OnWire, Option, Report, Reset, Restarted, Role, Sounds}
+use Rattle.node_laws.proofs.Words.{LinkInput, List, Lose, NextFrame, NoInput, Node, Noted, NumberedEnd, OnWire, Report, Reset, Restarted, Role, Sounds}
 use Rattle.node_laws.proofs.Words.{Start, Starts, Step, Stop, Stops, Take, TicksWithout, Turn, [], after_input, after_link_events, aged, aged_entries}
 use Rattle.node_laws.proofs.Words.{all_at_controller, ap, arith, before_here, before_there, ended_by, entries, entries_of_events, event_entries, exchanged}
 use Rattle.node_laws.proofs.Words.{false, far, finished, fold, fold-append, frames_out, happens, happens_at_controller, has_taken, here_entries, if_so}
@@ -65,12 +65,6 @@ dull_holds who = grind arith
 abbrev if_became : Bool → Bool → Bool
 if_became became b = if became then true else b
 
-became_so : (who : End) (c b : Bool) → all_acting who b (if_so c (Active who)) ≡ if_became c b
-became_so who c b = grind arith
-
-became_far : (who : End) (c b : Bool) → all_acting (far who) b (if_so c (Active who)) ≡ b
-became_far who c b = grind arith
-
 told_parts : (w who : End) (n : ℕ) (r : Report) (acked : ℕ) (b : Bool)
     → all_acting w b (told who n r acked) ≡ all_acting w b (if_so r.became_active (Active who))
 told_parts w who n r acked b =
@@ -118,15 +112,9 @@ BecomesSo e i b = if_became (report e i).became_active b ≡ is_open (after_inpu
 ticks_so : (e : LinkEnd) → BecomesSo e HasTick (is_open e.role)
 ticks_so e = grind arith
 
-resets_so : (e : LinkEnd) (window : Option ℕ) → BecomesSo e (Reset window) (is_open e.role)
-resets_so e window = sym (ap is_open (reset_role e window))
-
 -- activation that begins or ends leaves the end inactive
 starts_so : (e : LinkEnd) (value : ℕ) → HasLine e → BecomesSo e (Start value) false
 starts_so e value a = grind arith
-
-stops_so : (e : LinkEnd) → HasLine e → BecomesSo e Stop false
-stops_so e a = grind arith
 
 takes_so : (e : LinkEnd) (f : Role) (x : OnWire) (w v : List OnWire) → ActsInOrder e.role f (x ∷ w) v → BecomesSo e (Take x.frame) (is_open e.role)
 takes_so e f x w v h = grind arith
@@ -148,18 +136,14 @@ dull_rest who k f ts =
 rest_acted : (who : End) (k : Link) (f : LinkEnd) (ts : List Turn) (ending : Ending) (b : Bool) → b ≡ is_open f.role → HasLine f
     → all_acting who b (rest_entries who k f ts ending) ≡ acts (finished k (turned f ts) ending).controller
 rest_acted who k f ts GoesOut b q a =
-    dull_passes who (rest_entries who k f ts GoesOut)
-    (dull_rest who k f ts) b
-    ∙ (q ∙ sym (ap is_open (turned_role f ts)))
+    let h0 = dull_passes who (rest_entries who k f ts GoesOut) (dull_rest who k f ts) b in let h1 = turned_role f ts in grind arith
 rest_acted who k f ts CutOff b q a =
     let last : (c : Bool) → all_acting who c (Cut who ∷ []) ≡ false = λ c. let q = same_self who in rw q refl in
     acting-append who b (turn_entries who (number_of k.controller) f ts) (Cut who ∷ [])
     ∙ (last (all_acting who b (turn_entries who (number_of k.controller) f ts)) ∙ sym (lined_turns f ts a))
 
 rest_beside : (who : End) (k : Link) (f : LinkEnd) (ts : List Turn) (ending : Ending) (b : Bool) → all_acting (far who) b (rest_entries who k f ts ending) ≡ b
-rest_beside who k f ts GoesOut b =
-    dull_passes (far who) (rest_entries who k f ts GoesOut)
-    (dull_rest who k f ts) b
+rest_beside who k f ts GoesOut b = let h0 = dull_passes (far who) (rest_entries who k f ts GoesOut) (dull_rest who k f ts) b in grind arith
 rest_beside who k f ts CutOff b =
     let last : (c : Bool) → all_acting (far who) c (Cut who ∷ []) ≡ c = λ c. let q = same_far who in rw q refl in
     acting-append (far who) b (turn_entries who (number_of k.controller) f ts) (Cut who ∷ [])
@@ -178,7 +162,7 @@ module _ (who : End) (l k : Link) (number : ℕ) (i : LinkInput) (ts : List Turn
       let first : List Noted = told who n (report e i) (whole_acked (after_input e i)) in
       acting-append who b first (rest_entries who k (after_input e i) ts ending)
       ∙ (ap (λ z. all_acting who z (rest_entries who k (after_input e i) ts ending))
-      (told_parts who who n (report e i) (whole_acked (after_input e i)) b ∙ became_so who (report e i).became_active b)
+      (told_parts who who n (report e i) (whole_acked (after_input e i)) b ∙ (grind arith))
       ∙ rest_acted who k (after_input e i) ts ending (if_became (report e i).became_active b) so (lined_input e i a))
 
   input_beside : (b : Bool) → all_acting (far who) b noted ≡ b
@@ -188,7 +172,7 @@ module _ (who : End) (l k : Link) (number : ℕ) (i : LinkInput) (ts : List Turn
       let first : List Noted = told who n (report e i) (whole_acked (after_input e i)) in
       acting-append (far who) b first (rest_entries who k (after_input e i) ts ending)
       ∙ (ap (λ z. all_acting (far who) z (rest_entries who k (after_input e i) ts ending))
-      (told_parts (far who) who n (report e i) (whole_acked (after_input e i)) b ∙ became_far who (report e i).became_active b)
+      (told_parts (far who) who n (report e i) (whole_acked (after_input e i)) b ∙ (grind arith))
       ∙ rest_beside who k (after_input e i) ts ending b)
 
 -- an input of its own
@@ -225,9 +209,9 @@ restart_acted who l i ts ending so a =
 own_acted : (who : End) (l : Link) (e : EndEvent) → IsOwn e → HasLine l.controller.side → Acted who l (happens_at_controller l e) (here_entries who l e)
 own_acted who l (Lose why) o a = absurd o
 own_acted who l (Step NextFrame ts ending) o a = absurd o
-own_acted who l (Step (AsksReset window) ts ending) o a = own_input who l (Reset window) ts ending (resets_so l.controller.side window) a
+own_acted who l (Step (AsksReset window) ts ending) o a = own_input who l (Reset window) ts ending (sym (ap is_open (reset_role l.controller.side window))) a
 own_acted who l (Step (Starts v) ts ending) o a = restart_acted who l (Start v) ts ending (starts_so l.controller.side v a) a
-own_acted who l (Step Stops ts ending) o a = restart_acted who l Stop ts ending (stops_so l.controller.side a) a
+own_acted who l (Step Stops ts ending) o a = restart_acted who l Stop ts ending (grind arith) a
 own_acted who l (Step NoInput ts ending) o a =
     record { here = rest_acted who l l.controller.side ts ending (acts l.controller) refl a; there = rest_beside who l l.controller.side ts ending }
 
@@ -359,10 +343,8 @@ event_acted l (Activate power c id h) can near far_order a b =
 
 lined_event : (l : Link) (e : LinkEvent) → IsEvent l e → HasLine l.controller.side → HasLine l.host.side
     → HasLine (happens l e).controller.side × HasLine (happens l e).host.side
-lined_event l (AtController e) can a b =
-    let H : NumberedEnd → Type 0 = λ x. HasLine x.side in (lined_here l e a, subst H (sym (here_host l e)) b)
-lined_event l (AtHost e) can a b =
-    let H : NumberedEnd → Type 0 = λ x. HasLine x.side in (subst H (sym (here_host (exchanged l) e)) a, lined_here (exchanged l) e b)
+lined_event l (AtController e) can a b = let h0 = lined_here l e a in let h1 = here_host l e in grind arith
+lined_event l (AtHost e) can a b = let h0 = here_host (exchanged l) e in let h1 = lined_here (exchanged l) e b in grind arith
 lined_event l (Ticks c es h) can a b =
     let k : Link = ticks_at_controller (aged l) c.turns c.ending in
     let m : Link = all_at_controller k es in
