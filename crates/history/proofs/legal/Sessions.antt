@@ -1,12 +1,13 @@
 -- What the filters read off a history is what those of the link read, so messages are in order and both ends have the sessions that are
 -- read.
+use Rattle.std.proofs.lemmas.List.Elements.{filter_map-append}
 use Rattle.std.proofs.lemmas.Grind.{common_steps}
 use Rattle.std.proofs.lemmas.List.Concat.{flat_map-append}
-use Rattle.history.proofs.Words.{Acked, ActDue, Active, AllAllowed, AllByRecursion, Asked, AsksReset, Begins, Bool, Busy, ByAct, Cause, Chain}
+use Rattle.history.proofs.Words.{Acked, ActDue, Active, AllAllowed, AllByRecursion, Asked, AsksReset, Begins, Bool, Busy, ByAct, Cause, Chain, Book}
 use Rattle.history.proofs.Words.{Control, Controller, Counts, Cut, CutOff, Damage, Deliver, Down, Emit, End, EndEvent, EndState, EndStep, Ends, Entry, Event}
 use Rattle.history.proofs.Words.{Follows, GaveUp, Gets, Given, GoesOut, Got, HasNumbers, HasTick, Header, History, Host, InOrderIn, IsBare, IsEvent, IsFrontOf}
 use Rattle.history.proofs.Words.{IsHeader, IsInOrder, IsLineOf, IsSendable, IsWindow, Line, Link, LinkEnd, LinkEvent, LinkInput, List, Lose, Loss, Lost}
-use Rattle.history.proofs.Words.{Message, NamedEnd, NextFrame, NoAnswer, NoInput, None, Noted, NumberedEnd, OnWire, Option, Outcome, Peer, Prefix}
+use Rattle.history.proofs.Words.{Message, NamedEnd, NextFrame, NoAnswer, NoInput, None, Noted, NumberedEnd, OnWire, Option, Outcome, Peer, Prefix, read-append}
 use Rattle.history.proofs.Words.{Readied, Ready, Report, Reset, Restarted, Saying, Send, Sends, Sent, Side, Some, Starts, Step, StepsFollow, Stops}
 use Rattle.history.proofs.Words.{Take, Taken, Ticked, Took, Turn, Up, Verdict, WasLost, WasReset, [], acked_after, acked_in, after_input}
 use Rattle.history.proofs.Words.{after_link_events, aged, aged_entries, all_entries, all_events, among, ap, arith, at, at_each_moment, at_end, bare_link}
@@ -50,7 +51,10 @@ sent-one h x who n = grind arith
 
 pub sent-all : (h : ℕ) (t : List Noted) (who : Side) (n : ℕ) → sent_in (entries_for h t) (end_of h who) n ≡ link_sent t who n
 sent-all h [] who n = refl
-sent-all h (x ∷ t) who n = let h0 = end_of h who in let h1 = entries_for h t in let h2 = sent-one h x who n in let h3 = sent-all h t who n in grind arith
+sent-all h (x ∷ t) who n =
+    filter_map-append (λ entry. sent_by n (said_of (end_of h who) entry)) (entry_of h x) (entries_for h t)
+    ∙ (ap (λ ms. ms ++ sent_in (entries_for h t) (end_of h who) n) (sent-one h x who n)
+    ∙ (ap (λ ms. link_sent (x ∷ []) who n ++ ms) (sent-all h t who n) ∙ sym (ap (λ (b : Book). b.sent) (read-append (x ∷ []) t who n))))
 
 -- ### Messages got
 
@@ -59,7 +63,10 @@ got-one h x who n = grind arith
 
 pub got-all : (h : ℕ) (t : List Noted) (who : Side) (n : ℕ) → got_in (entries_for h t) (end_of h who) n ≡ link_got t who n
 got-all h [] who n = refl
-got-all h (x ∷ t) who n = let h0 = end_of h who in let h1 = entries_for h t in let h2 = got-one h x who n in let h3 = got-all h t who n in grind arith
+got-all h (x ∷ t) who n =
+    filter_map-append (λ entry. got_in_session n (said_of (end_of h who) entry)) (entry_of h x) (entries_for h t)
+    ∙ (ap (λ ms. ms ++ got_in (entries_for h t) (end_of h who) n) (got-one h x who n)
+    ∙ (ap (λ ms. link_got (x ∷ []) who n ++ ms) (got-all h t who n) ∙ sym (ap (λ (b : Book). b.got) (read-append (x ∷ []) t who n))))
 
 -- ### Messages acknowledged
 
