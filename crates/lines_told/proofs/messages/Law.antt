@@ -178,7 +178,9 @@ known_after es l a k =
 
 events-append : (es fs : List LinkEvent) (l : Link) → core_events l (es ++ fs) ≡ core_events l es ++ core_events (after_link_events l es) fs
 events-append [] fs l = refl
-events-append (e ∷ es) fs l = let h0 = events-append es fs (happens l e) in grind arith
+events-append (e ∷ es) fs l =
+    ap (λ cs. core_event l e ++ cs) (events-append es fs (happens l e))
+    ∙ sym (append_assoc (core_event l e) (core_events (happens l e) es) (core_events (after_link_events (happens l e) es) fs))
 
 pub after_events-append : (es fs : List LinkEvent) (l : Link) → after_link_events l (es ++ fs) ≡ after_link_events (after_link_events l es) fs
 after_events-append [] fs l = refl
