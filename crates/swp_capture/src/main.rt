@@ -11,11 +11,10 @@ ghost use Rattle.std.specs.Prelude.{◌<◌, ◌≤◌, ◌^◌, IfOk, IfSome};
 
 use capture::record_capture;
 use status::{Status, exit_code, status_text};
-use std::env;
 use std::fs::{File, Files};
-use std::io;
 use std::process::ExitCode;
 use std::rt::Runtime;
+use std::{env, io};
 use swp_os::{StdinSource, StdoutSink, begin, words};
 
 /// How many femtoseconds a second has, by sixteen.

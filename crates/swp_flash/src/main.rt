@@ -4,11 +4,10 @@
 #![tactic(auto)]
 
 use flash_nv::FlashNv;
-use std::env;
 use std::fs::{File, Files};
-use std::io;
 use std::process::ExitCode;
 use std::rt::Runtime;
+use std::{env, io};
 use swp_os::{Access, FileFlash, StdinSource, StdoutSink, begin, words};
 use swp_tool::{Ended, Status, exit_code, run, status_text};
 
