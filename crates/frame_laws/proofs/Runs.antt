@@ -33,7 +33,8 @@ pub start_is : (seen : List Symbol) → (mark_of seen ≡ start_mark) ↔ EndsSt
 start_is [] = (λ h. absurd (cc), λ h. absurd (cc))
 start_is (bit_0 ∷ older) = (
   λ h. ap (λ xs. bit_0 ∷ xs) (run_is older 6 (six (eqb (run_of older) 6) refl h)),
-  λ h. let rest : take 7 (with_zeros older) ≡ bit_1 ∷ bit_1 ∷ bit_1 ∷ bit_1 ∷ bit_1 ∷ bit_1 ∷ bit_0 ∷ [] = grind arith in rw (eq-eqb (run_of older) 6 (is_run older 6 rest)) refl,
+  λ h. let rest : take 7 (with_zeros older) ≡ bit_1 ∷ bit_1 ∷ bit_1 ∷ bit_1 ∷ bit_1 ∷ bit_1 ∷ bit_0 ∷ [] = grind arith in
+      rw (eq-eqb (run_of older) 6 (is_run older 6 rest)) refl,
 )
   where
     six : (b : Bool) → eqb (run_of older) 6 ≡ b → cond b start_mark no_mark ≡ start_mark → run_of older ≡ 6
@@ -46,7 +47,8 @@ end_is [] = (λ h. absurd (cc), λ h. absurd (cc))
 end_is (bit_0 ∷ older) = grind arith
 end_is (bit_1 ∷ older) = (
   λ h. ap (λ xs. bit_1 ∷ xs) (run_is older 6 (six (eqb (run_of older) 6) refl h)),
-  λ h. let rest : take 7 (with_zeros older) ≡ bit_1 ∷ bit_1 ∷ bit_1 ∷ bit_1 ∷ bit_1 ∷ bit_1 ∷ bit_0 ∷ [] = grind arith in rw (eq-eqb (run_of older) 6 (is_run older 6 rest)) refl,
+  λ h. let rest : take 7 (with_zeros older) ≡ bit_1 ∷ bit_1 ∷ bit_1 ∷ bit_1 ∷ bit_1 ∷ bit_1 ∷ bit_0 ∷ [] = grind arith in
+      rw (eq-eqb (run_of older) 6 (is_run older 6 rest)) refl,
 )
   where
     six : (b : Bool) → eqb (run_of older) 6 ≡ b → cond b end_mark no_mark ≡ end_mark → run_of older ≡ 6
