@@ -66,7 +66,7 @@ pub fn put_controller_deeds<N: Nv + Drop>(
     match read_header(message) {
         // A command of a host whose creation waits is dropped on pipe 01.
         Ok((MessageKind::Command, _instruction)) => {
-            if is_waiting(desks, host, pipe) {
+            if pipe == ADMINISTRATION_PIPE && desks.iter().any(|desk| waits_for(desk, host)) {
                 dropped(deeds, pipe)
             } else {
                 commanded(deeds, store, desks, up, host, pipe, message)
@@ -115,13 +115,6 @@ fn is_command(message: &[u8]) -> bool
     matches!(read_header(message), Ok((MessageKind::Command, _)))
 }
 
-// A command on this pipe of the host waits for the answer to an earlier creation.
-fn is_waiting(desks: &[Desk], host: u8, pipe: u8) -> bool
-    ensures { result ≡ (pipe == 1 && list_any (row_waits_for host) desks.now) }
-{
-    pipe == ADMINISTRATION_PIPE && desks.iter().any(|desk| waits_for(desk, host))
-}
-
 // A command of a host: one of its gates serves it, or the administration gate decides.
 fn commanded<N: Nv + Drop>(
     deeds: &mut Deeds,
@@ -145,25 +138,20 @@ fn commanded<N: Nv + Drop>(
     ensures doable { AreDoable deeds.new.items }
     ensures unchanged { store.new ≡ store.old }
 {
-    match gate_for(store.tables(), host, pipe, instruction_of(message)) {
+    let tables = store.tables();
+    let gate = if goes_through(tables, host, pipe, instruction_of(message)) {
+        own_gate(tables, host, pipe)
+    } else {
+        None
+    };
+    match gate {
         Some(gate) => served(deeds, errors_at(desks, host), host, pipe, gate, message),
+        // The administration gate decides.
         None => {
             let view = view_for(store.tables(), desks, up, host);
             let decision = decide(store.tables(), &view, host, pipe, message);
             put_decision(deeds, store, host, pipe, decision)
         }
-    }
-}
-
-// The gate of the controller that serves a command, where the administration gate doesn't decide.
-#[inline(always)]
-fn gate_for(tables: &Tables, host: u8, pipe: u8, instruction: u8) -> Option<u8>
-    ensures { result ≡ (if goes_through tables.now host pipe instruction then own_gate tables.now host pipe else None) }
-{
-    if goes_through(tables, host, pipe, instruction) {
-        own_gate(tables, host, pipe)
-    } else {
-        None
     }
 }
 

@@ -1,7 +1,12 @@
+use Rattle.std.proofs.lemmas.Bool.Decides.{nat_tests}
+use Rattle.std.proofs.lemmas.Iterator.Search.{any_from_yields_List}
+use Rattle.node_deeds.proofs.Words.{YieldsList-from_slice, arith, list_any, row_waits_for, rules, tests, true, ◌≡◌}
 use Rattle.node_deeds.proofs.Words.{None, Ok, Some, ap, controller_core, deeds_by_relay, deeds_shown, eqb, event_deeds, false, handled, ports_shown, relayed_to}
 use Rattle.node_deeds.proofs.Words.{sym, view_of, ◌&&◌, ◌∙◌}
 use Rattle.node_deeds.proofs.Control.{desk_sound, kind_waits, kind_commands, kind_tells, kind_replies, deeds_of_core, not_relayed, own_done}
 use Rattle.node_deeds.proofs.Views.{link_found, asks_shown, about_found}
+use Rattle.node_deeds.proofs.controller.put_controller_deeds.Goals.{else-pipe-eq-ADMINISTRATION_PIPE-via-then-pipe-eq-ADMINISTRATION_PIPE+else-any}
+use Rattle.node_deeds.proofs.controller.put_controller_deeds.Goals.{else-pipe-eq-ADMINISTRATION_PIPE-via-else-pipe-eq-ADMINISTRATION_PIPE}
 use Rattle.node_deeds.proofs.controller.put_controller_deeds.Goals as goal
 
 pub replied-requires-clause-sound : goal.replied-requires-clause-sound
@@ -41,8 +46,8 @@ returns-then-not-is_in-clause-deeds g c = λ core ports kept seen.
     (sym c.if-not-is_in.true ∙ (c.is_in.ensures ∙ link_found up desks h (Some c.in-Some-desk_at.desk.now) c.in-Some-desk_at.ensures)) _
     (ap (deeds_shown a) c.dropped-then-not-is_in.ensures)
 
-pub returns-then-is_waiting-clause-deeds : goal.returns-then-is_waiting-clause-deeds
-returns-then-is_waiting-clause-deeds g c = λ core ports kept seen.
+pub returns-then-any-clause-deeds : goal.returns-then-any-clause-deeds
+returns-then-any-clause-deeds g c = λ core ports kept seen.
     let s = c.args.store.now in
     let h = c.args.host in
     let up = c.args.up in
@@ -51,13 +56,16 @@ returns-then-is_waiting-clause-deeds g c = λ core ports kept seen.
     let core_is = controller_core s.journal.state s.tables in
     let arm = c.in-Ok-Command-default in
     let header = sym c.read_header.ensures.header ∙ (arm.is ∙ ap (λ kind. Ok (kind, arm._instruction)) arm.field-0-0-is) in
-    let waits = ap (λ b. eqb c.args.pipe 1 && b) (sym (asks_shown up desks h)) ∙ (sym c.is_waiting.ensures ∙ c.if-is_waiting.true) in
+    let on : eqb c.args.pipe 1 ≡ true = ap (λ n. eqb n 1) c.if-pipe-eq-ADMINISTRATION_PIPE.true in
+    let any : c.any.result ≡ list_any (row_waits_for h) desks =
+    any_from_yields_List (row_waits_for h) _ _ _ c.any.ensures.ran (YieldsList-from_slice desks cc) (λ x b q k. search (rules, tests)) in
+    let waits = ap (λ b. eqb c.args.pipe 1 && b) (sym (asks_shown up desks h)) ∙ rw on (sym any ∙ c.if-any.true) in
     own_done s core up desks ports h a.message kept seen _ c.tables.ensures c.in_default.ensures _ c.in-Some-desk_at.ensures _ c.is_in.ensures
     c.if-not-is_in.false _
-    (ap (deeds_shown a) c.dropped-then-is_waiting.ensures ∙ kind_waits core_is (ports_shown up desks) h a.message arm._instruction header waits)
+    (ap (deeds_shown a) c.dropped-then-any.ensures ∙ kind_waits core_is (ports_shown up desks) h a.message arm._instruction header waits)
 
-pub returns-else-is_waiting-clause-deeds : goal.returns-else-is_waiting-clause-deeds
-returns-else-is_waiting-clause-deeds g c = λ core ports kept seen.
+pub returns-else-pipe-eq-ADMINISTRATION_PIPE-clause-deeds : goal.returns-else-pipe-eq-ADMINISTRATION_PIPE-clause-deeds
+returns-else-pipe-eq-ADMINISTRATION_PIPE-clause-deeds g c = λ core ports kept seen.
     let s = c.args.store.now in
     let h = c.args.host in
     let up = c.args.up in
@@ -66,7 +74,13 @@ returns-else-is_waiting-clause-deeds g c = λ core ports kept seen.
     let core_is = controller_core s.journal.state s.tables in
     let arm = c.in-Ok-Command-default in
     let header = sym c.read_header.ensures.header ∙ (arm.is ∙ ap (λ kind. Ok (kind, arm._instruction)) arm.field-0-0-is) in
-    let waits = ap (λ b. eqb c.args.pipe 1 && b) (sym (asks_shown up desks h)) ∙ (sym c.is_waiting.ensures ∙ c.if-is_waiting.false) in
+    let none : (eqb c.args.pipe 1 && list_any (row_waits_for h) desks) ≡ false = elim c.else-pipe-eq-ADMINISTRATION_PIPE.branch [
+      else-pipe-eq-ADMINISTRATION_PIPE-via-then-pipe-eq-ADMINISTRATION_PIPE+else-any w ↦
+          let any : w.any.result ≡ list_any (row_waits_for h) desks =
+          any_from_yields_List (row_waits_for h) _ _ _ w.any.ensures.ran (YieldsList-from_slice desks cc) (λ x b q k. search (rules, tests)) in
+          rw (ap (λ n. eqb n 1) w.if-pipe-eq-ADMINISTRATION_PIPE.true) (sym any ∙ w.if-any.false)
+    | else-pipe-eq-ADMINISTRATION_PIPE-via-else-pipe-eq-ADMINISTRATION_PIPE w ↦ grind (arith, nat_tests) ] in
+    let waits = ap (λ b. eqb c.args.pipe 1 && b) (sym (asks_shown up desks h)) ∙ none in
     own_done s core up desks ports h a.message kept seen _ c.tables.ensures c.in_default.ensures _ c.in-Some-desk_at.ensures _ c.is_in.ensures
     c.if-not-is_in.false _
     (c.commanded.ensures.deeds ∙ kind_commands core_is (ports_shown up desks) h a.message arm._instruction header waits)
@@ -86,8 +100,8 @@ returns-in-Ok-Event-default-clause-deeds g c = λ core ports kept seen.
     (c.posted.ensures.deeds ∙ (ap (λ t. event_deeds t h a.message) c.tables-in-Ok-Event-default.ensures
     ∙ kind_tells core_is (ports_shown up desks) h a.message arm._instruction header))
 
-pub returns-then-pipe-eq-ADMINISTRATION_PIPE-clause-deeds : goal.returns-then-pipe-eq-ADMINISTRATION_PIPE-clause-deeds
-returns-then-pipe-eq-ADMINISTRATION_PIPE-clause-deeds g c = λ core ports kept seen.
+pub returns-then-pipe-eq-ADMINISTRATION_PIPE-2-clause-deeds : goal.returns-then-pipe-eq-ADMINISTRATION_PIPE-2-clause-deeds
+returns-then-pipe-eq-ADMINISTRATION_PIPE-2-clause-deeds g c = λ core ports kept seen.
     let s = c.args.store.now in
     let h = c.args.host in
     let up = c.args.up in
@@ -100,4 +114,4 @@ returns-then-pipe-eq-ADMINISTRATION_PIPE-clause-deeds g c = λ core ports kept s
     c.if-not-is_in.false _
     (c.replied.ensures.deeds a
     ∙ kind_replies core_is (ports_shown up desks) h a.message arm.code _ (about_found up desks h c.in-Some-desk_at.desk.now c.in-Some-desk_at.ensures) header
-    c.if-pipe-eq-ADMINISTRATION_PIPE.true)
+    c.if-pipe-eq-ADMINISTRATION_PIPE-2.true)
