@@ -1,5 +1,5 @@
 -- How many blocks are set aside at an end, from input to input: only what its node does to it changes that.
-use Rattle.node_ends.proofs.Words.{Bool, EndState, Give, LinkInput, Machine, Message, [], after_input, arith, frame_fetched, moved, true, turn, ◌≡◌}
+use Rattle.node_ends.proofs.Words.{Bool, EndState, Give, LinkInput, Machine, Message, after_input, arith, frame_fetched, moved, true, turn, ◌≡◌}
 use Rattle.node_ends.proofs.Apart.{is_outside}
 
 moved_aside : (e : Machine) (b : Bool) (s : EndState) → (moved e b s).aside ≡ e.aside

@@ -7,8 +7,7 @@ use Rattle.node_ends.proofs.Words.{◌+◌, ◌==◌, ◌∷◌, ◌≡◌, ◌�
 use Rattle.shdlc_core.specs.declared.answers.Due.{Due}
 use Rattle.shdlc_core.specs.declared.answers.Due.TheVariants.{Rr as Rr_due, Rej as Rej_due, Rnr as Rnr_due, Rset as Rset_due, Ua as Ua_due}
 use Rattle.shdlc_core.specs.declared.answers.LinkState.TheVariants.{Waiting}
-use Rattle.shdlc_core.specs.Machine.{acknowledged, ahead, place_of, received, reset_with, tick_answer, ticked}
-use Rattle.shdlc_core.specs.Machine.{runs_timer}
+use Rattle.shdlc_core.specs.Machine.{acknowledged, ahead, place_of, received, reset_with, tick_answer, ticked, runs_timer}
 use Rattle.swp_base.specs.declared.control_frames.Kind.{Kind}
 use Rattle.swp_base.specs.declared.control_frames.Act.{Act}
 use Rattle.swp_act.specs.declared.ActEvent.TheVariants.{Tick as ActTick}

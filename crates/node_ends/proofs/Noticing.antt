@@ -2,7 +2,7 @@
 use Rattle.std.specs.Prelude.{nat_le}
 use Rattle.node_ends.proofs.Words.{Bool, Desk, DeskOf, IfSome, IsYoung, List, None, Option, Port, Reset, Some, Unanswered, after_input, ap, arith, asker_at}
 use Rattle.node_ends.proofs.Words.{creation_of_row, desk_shown, false, forgets, forgotten_at, if◌then◌else◌, is_late, is_over_at, not, notice_shown, option_map}
-use Rattle.node_ends.proofs.Words.{option_map_or, refl, reset_late, row_noticed, true, without_notice, ℕ, ◌&&◌, ◌<◌, ◌||◌, ◌∙◌, ◌≡◌}
+use Rattle.node_ends.proofs.Words.{option_map_or, refl, reset_late, row_noticed, true, without_notice, ℕ, ◌&&◌, ◌<◌, ◌∙◌, ◌≡◌}
 use Rattle.node_machine.specs.Controller.{creation_in}
 use Rattle.node_machine.specs.Parts.{Creation, Notice}
 use Rattle.node_deeds.specs.Shown.{awaited_row}

@@ -1,5 +1,5 @@
 -- The next frame of an end is fetched.
-use Rattle.node_ends.proofs.Words.{End, EndStandsFor, EndState, Fetch, Machine, PoolState, Seat, SeatBecomes, [], after_input, ap, arith, frame_fetched}
+use Rattle.node_ends.proofs.Words.{End, EndStandsFor, EndState, Fetch, Machine, PoolState, Seat, SeatBecomes, after_input, ap, arith, frame_fetched}
 use Rattle.node_ends.proofs.Words.{has_sent, kept_number, next_frame, refl, subst, sym, whole_acked, without_got, ◌∙◌, ◌≡◌}
 use Rattle.shdlc_core.specs.Machine.{fetched}
 use Rattle.node_ends.proofs.Blocks.{fetched_aside}

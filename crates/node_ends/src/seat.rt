@@ -1,6 +1,6 @@
 //! One end of a link of a node, and what the node keeps of it.
-ghost use Rattle.std.specs.Prelude.{◌≡◌, option_map};
-ghost use Rattle.node_ends.specs.Holding.{as_waiting, where_done};
+ghost use Rattle.std.specs.Prelude.{◌≡◌};
+ghost use Rattle.node_ends.specs.Holding.{where_done};
 
 use crate::inputs::LinkInput;
 use block_pool::{Chain, Pool};
@@ -140,7 +140,10 @@ impl Seat {
     {
         let report = self.side.take_read(pool, read);
         if report.got {
-            self.waiting = as_waiting(self.side.next_message());
+            self.waiting = match self.side.next_message() {
+                Some((pipe, chain)) => Some(Waiting { pipe, chain }),
+                None => None,
+            };
         }
         report
     }
@@ -287,15 +290,5 @@ impl Seat {
             LinkState::Waiting => false,
             LinkState::Down => false,
         }
-    }
-}
-
-// A message that was fetched waits.
-fn as_waiting(message: Option<(u8, Chain)>) -> Option<Waiting>
-    ensures { result ≡ option_map as_waiting message }
-{
-    match message {
-        Some((pipe, chain)) => Some(Waiting { pipe, chain }),
-        None => None,
     }
 }

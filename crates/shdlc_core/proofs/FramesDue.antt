@@ -1,5 +1,5 @@
 -- What the frame that is sent now carries.
-use Rattle.shdlc_core.proofs.Words.{CarriesNr, Control, Due, EndState, Fragment, I, List, Option, Some, [], arith, fragment_due, frame_due, refl, ℕ, ◌%◌, ◌≡◌}
+use Rattle.shdlc_core.proofs.Words.{CarriesNr, Control, Due, EndState, Fragment, I, List, Option, Some, arith, fragment_due, frame_due, refl, ℕ, ◌%◌, ◌≡◌}
 use Rattle.shdlc_core.specs.Machine.{expected}
 
 frame-nr_by : (e : EndState) (c : Control) (ds : List Due) (o : Option Fragment) → e.due ≡ ds → fragment_due e.session ≡ o →

@@ -274,29 +274,21 @@ impl Shdlc {
         ensures added { length self.new.due ≤ length self.old.due + 1 }
     {
         match control {
-            Control::I { ns, nr, info } => self.take_fragment(*ns, *nr, info),
+            Control::I { ns, nr, info } => {
+                let Some(count) = self.acknowledge(*nr) else {
+                    return Taken::nothing();
+                };
+                let accepted = self.receive(*ns, info);
+                Taken {
+                    acked: count,
+                    accepted,
+                    ..Taken::nothing()
+                }
+            }
             Control::S { kind, nr } => self.take_supervisory(*kind, *nr),
             Control::Rset { window, .. } => self.take_reset(*window),
             Control::Ua => self.take_acceptance(),
             Control::Act { .. } | Control::Clt => Taken::nothing(),
-        }
-    }
-
-    // Takes an I frame.
-    fn take_fragment(&mut self, ns: u8, nr: u8, info: &Info) -> Taken
-        requires { length self.old.due < 8 }
-        ensures stands { (e : EndState) → ShdlcStandsFor self.old e → ShdlcStandsFor self.new (taken e (Control.I ns nr info.now)) }
-        ensures answer { (e : EndState) → ShdlcStandsFor self.old e → result ≡ take_answer e (Control.I ns nr info.now) }
-        ensures added { length self.new.due ≤ length self.old.due + 1 }
-    {
-        let Some(count) = self.acknowledge(nr) else {
-            return Taken::nothing();
-        };
-        let accepted = self.receive(ns, info);
-        Taken {
-            acked: count,
-            accepted,
-            ..Taken::nothing()
         }
     }
 

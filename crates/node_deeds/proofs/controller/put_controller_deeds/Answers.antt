@@ -1,8 +1,7 @@
 use Rattle.std.proofs.lemmas.Bool.Decides.{nat_tests}
 use Rattle.std.proofs.lemmas.Iterator.Search.{any_from_yields_List}
-use Rattle.node_deeds.proofs.Words.{YieldsList-from_slice, arith, list_any, row_waits_for, rules, tests, true, ◌≡◌}
-use Rattle.node_deeds.proofs.Words.{None, Ok, Some, ap, controller_core, deeds_by_relay, deeds_shown, eqb, event_deeds, false, handled, ports_shown, relayed_to}
-use Rattle.node_deeds.proofs.Words.{sym, view_of, ◌&&◌, ◌∙◌}
+use Rattle.node_deeds.proofs.Words.{YieldsList-from_slice, arith, list_any, row_waits_for, rules, tests, true, ◌≡◌, None, Ok, Some, ap, controller_core}
+use Rattle.node_deeds.proofs.Words.{deeds_by_relay, deeds_shown, eqb, event_deeds, false, handled, ports_shown, relayed_to, sym, view_of, ◌&&◌, ◌∙◌}
 use Rattle.node_deeds.proofs.Control.{desk_sound, kind_waits, kind_commands, kind_tells, kind_replies, deeds_of_core, not_relayed, own_done}
 use Rattle.node_deeds.proofs.Views.{link_found, asks_shown, about_found}
 use Rattle.node_deeds.proofs.controller.put_controller_deeds.Goals.{else-pipe-eq-ADMINISTRATION_PIPE-via-then-pipe-eq-ADMINISTRATION_PIPE+else-any}

@@ -1,8 +1,10 @@
-use Rattle.node_ends.proofs.Words.{End, EndStandsFor, HoldsEnd, LinkReport, Machine, None, Option, Waiting, account_kept, after_input, ap, got_by, is_some}
-use Rattle.node_ends.proofs.Words.{lpdu_input, oldest, subst, sym, without_got, ◌∙◌, ◌≡◌}
+use Rattle.node_ends.proofs.Words.{End, EndStandsFor, HoldsEnd, LinkReport, Machine, None, Option, Waiting, account_kept, after_input, ap, arith, got_by, is_some}
+use Rattle.node_ends.proofs.Words.{lpdu_input, oldest, option_map, subst, sym, without_got, ◌∙◌, ◌≡◌}
 use Rattle.node_ends.proofs.Coming.{still_holds}
 use Rattle.node_ends.proofs.Moving.{call_moves}
 use Rattle.node_ends.proofs.Fetching.{fetches, may_take, none_got, none_came, none_waited, lpdu_told_apart, lpdu_is_outside, moves_on}
+use Rattle.node_ends.specs.Holding.{as_waiting}
+use Rattle.node_ends.proofs.seat.Seat.take.Goals.{in-None, in-Some}
 use Rattle.node_ends.proofs.seat.Seat.take.Goals as goal
 
 pub take_read-report-requires-clause-ready : goal.take_read-report-requires-clause-ready
@@ -10,8 +12,8 @@ take_read-report-requires-clause-ready c =
     let r = c.requires.stands in
     may_take c.args.pool.now c.args.self.now.side c.args.self.now.waiting r.0 r.1 c.requires.held
 
-pub returns-then-report-clause-stands : goal.returns-then-report-clause-stands
-returns-then-report-clause-stands c m lpdu h is =
+pub returns-after-next_message-clause-stands : goal.returns-after-next_message-clause-stands
+returns-after-next_message-clause-stands c m lpdu h is =
     let t = c.take_read-report in
     let k = c.args.self.now.side in
     let told = t.ensures.answer (without_got m) lpdu h.stands is ∙ lpdu_told_apart m lpdu in
@@ -25,18 +27,20 @@ returns-then-report-clause-stands c m lpdu h is =
     let f = c.next_message.ensures in
     let n : Machine = after_input m (lpdu_input lpdu) in
     let F : Option Waiting → Type 0 = λ o. HoldsEnd t.new.pool c.next_message.new.self o n in
-    subst F (sym c.as_waiting-self.ensures) (fetches (record {
+    let same : option_map as_waiting c.next_message.result ≡ c.match-next_message.self =
+    elim c.match-next_message.branch [ in-Some w ↦ grind arith | in-None w ↦ grind arith ] in
+    subst F same (fetches (record {
       stands = stands;
       next = f.stands t.new.pool n stands;
       accounts = f.accounts t.new.pool n stands accounts;
       answer = f.answer t.new.pool n stands;
     }))
 
-pub returns-then-report-clause-answer : goal.returns-then-report-clause-answer
-returns-then-report-clause-answer c m lpdu h is = c.take_read-report.ensures.answer (without_got m) lpdu h.stands is ∙ lpdu_told_apart m lpdu
+pub returns-after-next_message-clause-answer : goal.returns-after-next_message-clause-answer
+returns-after-next_message-clause-answer c m lpdu h is = c.take_read-report.ensures.answer (without_got m) lpdu h.stands is ∙ lpdu_told_apart m lpdu
 
-pub returns-then-report-clause-moves : goal.returns-then-report-clause-moves
-returns-then-report-clause-moves c =
+pub returns-after-next_message-clause-moves : goal.returns-after-next_message-clause-moves
+returns-after-next_message-clause-moves c =
     let t = c.take_read-report in
     let r = c.requires.stands in
     let f = c.next_message.ensures in
