@@ -3,8 +3,7 @@ use Rattle.node_core.proofs.Words.{ActEvent, AtEnd, BeginsStep, Bool, Deed, EndS
 use Rattle.node_core.proofs.Words.{Port, Role, Some, Work, [], act_answer, activated, after_input, all_come, ap, arith, false, find, find-map, flat_map}
 use Rattle.node_core.proofs.Words.{goes_through_ends, got_at, has_come, have_turns, input_at, map, option_map, passes, port_at, refl, report, reset_refusal}
 use Rattle.node_core.proofs.Words.{sent_all, settles, steps, subst, suc, sym, synced, true, unless_cut, zero, ℕ, ◌==◌, ◌∙◌, ◌∷◌, ◌≡◌}
-use Rattle.link_laws.specs.machine.Machine.{is_open}
-use Rattle.link_laws.specs.machine.Machine.{role_after}
+use Rattle.link_laws.specs.machine.Machine.{is_open, role_after}
 use Rattle.shdlc_core.specs.declared.answers.LinkState.TheVariants.{Down}
 use Rattle.shdlc_core.specs.Machine.{after_frames}
 use Rattle.link_laws.proofs.sessions.Ties.{fetched-phase}

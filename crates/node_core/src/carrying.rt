@@ -147,23 +147,6 @@ impl<N: Nv + Drop> Node<N> {
         self.notify(row.dest, About::Waits(row), &notice, watch);
     }
 
-    // ANY_OK was sent for the command that was committed last.
-    fn say_ok<W: Watch>(&mut self, watch: &mut W)
-        requires live { IsTrue self.old.store.journal.live }
-        ensures carried { Carries W.noted W.is_short (self.old, watch.old) (self.new, watch.new) (done 0 SaysOk) }
-        ensures same { self.new ≡ self.old }
-    {
-        let count = self.store.kept();
-        note(
-            watch,
-            Entry::AnyOk {
-                node: self.number,
-                count,
-            },
-            &[],
-        );
-    }
-
     // The message of this end, which came on this pipe, is dropped.
     fn drop_message<W: Watch>(&mut self, host: u8, pipe: u8, watch: &mut W)
         ensures carried { Carries W.noted W.is_short (self.old, watch.old) (self.new, watch.new) (done host (Drops pipe)) }
@@ -249,8 +232,14 @@ impl<N: Nv + Drop> Node<N> {
                 let _ = self.send(*to, *on, answer.as_slice(), watch);
                 Ran::Done
             }
+            // ANY_OK was sent for the command that was committed last.
             Deed::SaysOk => {
-                self.say_ok(watch);
+                let count = self.store.kept();
+                let said = Entry::AnyOk {
+                    node: self.number,
+                    count,
+                };
+                note(watch, said, &[]);
                 Ran::Done
             }
             Deed::Asks(row) => {

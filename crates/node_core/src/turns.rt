@@ -174,30 +174,6 @@ impl<N: Nv + Drop> Node<N> {
         );
     }
 
-    // The message that waits at the end of the link with this host, with its pipe and how many bytes of the buffer it has. It is read, unless
-    // it is the one that lies there.
-    #[inline(always)]
-    fn waiting(
-        &self,
-        host: u8,
-        lies: Option<InBuffer>,
-        buffer: &mut [u8; MESSAGE],
-    ) -> Option<(u8, usize)>
-        requires lies { LiesInBuffer self.now.ends buffer.old lies }
-        ensures waits { (ports : List Port) → EndsStandFor self.now.ends ports → got_at ports host ≡ message_read result buffer.new }
-        ensures inside { IfSome result (λ x. x.1 ≤ 4096) }
-    {
-        match lies {
-            Some(there) => {
-                if there.host == host {
-                    return Some((there.pipe, usize::from(there.len)));
-                }
-                self.ends.read(host, buffer)
-            }
-            None => self.ends.read(host, buffer),
-        }
-    }
-
     /// The message that waits at the end of the link with this host has its turn, where one does; then the end takes fragments again, unless
     /// the message is held back. The node is in order, and at most six control frames wait at this end to be sent. A
     /// message that waits lies in the buffer already, or none does.
@@ -227,7 +203,12 @@ impl<N: Nv + Drop> Node<N> {
         // The list comes first: it is long, and cleared twice where anything stands before it.
         let mut deeds = Deeds::new();
         let held = self.ends.is_held(host);
-        let Some((pipe, len)) = self.waiting(host, lies, buffer) else {
+        // The message is read, unless it is the one that lies in the buffer.
+        let waits = match lies {
+            Some(there) if there.host == host => Some((there.pipe, usize::from(there.len))),
+            _ => self.ends.read(host, buffer),
+        };
+        let Some((pipe, len)) = waits else {
             self.let_go(host, held);
             return Ran::Done;
         };

@@ -98,7 +98,15 @@ impl Seat {
     {
         match what {
             LinkInput::Frame(read) => {
-                let report = told.insert(self.take(pool, read));
+                let report = self.side.take_read(pool, read);
+                // The message that it brings waits. While one waits the end is held, so that none comes.
+                if report.got {
+                    self.waiting = match self.side.next_message() {
+                        Some((pipe, chain)) => Some(Waiting { pipe, chain }),
+                        None => None,
+                    };
+                }
+                let report = told.insert(report);
                 self.count(report);
             }
             LinkInput::Reset(window) => match self.side.reset(pool, window) {
@@ -121,31 +129,6 @@ impl Seat {
             }
         }
         Ok(())
-    }
-
-    // Takes what an LPDU says, and fetches the message that it brings. While a message waits here the end is held, so that none comes.
-    // At most six control frames wait to be sent.
-    #[inline(always)]
-    fn take(&mut self, pool: &mut Pool, read: &Result<Control, LpduFault>) -> LinkReport
-        requires stands { (m : Machine) × HoldsSeat pool.old self.old m }
-        requires held { WaitsHeld self.old.waiting self.old.side }
-        requires read { (lpdu : List ℕ) × (read.now ≡ control_of lpdu) }
-        requires room { controls_in self.old.side ≤ 6 }
-        ensures stands { (m : Machine) (lpdu : List ℕ) → HoldsSeat pool.old self.old m → read.now ≡ control_of lpdu
-            → HoldsSeat pool.new self.new (after_input m (lpdu_input lpdu)) }
-        ensures answer { (m : Machine) (lpdu : List ℕ) → HoldsSeat pool.old self.old m → read.now ≡ control_of lpdu
-            → result ≡ report_told (report m (lpdu_input lpdu)) }
-        ensures moves { Moves pool.old pool.new self.old.side self.new.side }
-        ensures rest { self.new ≡ record self.old { side = self.new.side; waiting = self.new.waiting } }
-    {
-        let report = self.side.take_read(pool, read);
-        if report.got {
-            self.waiting = match self.side.next_message() {
-                Some((pipe, chain)) => Some(Waiting { pipe, chain }),
-                None => None,
-            };
-        }
-        report
     }
 
     /// One tick of time, and what it did to the session is kept. At most six control frames wait to be sent. What is told of it is put into

@@ -1,10 +1,13 @@
-use Rattle.node_core.proofs.Words.{Asks, Drops, Ends, Give, Hears, Host, IsAnswered, IsInStep, List, Node, None, Orders, Release, Releases, SaysOk, Sends}
+use Rattle.node_core.proofs.Words.{[], not, sym, ◌++◌, ◌∙◌, ◌≡◌}
+use Rattle.node_core.proofs.Words.{Asks, Drops, Ends, Entry, Give, Hears, Host, IsAnswered, IsInStep, List, Node, None, Orders, Release, Releases, SaysOk, Sends}
 use Rattle.node_core.proofs.Words.{SetsErrors, Tells, ap, done, end_of, end_shown, ends_of, goes_on_with, handling, init_running, refl, subst, turn_at, ℕ, ◌∷◌}
 use Rattle.node_machine.specs.Parts.About.{Removed}
 use Rattle.node_machine.specs.Carrying.{notified}
 use Rattle.node_deeds.specs.Shown.{creation_of_row}
 use Rattle.node_deeds.specs.declared.deeds.Deed.TheVariants as kept
-use Rattle.node_core.proofs.Steps.{plainly, desk_changed, of_deed, silent_turn}
+use Rattle.node_core.proofs.Steps.{plain_noted, plainly, desk_changed, of_deed, silent_turn}
+use Rattle.trace_model.specs.declared.entry.Entry.TheVariants as entry
+use Rattle.journal_laws.specs.Journal.{count_of}
 use Rattle.node_core.proofs.Tasks.{command_changed, going_cut, going_writes, going_anyway}
 use Rattle.node_core.proofs.node.Node.carry_out.Goals as goal
 
@@ -26,9 +29,14 @@ returns-in-Sends-clause-carried g c start w u =
 
 pub returns-in-SaysOk-clause-carried : goal.returns-in-SaysOk-clause-carried
 returns-in-SaysOk-clause-carried g c start w u =
+    let k = u.core (u.power ∙ ap not c.requires.live) in
+    let is : entry.AnyOk c.args.self.now.number c.kept-count.result ≡ entry.AnyOk w.core.node (count_of w.core.journal) =
+    ap (λ (n : ℕ). entry.AnyOk n c.kept-count.result) (sym u.node)
+    ∙ (ap (λ (n : ℕ). entry.AnyOk w.core.node n) (c.kept-count.ensures ∙ ap count_of (sym k.journal))) in
     of_deed c.args.host (handling c.args.self.now (c.args.pipe, c.args.message.now)) c.args.deed.now kept.SaysOk c.in-SaysOk.is
-    (plainly g.N.Nv.writes (done c.args.host (SaysOk)) u c.requires.live (ap (λ (n : Node g.row.N.Denot). n.store) c.say_ok.ensures.same)
-    (c.say_ok.ensures.carried start w u) refl refl (λ plan. refl))
+    (plainly g.N.Nv.writes (done c.args.host (SaysOk)) u c.requires.live refl
+    (plain_noted (entry.AnyOk w.core.node (count_of w.core.journal)) refl u c.note.ensures.stays
+    (λ kept. c.note.ensures.noted kept ∙ ap (λ (e : Entry). g.W.Watch.noted c.args.watch.now ++ e ∷ []) is)) refl refl (λ plan. refl))
 
 pub returns-in-Asks-clause-carried : goal.returns-in-Asks-clause-carried
 returns-in-Asks-clause-carried g c start w u =

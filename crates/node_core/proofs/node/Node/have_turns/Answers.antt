@@ -1,4 +1,4 @@
-use Rattle.node_core.proofs.Words.{AreSendable, Bool, Brings, Handling, IsDecided, IsInStep, List, Message, Node, Option, Work, [], ap, deeds_shown, got_at}
+use Rattle.node_core.proofs.Words.{AreSendable, Bool, Brings, Handling, IsDecided, IsInStep, List, Message, Node, Option, Work, [], ap, arith, deeds_shown, got_at}
 use Rattle.node_core.proofs.Words.{handling, have_turns, lack, lack_shown, lets_go, message_read, needs, not, option_map, refl, subst, sym, take, ℕ, ◌∙◌, ◌∷◌}
 use Rattle.node_core.proofs.Words.{◌≡◌}
 use Rattle.node_deeds.specs.declared.deeds.Deed.{Deed}
@@ -6,13 +6,16 @@ use Rattle.node_core.proofs.Steps.{plainly}
 use Rattle.node_core.proofs.HavingTurns.{no_some, let_cut, let_writes, let_anyway, decided}
 use Rattle.node_core.proofs.Sendables.{got_at_sendable, hosts_low}
 use Rattle.node_core.proofs.Deciders.{own_host}
+use Rattle.node_core.proofs.node.Node.have_turns.Goals.{in-Some, in_default}
 use Rattle.node_core.proofs.node.Node.have_turns.Goals as goal
 
-pub returns-in_default-clause-carried : goal.returns-in_default-clause-carried
-returns-in_default-clause-carried g c start w u hosts few =
+pub returns-in_default-waits-clause-carried : goal.returns-in_default-waits-clause-carried
+returns-in_default-waits-clause-carried g c start w u hosts few =
     let h = c.args.host in
-    let none = c.waiting.ensures.waits w.ports u.ends
-    ∙ ap (λ (o : Option (ℕ × ℕ)). message_read o c.waiting.new.buffer) (no_some c.waiting.result c.in_default.not-Some) in
+    let read : got_at w.ports c.args.host ≡ message_read c.match-lies.waits c.match-lies.buffer =
+    elim c.match-lies.branch [ in-Some b ↦ grind (arith, c.requires.lies) | in_default b ↦ grind (arith, b.read-waits.ensures.waits w.ports u.ends) ] in
+    let none = read
+    ∙ ap (λ (o : Option (ℕ × ℕ)). message_read o c.match-lies.buffer) (no_some c.match-lies.waits c.in_default-waits.not-Some) in
     let P : List Message → Type 0 = λ ms. Brings g.N.Nv.writes c.args.self.now.store.journal.nv c.let_go.new.self.store.journal.nv
     (IsInStep c.let_go.new.self (g.W.Watch.noted c.args.watch.now) (g.W.Watch.is_short c.args.watch.now) start) (have_turns h ms) w in
     subst P (sym none)
@@ -24,7 +27,9 @@ deeds_for-requires-clause-sendable g c =
     let r = c.requires.may in
     let w : Work = r.1 in
     let u = r.2 in
-    let got = c.waiting.ensures.waits w.ports u.ends ∙ ap (λ (o : Option (ℕ × ℕ)). message_read o c.waiting.new.buffer) c.in-Some.is in
+    let read : got_at w.ports c.args.host ≡ message_read c.match-lies.waits c.match-lies.buffer =
+    elim c.match-lies.branch [ in-Some b ↦ grind (arith, c.requires.lies) | in_default b ↦ grind (arith, b.read-waits.ensures.waits w.ports u.ends) ] in
+    let got = read ∙ ap (λ (o : Option (ℕ × ℕ)). message_read o c.match-lies.buffer) c.in-Some-waits.is in
     let sendable = subst AreSendable got (got_at_sendable c.args.self.now.ends.pool c.args.self.now.ends.seats w.ports c.args.host u.ends.each) in
     sendable.0
 
@@ -33,7 +38,9 @@ deeds_for-requires-clause-own g c =
     let r = c.requires.may in
     let w : Work = r.1 in
     let u = r.2 in
-    let got = c.waiting.ensures.waits w.ports u.ends ∙ ap (λ (o : Option (ℕ × ℕ)). message_read o c.waiting.new.buffer) c.in-Some.is in
+    let read : got_at w.ports c.args.host ≡ message_read c.match-lies.waits c.match-lies.buffer =
+    elim c.match-lies.branch [ in-Some b ↦ grind (arith, c.requires.lies) | in_default b ↦ grind (arith, b.read-waits.ensures.waits w.ports u.ends) ] in
+    let got = read ∙ ap (λ (o : Option (ℕ × ℕ)). message_read o c.match-lies.buffer) c.in-Some-waits.is in
     λ some. own_host w c.args.host (λ none. some (sym u.node ∙ none)) r.3.0.own got ∙ u.node
 
 pub deeds_for-requires-clause-may : goal.deeds_for-requires-clause-may
@@ -46,9 +53,11 @@ turn_decided-requires-clause-decided g c =
     let w : Work = r.1 in
     let u = r.2 in
     let h = c.args.host in
-    let m : Message = (c.in-Some.pipe, take c.in-Some.len c.waiting.new.buffer) in
+    let m : Message = (c.in-Some-waits.pipe, take c.in-Some-waits.len c.match-lies.buffer) in
+    let read : got_at w.ports c.args.host ≡ message_read c.match-lies.waits c.match-lies.buffer =
+    elim c.match-lies.branch [ in-Some b ↦ grind (arith, c.requires.lies) | in_default b ↦ grind (arith, b.read-waits.ensures.waits w.ports u.ends) ] in
     let got : got_at w.ports h ≡ m ∷ [] =
-    c.waiting.ensures.waits w.ports u.ends ∙ ap (λ (o : Option (ℕ × ℕ)). message_read o c.waiting.new.buffer) c.in-Some.is in
+    read ∙ ap (λ (o : Option (ℕ × ℕ)). message_read o c.match-lies.buffer) c.in-Some-waits.is in
     let sendable = subst AreSendable got (got_at_sendable c.args.self.now.ends.pool c.args.self.now.ends.seats w.ports h u.ends.each) in
     let a : Handling = handling c.args.self.now m in
     let d = c.deeds_for in
@@ -71,9 +80,11 @@ turn_decided-requires-clause-decided g c =
 pub returns-clause-carried : goal.returns-clause-carried
 returns-clause-carried g c start w u order few =
     let h = c.args.host in
-    let m : Message = (c.in-Some.pipe, take c.in-Some.len c.waiting.new.buffer) in
+    let m : Message = (c.in-Some-waits.pipe, take c.in-Some-waits.len c.match-lies.buffer) in
+    let read : got_at w.ports c.args.host ≡ message_read c.match-lies.waits c.match-lies.buffer =
+    elim c.match-lies.branch [ in-Some b ↦ grind (arith, c.requires.lies) | in_default b ↦ grind (arith, b.read-waits.ensures.waits w.ports u.ends) ] in
     let got : got_at w.ports h ≡ m ∷ [] =
-    c.waiting.ensures.waits w.ports u.ends ∙ ap (λ (o : Option (ℕ × ℕ)). message_read o c.waiting.new.buffer) c.in-Some.is in
+    read ∙ ap (λ (o : Option (ℕ × ℕ)). message_read o c.match-lies.buffer) c.in-Some-waits.is in
     let sendable = subst AreSendable got (got_at_sendable c.args.self.now.ends.pool c.args.self.now.ends.seats w.ports h u.ends.each) in
     let a : Handling = handling c.args.self.now m in
     let d = c.deeds_for in
