@@ -48,20 +48,6 @@ pub(crate) fn refused_on(deeds: &mut Deeds, host: u8, pipe: u8, response: Respon
     answered(deeds, host, pipe, refused(response));
 }
 
-/// A command is committed and answered.
-pub(crate) fn committed(deeds: &mut Deeds, host: u8, pipe: u8, command: Command, message: Answer)
-    requires none { deeds.old.items ≡ [] }
-    ensures { deeds.new.items ≡ kept.Commits command ∷ kept.Sends host pipe message ∷ kept.SaysOk ∷ [] }
-{
-    deeds.push(Deed::Commits(command));
-    deeds.push(Deed::Sends {
-        host,
-        pipe,
-        message,
-    });
-    deeds.push(Deed::SaysOk);
-}
-
 /// The answer of the link management gate of an end, and REC_ERROR where it is set.
 pub(crate) fn link_answered(deeds: &mut Deeds, errors: u16, host: u8, pipe: u8, message: &[u8])
     requires pipe { pipe < 112 }

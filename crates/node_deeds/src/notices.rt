@@ -9,8 +9,8 @@ ghost use Rattle.node_deeds.specs.Shown.{Handling, deeds_shown};
 ghost use Rattle.node_deeds.specs.Cores.{IsReady, AreDoable};
 ghost use Rattle.node_deeds.specs.Hosts.{host_core};
 
-use crate::answering::{body_in, committed, refused_on};
-use crate::deeds::Deeds;
+use crate::answering::{body_in, refused_on};
+use crate::deeds::{Deed, Deeds};
 use crate::view::ADMINISTRATION_PIPE;
 use gate_answers::{
     ADM_NOTIFY_ALL_PIPE_CLEARED, ADM_NOTIFY_PIPE_CREATED, ADM_NOTIFY_PIPE_DELETED, IDENTITY_GATE,
@@ -66,13 +66,13 @@ fn accepts<N: Nv + Drop>(deeds: &mut Deeds, store: &mut Store<N>, host: u8, comm
     ensures unchanged { store.new ≡ store.old }
 {
     if store.room(&command) {
-        committed(
-            deeds,
+        deeds.push(Deed::Commits(command));
+        deeds.push(Deed::Sends {
             host,
-            ADMINISTRATION_PIPE,
-            command,
-            refused(Response::Ok),
-        )
+            pipe: ADMINISTRATION_PIPE,
+            message: refused(Response::Ok),
+        });
+        deeds.push(Deed::SaysOk);
     } else {
         refused_on(deeds, host, ADMINISTRATION_PIPE, Response::NotOk)
     }

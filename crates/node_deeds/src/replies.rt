@@ -10,7 +10,7 @@ ghost use Rattle.node_machine.specs.Controller.{decision_deeds, agreed, about_of
 ghost use Rattle.node_deeds.specs.Shown.{Handling, notice_shown, deeds_shown, creation_of_row};
 ghost use Rattle.node_deeds.specs.Cores.{controller_core, handled, IsReady, AreDoable, IsSoundDesk, IsSoundDecision, TellsFew};
 
-use crate::answering::{answered, committed, dropped, refused_on};
+use crate::answering::{answered, dropped, refused_on};
 use crate::deeds::{Deed, Deeds, ends_of};
 use crate::desks::{About, Desk};
 use crate::view::{ADMINISTRATION_PIPE, is_in};
@@ -48,7 +48,13 @@ pub(crate) fn put_decision<N: Nv + Drop>(
             notice,
         } => {
             if store.room(&command) {
-                committed(deeds, host, pipe, command, answer);
+                deeds.push(Deed::Commits(command));
+                deeds.push(Deed::Sends {
+                    host,
+                    pipe,
+                    message: answer,
+                });
+                deeds.push(Deed::SaysOk);
                 tell_hosts(deeds, tell, &notice);
             } else {
                 refused_on(deeds, host, pipe, Response::NotOk)

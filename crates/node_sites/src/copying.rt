@@ -1,11 +1,10 @@
 //! Copies of what nodes note, with the numbers of sessions.
-ghost use Rattle.std.specs.Prelude.{◌≡◌, ◌<◌, ◌++◌, ◌∷◌, [], ℕ, List, IfOk, IfSome, IsTrue, false};
+ghost use Rattle.std.specs.Prelude.{◌≡◌, ◌<◌, ◌++◌, ◌∷◌, [], ℕ, List, IfSome, IsTrue, false};
 ghost use Rattle.std.specs.Vec.{vec_len, vec_capacity};
 ghost use Rattle.trace_model.specs.Notes.{with_body};
 ghost use Rattle.node_sites.specs.Numbers.{with_swapped_number, session_at, swapped_number};
 
 use crate::noted::Sessions;
-use std::alloc::{AllocError, Global};
 use trace_model::{End, Entry, Octets};
 
 /// The number of the session of an end's link stands in place of 0, and 0 in place of that number, so that no two numbers become one.
@@ -23,18 +22,6 @@ pub(crate) fn session_noted(sessions: &Sessions, at: End, noted: u32) -> u32
     }
 }
 
-// A message of these bytes, in memory that was kept, where there is some.
-fn octets_of(alloc: Global, spares: &mut Vec<Octets>, body: &[u8]) -> Result<Octets, AllocError>
-    ensures { IfOk result (λ octets. octets ≡ body.now) }
-{
-    let Some(Octets { mut bytes }) = spares.pop() else {
-        return Octets::from_slice(alloc, body);
-    };
-    bytes.clear();
-    bytes.extend_from_slice(body)?;
-    Ok(Octets { bytes })
-}
-
 /// A copy of an entry whose form has a message is put behind the others, with these bytes as its message. Whether there was memory for the
 /// message; `false` for any other form. There is room for an entry.
 pub(crate) fn add_with_message(
@@ -48,8 +35,19 @@ pub(crate) fn add_with_message(
     ensures added { IsTrue result → entries.new.items ≡ entries.old.items ++ with_swapped_number (session_at sessions.now) (with_body body.now entry.now) ∷ [] }
     ensures full { result ≡ false → entries.new.items ≡ entries.old.items }
 {
-    let Ok(message) = octets_of(*entries.allocator(), spares, body) else {
-        return false;
+    // In memory that was kept, where there is some.
+    let message = match spares.pop() {
+        Some(Octets { mut bytes }) => {
+            bytes.clear();
+            if bytes.extend_from_slice(body).is_err() {
+                return false;
+            }
+            Octets { bytes }
+        }
+        None => match Octets::from_slice(*entries.allocator(), body) {
+            Ok(made) => made,
+            Err(_) => return false,
+        },
     };
     match entry {
         Entry::Sent {
