@@ -12,7 +12,7 @@ use trace_model::{End, Entry, Octets, Watch};
 
 impl<N: Nv + Drop> Node<N> {
     ghost use Rattle.node_core.specs.Running.{ran_so};
-    ghost use Rattle.std.specs.Prelude.{◌≡◌, ◌<◌, ◌∷◌, ℕ, true, false, List, [], map, length, IsTrue, IfErr, OnErr};
+    ghost use Rattle.std.specs.Prelude.{◌≡◌, ◌<◌, ◌∷◌, ℕ, true, List, [], map, length, IsTrue, IfErr, OnErr};
     ghost use Rattle.hcp_packet.specs.Packets.{IsSendable};
     ghost use Rattle.hci_tables.specs.Commands.{IsCommand};
     ghost use Rattle.gate_admin.specs.Decide.{ends_of};

@@ -32,7 +32,7 @@ impl<N: Nv + Drop> Node<N> {
     ghost use Rattle.node_deeds.specs.Cores.{AreDoable};
     ghost use Rattle.node_core.specs.Deeds.{handling};
     ghost use Rattle.node_core.specs.Handling.{has_turn};
-    ghost use Rattle.node_ends.specs.Ends.{EndsStandFor, FewAreDue, held_at, got_at, message_read};
+    ghost use Rattle.node_ends.specs.Ends.{EndsStandFor, FewAreDue, held_at, got_at};
     ghost use Rattle.node_core.specs.Nodes.{IsInStep, IsUsable, LiesInBuffer, IsInSomeStep, CarriesWhere, CarriesOutWhere};
     ghost use Rattle.node_core.specs.Bringing.{Brings};
     ghost use Rattle.node_core.specs.Faults.{CountsFaults};

@@ -1,16 +1,14 @@
 //! Deeds that answer.
-ghost use Rattle.std.specs.Prelude.{◌≡◌, ◌∷◌, [], ◌<◌, ◌≤◌, ◌^◌, IsTrue, IsSome, length};
-ghost use Rattle.hci_tables.specs.Commands.{IsCommand};
+ghost use Rattle.std.specs.Prelude.{◌≡◌, ◌∷◌, [], ◌<◌};
 ghost use Rattle.gate_answers.specs.Answers.{IsCommandMessage, answer_of, instruction_in, body_in};
 ghost use Rattle.gate_link.specs.Link.{link_served};
-ghost use Rattle.node_machine.specs.Controller.{answers_on, link_deeds};
+ghost use Rattle.node_machine.specs.Controller.{link_deeds};
 ghost use Rattle.node_deeds.specs.Shown.{Handling, deeds_shown};
 ghost use Rattle.node_deeds.specs.Cores.{AreDoable};
 ghost use Rattle.node_deeds.specs.declared.deeds.Deed.TheVariants as kept;
 
 use crate::deeds::{Deed, Deeds};
 use gate_answers::{Answer, Response, refused};
-use hci_tables::Command;
 
 /// The message is dropped.
 pub(crate) fn dropped(deeds: &mut Deeds, pipe: u8)

@@ -1,12 +1,11 @@
 //! What a controller does with a message of a host.
-ghost use Rattle.std.specs.Prelude.{◌≡◌, [], ℕ, ◌≤◌, ◌<◌, ◌==◌, ◌&&◌, if◌then◌else◌, List, length, None};
-ghost use Rattle.std.specs.List.{list_any};
+ghost use Rattle.std.specs.Prelude.{◌≡◌, [], ◌≤◌, ◌<◌, ◌==◌, ◌&&◌, List, length, None};
 ghost use Rattle.gate_answers.specs.Answers.{IsCommandMessage, instruction_in, body_in};
 ghost use Rattle.node_machine.specs.Parts.{Core, Port};
 ghost use Rattle.node_machine.specs.Controller.{has_link, gate_deeds, own_gate, goes_through, command_deeds, event_deeds, relay_deeds, view_of};
 ghost use Rattle.node_machine.specs.Controller.{is_command_message};
 ghost use Rattle.node_machine.specs.Controller.{controller_deeds};
-ghost use Rattle.node_deeds.specs.Shown.{ports_shown, row_waits_for, deeds_shown, AreSeen};
+ghost use Rattle.node_deeds.specs.Shown.{ports_shown, deeds_shown, AreSeen};
 ghost use Rattle.node_deeds.specs.Cores.{controller_core, handled, IsReady, IsCoreOf, AreDoable, AreSoundDesks};
 
 use crate::answering::{answered, dropped, link_answered, passed_on, refused_on};

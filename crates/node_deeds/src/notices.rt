@@ -1,5 +1,5 @@
 //! What a host does with a command of its controller on pipe 01.
-ghost use Rattle.std.specs.Prelude.{◌≡◌, [], ℕ, ◌≤◌, ◌<◌, ◌^◌, ◌==◌, ◌&&◌, Option};
+ghost use Rattle.std.specs.Prelude.{◌≡◌, [], ◌≤◌, ◌<◌, ◌==◌, ◌&&◌, Option};
 ghost use Rattle.hci_tables.specs.Commands.{IsCommand};
 ghost use Rattle.gate_answers.specs.Answers.{IsCommandMessage, instruction_in, body_in};
 ghost use Rattle.node_machine.specs.Carrying.{own_view};

@@ -1,5 +1,5 @@
 //! What a controller does where its administration gate has decided, and where a host has answered a notice.
-ghost use Rattle.std.specs.Prelude.{◌≡◌, [], ℕ, ◌≤◌, ◌<◌, ◌++◌, true, false, map, option_map, length};
+ghost use Rattle.std.specs.Prelude.{◌≡◌, [], ◌<◌, ◌++◌, true, false, map, option_map, length};
 ghost use Rattle.pipe_table.specs.declared.row.PipeRow.{PipeRow};
 ghost use Rattle.hci_tables.specs.Commands.{IsCommand};
 ghost use Rattle.gate_admin.specs.View.{has, hosts_where};
@@ -8,7 +8,7 @@ ghost use Rattle.node_machine.specs.Parts.Deed.{Tells};
 ghost use Rattle.node_machine.specs.Carrying.{own_view};
 ghost use Rattle.node_machine.specs.Controller.{decision_deeds, agreed, about_of, notice_deeds};
 ghost use Rattle.node_deeds.specs.Shown.{Handling, notice_shown, deeds_shown, creation_of_row};
-ghost use Rattle.node_deeds.specs.Cores.{controller_core, handled, IsReady, AreDoable, IsSoundDesk, IsSoundDecision, TellsFew};
+ghost use Rattle.node_deeds.specs.Cores.{controller_core, IsReady, AreDoable, IsSoundDesk, IsSoundDecision, TellsFew};
 
 use crate::answering::{answered, dropped, refused_on};
 use crate::deeds::{Deed, Deeds, ends_of};

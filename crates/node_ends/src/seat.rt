@@ -4,11 +4,9 @@ ghost use Rattle.node_ends.specs.Holding.{where_done};
 
 use crate::inputs::LinkInput;
 use block_pool::{Chain, Pool};
-use link_end::{End, LinkReport, ResetRefused, SendRefused};
+use link_end::{End, LinkReport, ResetRefused};
 use node_deeds::{About, Desk, Unanswered};
 use shdlc_core::LinkState;
-use swp_base::Control;
-use swp_lpdu::LpduFault;
 
 /// A message that came to an end and had no turn yet.
 #[derive(Drop)]
@@ -33,11 +31,10 @@ pub struct Seat {
 }
 
 impl Seat {
-    ghost use Rattle.std.specs.Prelude.{◌≡◌, ◌||◌, ◌&&◌, ◌≤◌, ◌<◌, ◌==◌, not, true, false, ℕ, List, None, is_some, length, IfSome};
+    ghost use Rattle.std.specs.Prelude.{◌≡◌, ◌||◌, ◌&&◌, ◌≤◌, ◌<◌, ◌==◌, not, true, false, None, is_some, length, IfSome};
     ghost use Rattle.std.specs.Prelude.{Some, Ok, MatchResult, OnOk};
     ghost use Rattle.block_pool.specs.Pool.{PoolState};
-    ghost use Rattle.link_laws.specs.machine.Machine.{LinkEnd as Machine, is_held, after_input, lpdu_input, report};
-    ghost use Rattle.swp_lpdu.specs.Controls.{control_of};
+    ghost use Rattle.link_laws.specs.machine.Machine.{LinkEnd as Machine, is_held, after_input, report};
     ghost use Rattle.link_end.specs.Reports.{report_told, reset_told};
     ghost use Rattle.link_laws.specs.sessions.Sessions.{is_up};
     ghost use Rattle.link_laws.specs.machine.Machine.Turn.{SetAside, Release};
@@ -49,7 +46,7 @@ impl Seat {
     ghost use Rattle.node_machine.specs.Node.{has_come, reset_late};
     ghost use Rattle.node_ends.specs.Ends.{SeatStandsFor, SeatBecomes, FewAreDue, IsHeldWhileOneWaits, late_told};
     ghost use Rattle.node_ends.specs.Inputs.{input_of_end, refusal_at, MayComeAt};
-    ghost use Rattle.node_ends.specs.Holding.{HoldsSeat, Moves, WaitsHeld, acked_since, acked_by_reset, where_done};
+    ghost use Rattle.node_ends.specs.Holding.{HoldsSeat, Moves, acked_since, acked_by_reset, where_done};
 
     /// A block of the end's owner for what goes out, which has this number, is set aside, where one is spare.
     pub(crate) fn set_aside(&mut self, pool: &mut Pool, owner: u8)

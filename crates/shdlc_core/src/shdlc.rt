@@ -4,7 +4,7 @@ ghost use Rattle.std.specs.Prelude.{MatchResult, None, false, true};
 ghost use Rattle.std.specs.Bool.{OnFalse};
 ghost use Rattle.shdlc_core.specs.Kept.{ShdlcStandsFor, frames_left, IsFragmentDue, frame_shown};
 ghost use Rattle.shdlc_core.specs.Machine.{EndState, new_end, begun, up_with, offered, offer_refusal, frame_due, fetched, acknowledged, received};
-ghost use Rattle.shdlc_core.specs.Machine.{fragment_accepted, place_of, gap_found, due_left, taken, take_answer, ticked, tick_answer, sent_again};
+ghost use Rattle.shdlc_core.specs.Machine.{fragment_accepted, place_of, due_left, taken, take_answer, ticked, tick_answer, sent_again};
 ghost use Rattle.shdlc_core.specs.Machine.{asked_again, waiting_from, no_session, reset_with, stopped, with_ready, nothing_ticked, all_frames, all_fetched};
 
 use crate::answers::{Due, FragmentDue, LinkState, OfferRefused, Taken, Ticked};
