@@ -39,8 +39,6 @@ module _ (region next out : List ℕ) (first from done count n block : ℕ) (at 
   -- its bytes are the chain's
   piece_byte : (j : ℕ) → j < count → get_or piece j 0 ≡ linked_byte region next first (from + (done + j))
   piece_byte j low =
-      let block_is : (from + done) / 32 ≡ (from + (done + j)) / 32 = omega (arith, one_block) in
-      let place_is : (32 * block + (from + done) % 32) + j ≡ 32 * block + (from + (done + j)) % 32 = omega (arith, one_block) in
       get_or-take n (drop (32 * block + (from + done) % 32) region) j 0 (omega (arith, is))
       ∙ (get_or-drop (32 * block + (from + done) % 32) region j 0
       ∙ (grind arith))
@@ -51,8 +49,7 @@ module _ (region next out : List ℕ) (first from done count n block : ℕ) (at 
     | inl front ↦ get_or_append_left (take done out) (piece ++ drop (done + length piece) out) 0 k (omega (arith, length-front))
         ∙ (get_or-take done out k 0 front ∙ before k front)
     | inr behind ↦
-        let j : done + (k - done) ≡ k = omega arith in
         get_or-append_right (take done out) (piece ++ drop (done + length piece) out) done k 0 length-front behind
         ∙ (get_or_append_left piece (drop (done + length piece) out) 0 (k - done) (omega (arith, length-piece))
-        ∙ (piece_byte (k - done) (omega arith) ∙ ap (λ i. linked_byte region next first (from + i)) j))
+        ∙ (piece_byte (k - done) (omega arith) ∙ ap (λ i. linked_byte region next first (from + i)) (omega arith)))
   ]

@@ -43,35 +43,26 @@ grown_held : (slots : List (Option Held)) (o b : ℕ) (bytes : List ℕ) → IsL
     → blocks_held (with_chain slots b o (held_bytes slots b ++ bytes)) o + blocks_for (length (held_bytes slots b))
     ≡ blocks_held slots o + blocks_for (length (held_bytes slots b) + length bytes)
 grown_held slots o b bytes live =
-    let low = slot_low slots b live.0 in
-    let changed = held_set slots b (Some (record { owner = o; bytes = held_bytes slots b ++ bytes })) o low in
     let before : blocks_in o (slot slots b) ≡ blocks_for (length (held_bytes slots b)) = grind arith in
     let after : blocks_in o (Some (record { owner = o; bytes = held_bytes slots b ++ bytes })) ≡ blocks_for (length (held_bytes slots b) + length bytes) =
     in_same o (held_bytes slots b ++ bytes) ∙ ap blocks_for (length-append (held_bytes slots b) bytes) in
-    omega (arith, changed, before, after)
+    omega (arith, (held_set slots b (Some (record { owner = o; bytes = held_bytes slots b ++ bytes })) o (slot_low slots b live.0)), before, after)
 
 grown_others : (slots : List (Option Held)) (o b p : ℕ) (bytes : List ℕ) → IsLiveAt slots o (Some b) → p ≢ o
     → blocks_held (with_chain slots b o bytes) p ≡ blocks_held slots p
 grown_others slots o b p bytes live apart =
-    let low = slot_low slots b live.0 in
-    let changed = held_set slots b (Some (record { owner = o; bytes = bytes })) p low in
     let before : blocks_in p (slot slots b) ≡ 0 = ap (blocks_in p) (live_slot slots o b live) ∙ in_other p o (held_bytes slots b) apart in
-    let after = in_other p o bytes apart in
-    omega (arith, changed, before, after)
+    omega (arith, (held_set slots b (Some (record { owner = o; bytes = bytes })) p (slot_low slots b live.0)), before, (in_other p o bytes apart))
 
 begun_held : (slots : List (Option Held)) (o b : ℕ) (bytes : List ℕ) → b < length slots → slot slots b ≡ None
     → blocks_held (with_chain slots b o bytes) o ≡ blocks_held slots o + blocks_for (length bytes)
 begun_held slots o b bytes low none =
-    let changed = held_set slots b (Some (record { owner = o; bytes = bytes })) o low in
-    let before : blocks_in o (slot slots b) ≡ 0 = ap (blocks_in o) none in
-    omega (arith, changed, before, in_same o bytes)
+    omega (arith, (held_set slots b (Some (record { owner = o; bytes = bytes })) o low), (ap (blocks_in o) none), in_same o bytes)
 
 begun_others : (slots : List (Option Held)) (o b p : ℕ) (bytes : List ℕ) → b < length slots → slot slots b ≡ None → p ≢ o
     → blocks_held (with_chain slots b o bytes) p ≡ blocks_held slots p
 begun_others slots o b p bytes low none apart =
-    let changed = held_set slots b (Some (record { owner = o; bytes = bytes })) p low in
-    let before : blocks_in p (slot slots b) ≡ 0 = ap (blocks_in p) none in
-    omega (arith, changed, before, in_other p o bytes apart)
+    omega (arith, (held_set slots b (Some (record { owner = o; bytes = bytes })) p low), (ap (blocks_in p) none), in_other p o bytes apart)
 
 no_blocks : blocks_for 0 ≡ 0
 no_blocks = refl
@@ -101,8 +92,7 @@ pub remove_held : (slots : List (Option Held)) (o : ℕ) (name : Option ℕ) →
     → blocks_held (removed_at slots name) o + blocks_for (length (named_bytes slots name)) ≡ blocks_held slots o
 remove_held slots o None live = omega (arith, no_blocks)
 remove_held slots o (Some b) live =
-    let low = slot_low slots b live.0 in
-    let changed = held_set slots b None o low in
+    let changed = held_set slots b None o (slot_low slots b live.0) in
     let before : blocks_in o (slot slots b) ≡ blocks_for (length (held_bytes slots b)) = grind arith in
     omega (arith, changed, before)
 
@@ -110,10 +100,8 @@ pub remove_others : (slots : List (Option Held)) (o : ℕ) (name : Option ℕ) (
     → blocks_held (removed_at slots name) p ≡ blocks_held slots p
 remove_others slots o None p live apart = refl
 remove_others slots o (Some b) p live apart =
-    let low = slot_low slots b live.0 in
-    let changed = held_set slots b None p low in
     let before : blocks_in p (slot slots b) ≡ 0 = ap (blocks_in p) (live_slot slots o b live) ∙ in_other p o (held_bytes slots b) apart in
-    omega (arith, changed, before)
+    omega (arith, (held_set slots b None p (slot_low slots b live.0)), before)
 
 -- a chain put back where one was removed
 pub again_held : (slots : List (Option Held)) (o q : ℕ) (name : Option ℕ) → IsLiveAt slots o name
@@ -142,8 +130,7 @@ module _ (pool : PoolState) (counted : IsCounted pool) (free : ℕ) (rest : AreF
   -- there are no more free blocks than all
   pub free_low : free ≤ 16384
   free_low =
-      let asides = sum_le (λ o. o.aside) (λ o. o.used) (record { quota = 0; used = 0; aside = 0 }) pool.owners aside_low in
-      omega (arith, rest, asides, counted.few_blocks)
+      omega (arith, rest, (sum_le (λ o. o.aside) (λ o. o.used) (record { quota = 0; used = 0; aside = 0 }) pool.owners aside_low), counted.few_blocks)
 
 module _ (pool : PoolState) (counted : IsCounted pool) (o : ℕ) (has : o < length pool.owners) where
   -- a quota is no more than all of them
@@ -287,7 +274,6 @@ passed_counted {pool} {o} {q} {name} {n} {old} {new} {slots} counted free rest c
     let between : PoolState = record { slots = removed_at pool.slots name; owners = set pool.owners o lowered; places = pool.places } in
     let nobody : Owner = record { quota = 0; used = 0; aside = 0 } in
     let one = given_counted counted free rest chain refl refl in
-    let low = chain_low pool counted o chain.has name chain.live in
     let still : q < length between.owners = omega (arith, taker.has, length-set pool.owners o lowered) in
     let fits : (get_or between.owners q nobody).used + n ≤ (get_or between.owners q nobody).quota = elim (cases_eq q o) [
       | inl same ↦
@@ -299,7 +285,7 @@ passed_counted {pool} {o} {q} {name} {n} {old} {new} {slots} counted free rest c
             ap (λ x. x.used) chain.counts,
             ap (λ x. x.quota) chain.counts,
             counted.within o,
-            low,
+            (chain_low pool counted o chain.has name chain.live),
             chain.blocks,
           )
       | inr apart ↦

@@ -25,21 +25,14 @@ take-join (x ∷ xs) (suc i) r =
 
 -- bytes written at once
 pub at_once : (bytes region : List ℕ) (place : ℕ) → place + length bytes ≤ length region → region_behind region place bytes ≡ written region place bytes
-at_once [] region place fits =
-    let e : place + 0 ≡ place = omega arith in
-    ap (λ n. take place region ++ drop n region) e ∙ take-append-drop place region
+at_once [] region place fits = ap (λ n. take place region ++ drop n region) (omega arith) ∙ take-append-drop place region
 at_once (x ∷ xs) region place fits =
-    let low : place < length region = omega arith in
     let after = set region place x in
-    let long : length after ≡ length region = length-set region place x in
-    let rest = at_once xs after (place + 1) (omega (arith, long)) in
-    let front : take (place + 1) after ≡ take place region ++ x ∷ [] = take_more_set region place x low in
-    let same : place + length (x ∷ xs) ≡ (place + 1) + length xs = omega arith in
     let behind : drop ((place + 1) + length xs) after ≡ drop (place + length (x ∷ xs)) region =
-    drop-set-lt ((place + 1) + length xs) region place x (omega arith) ∙ ap (λ n. drop n region) (sym same) in
+    drop-set-lt ((place + 1) + length xs) region place x (omega arith) ∙ ap (λ n. drop n region) (sym (omega arith)) in
     sym
-    (sym rest
-    ∙ (ap (λ ys. ys ++ (xs ++ drop ((place + 1) + length xs) after)) front
+    (sym (at_once xs after (place + 1) (omega (arith, (length-set region place x))))
+    ∙ (ap (λ ys. ys ++ (xs ++ drop ((place + 1) + length xs) after)) (take_more_set region place x (omega arith))
     ∙ (append_assoc (take place region) (x ∷ []) (xs ++ drop ((place + 1) + length xs) after)
     ∙ ap (λ ys. take place region ++ (x ∷ (xs ++ ys))) behind)))
 

@@ -54,12 +54,11 @@ kept_each X chain_of old new owner [] own each = record { own = tt; bytes = refl
 kept_each X chain_of old new owner (x ∷ xs) own each =
     let rest = kept_each X chain_of old new owner xs own.1 each.1 in
     let same = each.0.1 in
-    let f : X → ℕ = λ y. blocks_for (length (chain_bytes new (chain_of y))) in
     let g : X → ℕ = λ y. blocks_for (length (chain_bytes old (chain_of y))) in
     record {
       own = (record { live = each.0.0; owned = own.0.owned }, rest.own);
       bytes = ap (λ b. b ∷ all_bytes X chain_of new xs) same ∙ ap (λ bs. chain_bytes old (chain_of x) ∷ bs) rest.bytes;
-      blocks = sum_by-cons f x xs
+      blocks = sum_by-cons (λ y. blocks_for (length (chain_bytes new (chain_of y)))) x xs
           ∙ (ap (λ b. blocks_for (length b) + all_blocks X chain_of new xs) same
           ∙ (ap (λ n. blocks_for (length (chain_bytes old (chain_of x))) + n) rest.blocks ∙ sym (sum_by-cons g x xs)));
     }
@@ -94,14 +93,12 @@ used-with_used owners o n low =
 
 pub quota-with_used : (owners : List Owner) (o n : ℕ) → o < length owners → (owner_at (with_used owners o n) o).quota ≡ (owner_at owners o).quota
 quota-with_used owners o n low =
-    let nobody : Owner = record { quota = 0; used = 0; aside = 0 } in
     ap (λ (x : Owner). x.quota)
-    (get_or-set_same owners o (record { quota = (owner_at owners o).quota; used = n; aside = (owner_at owners o).aside }) nobody low)
+    (get_or-set_same owners o (record { quota = (owner_at owners o).quota; used = n; aside = (owner_at owners o).aside }) (grind arith) low)
 
 pub other-with_used : (owners : List Owner) (o n p : ℕ) → p ≢ o → owner_at (with_used owners o n) p ≡ owner_at owners p
 other-with_used owners o n p differ =
-    let nobody : Owner = record { quota = 0; used = 0; aside = 0 } in
-    get_or-set_other owners o p (record { quota = (owner_at owners o).quota; used = n; aside = (owner_at owners o).aside }) nobody differ
+    get_or-set_other owners o p (record { quota = (owner_at owners o).quota; used = n; aside = (owner_at owners o).aside }) (grind arith) differ
 
 pub length-with_used : (owners : List Owner) (o n : ℕ) → length (with_used owners o n) ≡ length owners
 length-with_used owners o n = length-set owners o (record { quota = (owner_at owners o).quota; used = n; aside = (owner_at owners o).aside })
@@ -119,9 +116,8 @@ pub with_used-with_used : (owners : List Owner) (o a b : ℕ) → o < length own
 with_used-with_used owners o a b low =
     let nobody : Owner = record { quota = 0; used = 0; aside = 0 } in
     let one : Owner = record { quota = (owner_at owners o).quota; used = a; aside = (owner_at owners o).aside } in
-    let two : Owner = record { quota = (owner_at owners o).quota; used = b; aside = (owner_at owners o).aside } in
     ap (λ (x : Owner). set (set owners o one) o (record { quota = x.quota; used = b; aside = x.aside })) (get_or-set_same owners o one nobody low)
-    ∙ set-set owners o one two
+    ∙ set-set owners o one (record { quota = (owner_at owners o).quota; used = b; aside = (owner_at owners o).aside })
 
 pub with_used-same : (owners : List Owner) (o : ℕ) → with_used owners o (owner_at owners o).used ≡ owners
 with_used-same owners o = let nobody : Owner = record { quota = 0; used = 0; aside = 0 } in set-get_or owners o nobody

@@ -1,5 +1,5 @@
 -- What is written as a unit is read again as the same LPDU.
-use Rattle.std.proofs.Common.{◌≡◌, ℕ, suc, ◌+◌, ◌-◌, ◌*◌, ◌/◌, ◌%◌, ◌≤◌, ◌<◌, true, false, List, [], ◌∷◌, ◌++◌, length, take, get_or, eqb, cond, refl, sym, ap}
+use Rattle.std.proofs.Common.{◌≡◌, ℕ, suc, ◌+◌, ◌-◌, ◌*◌, ◌/◌, ◌%◌, ◌≤◌, ◌<◌, true, false, List, [], ◌∷◌, ◌++◌, length, take, get_or, cond, refl, sym, ap}
 use Rattle.std.proofs.Common.{◌∙◌, subst, inl, inr, arith, append-nil, length-append, append_assoc}
 use Rattle.std.proofs.lemmas.Bool.{eq-eqb, ne_eqb, le-leb}
 use Rattle.std.specs.Prelude.{Bool, filter, map}
@@ -88,12 +88,9 @@ reads : (count : ℕ) (bytes seen p rest later : List ℕ) → IsUnderWay count 
 reads count bytes seen p [] later u says = absurd (omega (arith, u.more))
 reads count bytes seen p (b ∷ []) later u says =
     let last : unit_under_way seen ++ b ∷ [] ≡ 0 ∷ count ∷ bytes = ap (λ xs. xs ++ b ∷ []) u.front ∙ u.whole in (
-      keep (unit_given (b ∷ seen)) (unit_said (0 ∷ count ∷ bytes)) (units_given (b ∷ seen) later) (ap unit_said last) says,
+      (grind arith),
       ap emptied last ∙ unit_empties count bytes u.some u.most u.long,
     )
-  where
-    keep : (a s : Unit) (us : List Unit) → a ≡ s → says_something s ≡ true → filter says_something (a ∷ us) ≡ s ∷ filter says_something us
-    keep a s us e is = rw (e, is) refl
 reads count bytes seen p (b ∷ c ∷ rest) later u says =
     let whole : (p ++ b ∷ []) ++ c ∷ rest ≡ 0 ∷ count ∷ bytes = append_assoc p (b ∷ []) (c ∷ rest) ∙ u.whole in
     let next = part count bytes (p ++ b ∷ []) (c ∷ rest) u.some u.most u.long whole (omega arith) in
@@ -110,13 +107,9 @@ reads count bytes seen p (b ∷ c ∷ rest) later u says =
 tail_length : (lpdu : List ℕ) (high low : ℕ) → length (lpdu ++ high ∷ low ∷ []) ≡ length lpdu + 2
 tail_length lpdu high low = length-append lpdu (high ∷ low ∷ [])
 
-checked_with : (bytes : List ℕ) (want got : ℕ) → want ≡ crc_of (take (length bytes - 2) bytes)
-    → got ≡ 256 * get_or bytes (length bytes - 2) 0 + get_or bytes (length bytes - 1) 0 → want ≡ got → checked bytes ≡ Frame (take (length bytes - 2) bytes)
-checked_with bytes want got w g h = rw (← w, ← g, eq-eqb want got h) refl
-
 checked_again : (lpdu : List ℕ) (crc : ℕ) → crc ≡ crc_of lpdu → checked (lpdu ++ crc / 256 ∷ crc % 256 ∷ []) ≡ Frame lpdu
 checked_again lpdu crc is =
-    checked_with (lpdu ++ crc / 256 ∷ crc % 256 ∷ []) crc crc (is ∙ ap crc_of (sym body)) value refl ∙ ap Frame body
+    (rw (← (is ∙ ap crc_of (sym body)), ← value, eq-eqb crc crc refl) refl) ∙ ap Frame body
   where
     long : length (lpdu ++ crc / 256 ∷ crc % 256 ∷ []) ≡ length lpdu + 2
     long = tail_length lpdu (crc / 256) (crc % 256)
@@ -153,14 +146,11 @@ whole_unit (x ∷ lpdu) h =
     ∙ checked_again (x ∷ lpdu) (crc_of (x ∷ lpdu)) refl
 
 says_checked : (bytes : List ℕ) → says_something (checked bytes) ≡ true
-says_checked bytes = by_crc (crc_of (take (length bytes - 2) bytes)) (256 * get_or bytes (length bytes - 2) 0 + get_or bytes (length bytes - 1) 0)
+says_checked bytes = grind arith
   where
     by : (b : Bool) (want got : ℕ) → says_something (cond b (Frame (take (length bytes - 2) bytes)) (Refused (Crc want got))) ≡ true
     by true want got = refl
     by false want got = refl
-
-    by_crc : (want got : ℕ) → says_something (cond (eqb want got) (Frame (take (length bytes - 2) bytes)) (Refused (Crc want got))) ≡ true
-    by_crc want got = by (eqb want got) want got
 
 says_unit : (count : ℕ) (bytes : List ℕ) → 0 < count → count ≤ 30 → length bytes ≡ count + 2 → says_something (unit_said (0 ∷ count ∷ bytes)) ≡ true
 says_unit count [] low high long = absurd (omega (arith, long))

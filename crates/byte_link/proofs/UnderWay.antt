@@ -59,8 +59,7 @@ goes_on (b ∷ bytes) seen q is p =
     let whole : (q ++ b ∷ []) ++ bytes ≡ q ++ b ∷ bytes = append_assoc q (b ∷ []) bytes in
     let parts : IsPartial ((q ++ b ∷ []) ++ bytes) = subst IsPartial (sym whole) p in
     let now = part_says (q ++ b ∷ []) (front_of_part (q ++ b ∷ []) bytes parts) in
-    let next : unit_under_way (b ∷ seen) ≡ q ++ b ∷ [] = ap (λ xs. emptied (xs ++ b ∷ [])) is ∙ kept (q ++ b ∷ []) now.1 in
-    let further = goes_on bytes (b ∷ seen) (q ++ b ∷ []) next parts in (
+    let further = goes_on bytes (b ∷ seen) (q ++ b ∷ []) (ap (λ xs. emptied (xs ++ b ∷ [])) is ∙ kept (q ++ b ∷ []) now.1) parts in (
       skip (unit_given (b ∷ seen)) (units_given (b ∷ seen) bytes) (ap (λ xs. unit_said (xs ++ b ∷ [])) is ∙ now.0) ∙ further.0,
       ap unit_under_way (onto b bytes seen) ∙ (further.1 ∙ whole),
     )
@@ -89,8 +88,7 @@ all_lost : (bytes seen : List ℕ) → IsLost (unit_under_way seen) → (units_b
 all_lost [] seen over = (refl, over)
 all_lost (b ∷ bytes) seen over =
     let now = lost_says (unit_under_way seen) b over in
-    let next : unit_under_way (b ∷ seen) ≡ unit_under_way seen ++ b ∷ [] = kept (unit_under_way seen ++ b ∷ []) now.1 in
-    let further = all_lost bytes (b ∷ seen) (subst IsLost (sym next) (lost_still (unit_under_way seen) b over)) in (
+    let further = all_lost bytes (b ∷ seen) (subst IsLost (sym (grind arith)) (lost_still (unit_under_way seen) b over)) in (
       skip (unit_given (b ∷ seen)) (units_given (b ∷ seen) bytes) now.0 ∙ further.0,
       subst (λ came. IsLost (unit_under_way came)) (sym (onto b bytes seen)) further.1,
     )
@@ -119,15 +117,13 @@ pub still_partial : (unit bytes : List ℕ) (before few : ℕ) → IsPartial uni
 still_partial unit bytes before few partial all within = elim (cases_lt (length unit) before) [
   | inl longer ↦ longer_one longer
   | inr over ↦
-      let none : few ≡ 0 = omega (arith, over, within) in
-      subst IsPartial (sym (ap (λ xs. unit ++ xs) (none_of bytes few none) ∙ append-nil unit)) partial
+      subst IsPartial (sym (ap (λ xs. unit ++ xs) (none_of bytes few (omega (arith, over, within))) ∙ append-nil unit)) partial
 ]
   where
     longer_one : length unit < before → IsPartial (unit ++ take few bytes)
     longer_one longer =
-        let sum : before ≡ length unit + (few + (before - length unit - few)) = omega (arith, longer, within) in
         let is : take before (unit ++ bytes) ≡ (unit ++ take few bytes) ++ take (before - length unit - few) (drop few bytes) =
-        ap (λ n. take n (unit ++ bytes)) sum
+        ap (λ n. take n (unit ++ bytes)) (omega (arith, longer, within))
         ∙ (take_behind unit bytes (few + (before - length unit - few))
         ∙ (ap (λ xs. unit ++ xs) (take-add few (before - length unit - few) bytes)
         ∙ sym (append_assoc unit (take few bytes) (take (before - length unit - few) (drop few bytes))))) in

@@ -1,6 +1,5 @@
 -- What pages hold, and what a write and its steps make of it.
-use Rattle.std.proofs.lemmas.List.{take-take}
-use Rattle.std.proofs.lemmas.List.{length-append, get_or_append_left, get_or-append_right}
+use Rattle.std.proofs.lemmas.List.{take-take, length-append, get_or_append_left, get_or-append_right}
 use Rattle.flash_nv.proofs.Words.{AreCells, ArePages, AreSteps, Bool, HasSector, IsClean, IsFrontWritten, IsKeptBeside, IsPut, List, Map, None, Option, Some}
 use Rattle.flash_nv.proofs.Words.{ap, ap₂, arith, cases_Bool, cases_eq, cases_lt, content_byte, data_byte, drop, eq-eqb, eqb-true, ext_get_or, false}
 use Rattle.flash_nv.proofs.Words.{false≢true, get_or-drop, get_or-map-range_with_len, get_or-set_other, get_or-set_same, get_or-take, header_at, if◌then◌else◌}
@@ -37,7 +36,7 @@ kept_by : (old new : List ℕ) (p t : ℕ) → AreCells old → AreCells new →
 kept_by old new p t before after others unused same = record {
   page = same;
   version = ap (version_on new) same ∙ version_same (page_below old t 272) refl;
-  bytes_are = λ j small. ap (λ o. data_byte new o j) same ∙ byte_same j small (page_below old t 272) refl;
+  bytes_are = λ j small. ap (λ o. data_byte new o j) same ∙ (grind arith);
 }
   where
     other : (r : ℕ) → page_of old t ≡ Some r → r ≡ p → ⊥
@@ -47,9 +46,6 @@ kept_by old new p t before after others unused same = record {
     version_same None e = refl
     version_same (Some r) e =
         ap version_of (headers_stay old new p before after others r ((page_below-best old t 272).found r e).0 (other r e))
-
-    byte_same : (j : ℕ) → j < 256 → (o : Option ℕ) → page_of old t ≡ o → data_byte new o j ≡ data_byte old o j
-    byte_same j small o e = grind arith
 
 -- where no page became one of a sector, it is kept
 kept_where : (old new : List ℕ) (p t : ℕ) → AreCells old → AreCells new → OthersStay old new p → (page_of old t ≡ Some p → ⊥)
@@ -154,9 +150,6 @@ piece_pages old mid new pages page p s version from bytes whole same put written
 pub in_sector : (at s from : ℕ) → at ≡ 256 * s + from → from < 256 → (at / 256 ≡ s) × (at % 256 ≡ from)
 in_sector at s from is small = (omega arith, omega arith)
 
-content_at : (cells : List ℕ) (at s j : ℕ) → at ≡ 256 * s + j → j < 256 → content_byte cells at ≡ sector_byte cells s j
-content_at cells at s j is small = grind arith
-
 -- a byte that is beside a written piece is as it was
 piece_beside : (ok : Bool) (mid new : List ℕ) (s from : ℕ) (piece : List ℕ) → IsSectorWritten ok mid new s from piece → (i : ℕ) → i < 65536
     → (i < 256 * s + from) ⊎ (256 * s + from + length piece ≤ i) → content_byte new i ≡ content_byte mid i
@@ -179,7 +172,7 @@ pub front_more : (old mid new : List ℕ) (at : ℕ) (bytes : List ℕ) (done le
 front_more old mid new at bytes done len s from place inside some room fits size front written = record {
   kept = front_beside true old mid new at bytes done s from piece place (omega (arith, size)) front written;
   there = λ i small. by_place i small (cases_lt i done);
-  behind = λ t small out. kept_behind t small (is_other t out) (front.behind t small (was_behind t out));
+  behind = λ t small out. kept_behind t small (is_other t out) (front.behind t small (grind arith));
 }
   where
     piece : List ℕ
@@ -190,20 +183,14 @@ front_more old mid new at bytes done len s from place inside some room fits size
         piece_beside true mid new s from piece written (at + i) (omega arith) (inl (omega arith)) ∙ front.there i before
     by_place i small (inr now) =
         let j : at + i ≡ 256 * s + (from + (i - done)) = omega arith in
-        content_at new (at + i) s (from + (i - done)) j (omega arith) ∙ written.there refl (i - done) (omega (arith, size))
+        (grind arith) ∙ written.there refl (i - done) (omega (arith, size))
         ∙ part-at bytes done (done + len) (i - done) (omega arith) ∙ ap (slice_index bytes) (omega arith)
-
-    was_behind : (t : ℕ) → (done + len ≡ 0) ⊎ (at + (done + len) ≤ 256 * t) → (done ≡ 0) ⊎ (at + done ≤ 256 * t)
-    was_behind t a = grind arith
 
     is_other : (t : ℕ) → (done + len ≡ 0) ⊎ (at + (done + len) ≤ 256 * t) → t ≡ s → ⊥
     is_other t a e = grind arith
 
-    joined : (t : ℕ) → IsSectorKept mid new t → IsSectorKept old mid t → IsSectorKept old new t
-    joined t x y = record { page = x.page ∙ y.page; version = x.version ∙ y.version; bytes_are = λ k small. x.bytes_are k small ∙ y.bytes_are k small }
-
     kept_behind : (t : ℕ) → t < 256 → (t ≡ s → ⊥) → IsSectorKept old mid t → IsSectorKept old new t
-    kept_behind t small other before = joined t (written.others t small other) before
+    kept_behind t small other before = grind arith
 
 -- a sector that is to be written and has the last version had it before
 pub spent_before : (old mid new : List ℕ) (at : ℕ) (bytes : List ℕ) (done s from : ℕ) → at + done ≡ 256 * s + from → from < 256 → done < length bytes
@@ -260,25 +247,17 @@ piece_is_laid cells s at from bytes done len place small_from is more edge size 
         → piece_byte cells s from piece j ≡ laid_byte cells s at bytes j
     beside a b = grind arith
 
-    below : j < from → (done ≡ 0) ⊎ (from ≡ 0) → (256 * s + j < at) ⊎ (at + length bytes ≤ 256 * s + j)
-    below low a = grind arith
-
     by_high : from ≤ j → (j < from + len) ⊎ (from + len ≤ j) → piece_byte cells s from piece j ≡ laid_byte cells s at bytes j
     by_high low (inl high) =
-        let e : done + (j - from) ≡ 256 * s + j - at = omega arith in
         ap (λ t. if t then slice_index piece (j - from) else sector_byte cells s j) (within-true from (length piece) j low (omega (arith, size)))
-        ∙ part-at bytes done (done + len) (j - from) (omega arith) ∙ ap (slice_index bytes) e
+        ∙ part-at bytes done (done + len) (j - from) (omega arith) ∙ ap (slice_index bytes) (omega arith)
         ∙ ap (λ t. if t then slice_index bytes (256 * s + j - at) else sector_byte cells s j)
         (sym (within-true at (length bytes) (256 * s + j) (omega arith) (omega arith)))
     by_high low (inr past) = beside (inr (omega (arith, size))) (inr (omega arith))
 
     by_low : (j < from) ⊎ (from ≤ j) → piece_byte cells s from piece j ≡ laid_byte cells s at bytes j
-    by_low (inl low) = beside (inl low) (below low edge)
+    by_low (inl low) = beside (inl low) (grind arith)
     by_low (inr low) = by_high low (cases_lt j (from + len))
-
--- the sector that comes next
-next_sector : (at done s from : ℕ) → at + done ≡ 256 * s + from → from < 256 → (done ≡ 0) ⊎ (from ≡ 0) → at / 256 + sectors at done ≡ s
-next_sector at done s from place small edge = grind arith
 
 more_sectors : (at done len s from : ℕ) → at + done ≡ 256 * s + from → from + len ≤ 256 → 0 < len → (done ≡ 0) ⊎ (from ≡ 0)
     → sectors at (done + len) ≡ suc (sectors at done)
@@ -294,7 +273,7 @@ pub steps_more : (old mid new : List ℕ) (first map last : Map) (at : ℕ) (byt
     → AreSteps (sectors at (done + len)) at bytes old first new last
 steps_more old mid new first map last at bytes done len s from place small is more edge size so_far step =
     subst (λ n. AreSteps n at bytes old first new last) (sym (more_sectors at done len s from place (omega arith) (omega arith) edge))
-    (mid, map, so_far, subst (λ t. IsStep mid new map last t (laid_byte mid t at bytes)) (sym (next_sector at done s from place small edge)) laid)
+    (mid, map, so_far, subst (λ t. IsStep mid new map last t (laid_byte mid t at bytes)) (sym (grind arith)) laid)
   where
     laid : IsStep mid new map last s (laid_byte mid s at bytes)
     laid = record {

@@ -45,10 +45,7 @@ all_counted (b ∷ used) each =
 -- where all but the pages from `from` on and those below it are used, all are
 pub all_used : {C : Type 0} (used : List Bool) (from : ℕ) → length used ≡ 272 → ((q : ℕ) → 0 ≤ q → q < from → slice_index_or used q true ≡ true)
     → ((q : ℕ) → from ≤ q → q < 272 → slice_index_or used q true ≡ true) → count_by (λ b. b) used ≤ 256 → C
-all_used used from len low high few = absurd (omega (arith, all_counted used (λ q small. by_place q small (cases_lt q from)), few, len))
-  where
-    by_place : (q : ℕ) → q < length used → (q < from) ⊎ (from ≤ q) → slice_index_or used q true ≡ true
-    by_place q small a = grind arith
+all_used used from len low high few = absurd (omega (arith, all_counted used (λ q small. (grind arith)), few, len))
 
 -- one more page is marked
 pub mark_used : (pages : List (Option ℕ)) (used : List Bool) (s : ℕ) (o : Option ℕ) → s < 256 → slice_index_or pages s None ≡ o
@@ -91,8 +88,7 @@ mark_marked pages used s o at before t p small is = by_sector (cases_lt t s)
     by_sector (inl less) = keeps o (before t p less is)
     by_sector (inr more) =
         let same : t ≡ s = omega arith in
-        let one : o ≡ Some p = sym at ∙ ap (λ n. slice_index_or pages n None) (sym same) ∙ is in
-        subst (λ u. slice_index_or (marked used u) p true ≡ true) (sym one) (makes p)
+        subst (λ u. slice_index_or (marked used u) p true ≡ true) (sym (sym at ∙ ap (λ n. slice_index_or pages n None) (sym same) ∙ is)) (makes p)
 
 pub mark_counted : (used : List Bool) (o : Option ℕ) (n : ℕ) → ((p : ℕ) → o ≡ Some p → p < length used) → count_by (λ b. b) used ≤ n
     → count_by (λ b. b) (marked used o) ≤ n + 1

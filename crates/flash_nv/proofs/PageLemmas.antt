@@ -1,7 +1,7 @@
 -- Which page has the data of a sector.
 use Rattle.std.proofs.Common.{◌≡◌, ◌⊎◌, inl, inr, ℕ, ◌<◌, ◌≤◌, suc, zero, Bool, true, false, ◌&&◌, ◌==◌, if◌then◌else◌, List, Some, None, Option, sym, refl, ap}
 use Rattle.std.proofs.Common.{◌∙◌, subst, arith}
-use Rattle.std.proofs.lemmas.Bool.{cases_Bool, cases_eq, false≢true}
+use Rattle.std.proofs.lemmas.Bool.{cases_eq, false≢true}
 use Rattle.flash_nv.specs.Pages.{header_at, is_valid, sector_of, version_of, is_page_of, is_newer, page_below, page_of, version_on}
 
 -- a page's version
@@ -37,9 +37,6 @@ pub page_below-zero : (cells : List ℕ) (sector : ℕ) → page_below cells sec
 unfolding page_below
 page_below-zero cells sector = refl
 
-no_better_same : (cells : List ℕ) (p : ℕ) → IsNoBetter cells p p
-no_better_same cells p = inr (refl, omega arith)
-
 -- one more page
 step : (cells : List ℕ) (s n : ℕ) (o : Option ℕ) → IsBest cells s n o
     → IsBest cells s (suc n) (if is_page_of cells s n && is_newer cells o n then Some n else o)
@@ -67,11 +64,8 @@ best-unique cells s n (Some p) (Some q) x y =
 pub record IsFaded (old new : List ℕ) (s : ℕ) : Type 0 where
   pub was : (q : ℕ) → q < 272 → is_page_of new s q ≡ true → header_at new q ≡ header_at old q
 
-and_first : (a b : Bool) → a && b ≡ true → a ≡ true
-and_first a b e = grind arith
-
 pub of_is_valid : (cells : List ℕ) (s p : ℕ) → is_page_of cells s p ≡ true → is_valid (header_at cells p) ≡ true
-of_is_valid cells s p e = and_first (is_valid (header_at cells p)) (sector_of (header_at cells p) == s) e
+of_is_valid cells s p e = grind arith
 
 -- where no page became one of a sector, and its page has its header still, that is its page still
 pub best_stays : (old new : List ℕ) (s : ℕ) (o : Option ℕ) → IsFaded old new s → ((p : ℕ) → o ≡ Some p → header_at new p ≡ header_at old p)
@@ -79,14 +73,11 @@ pub best_stays : (old new : List ℕ) (s : ℕ) (o : Option ℕ) → IsFaded old
 best_stays old new s o faded stays b = record {
   found = λ p e. let f = b.found p e in (f.0, ap (of_header s) (stays p e) ∙ f.1);
   best = grind arith;
-  none = λ e q small. by_test q small e (cases_Bool (is_page_of new s q));
+  none = λ e q small. (grind arith);
 }
   where
     better : (p q : ℕ) → version_at new q ≡ version_at old q → version_at new p ≡ version_at old p → IsNoBetter old p q → IsNoBetter new p q
     better p q a b c = grind arith
-
-    by_test : (q : ℕ) → q < 272 → o ≡ None → (is_page_of new s q ≡ true) ⊎ (is_page_of new s q ≡ false) → is_page_of new s q ≡ false
-    by_test q small e a = grind arith
 
 pub page_stays : (old new : List ℕ) (s : ℕ) → IsFaded old new s → ((p : ℕ) → page_of old s ≡ Some p → header_at new p ≡ header_at old p)
     → page_of new s ≡ page_of old s
@@ -108,7 +99,7 @@ page_replaced old new s p small holds greater others = best-unique new s 272 (pa
     by_best q o b less below of same = grind arith
 
     by_page : (q : ℕ) → q < 272 → is_page_of new s q ≡ true → (q ≡ p) ⊎ (q ≡ p → ⊥) → IsNoBetter new p q
-    by_page q below of (inl at) = subst (λ m. IsNoBetter new m q) at (no_better_same new q)
+    by_page q below of (inl at) = subst (λ m. IsNoBetter new m q) at (grind arith)
     by_page q below of (inr apart) =
         let same = others q below apart in
         by_best q (page_below old s 272) (page_below-best old s 272) greater below (sym (ap (of_header s) same) ∙ of) (ap version_of same)

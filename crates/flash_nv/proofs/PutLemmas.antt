@@ -177,8 +177,7 @@ remade_by_parts cells xs at len byte size inside outside = remade_by cells xs at
 
     by_high : (k : ℕ) → at ≤ k → (k < at + len) ⊎ (at + len ≤ k) → slice_index xs k ≡ (if is_in_range at len k then byte k else slice_index cells k)
     by_high k low (inl high) =
-        let e : at + (k - at) ≡ k = omega arith in
-        subst (λ n. slice_index xs n ≡ byte n) e (inside (k - at) (omega arith))
+        subst (λ n. slice_index xs n ≡ byte n) (omega arith) (inside (k - at) (omega arith))
         ∙ ap (λ b. if b then byte k else slice_index cells k) (sym (within-true at len k low high))
     by_high k low (inr past) = out k (inr past)
 
@@ -209,11 +208,8 @@ mixed-byte o w m old whole = or_lt 8 (bit_and o (255 - m)) (bit_and w m) (omega 
 pub remade-cells : (cells : List ℕ) (at len : ℕ) (byte : ℕ → ℕ) → AreCells cells → ((i : ℕ) → byte i < 256) → AreCells (remade cells at len byte)
 remade-cells cells at len byte old each = record { size = length-remade cells at len byte ∙ old.size; bytes = λ i. by_place i (cases_lt i (length cells)) }
   where
-    by_test : (i : ℕ) (b : Bool) → (if b then byte i else slice_index cells i) < 256
-    by_test i b = grind arith
-
     by_place : (i : ℕ) → (i < length cells) ⊎ (length cells ≤ i) → slice_index (remade cells at len byte) i < 256
-    by_place i (inl small) = subst (λ b. b < 256) (sym (remade-at cells at len byte i small)) (by_test i (is_in_range at len i))
+    by_place i (inl small) = subst (λ b. b < 256) (sym (remade-at cells at len byte i small)) (grind arith)
     by_place i (inr past) =
         subst (λ b. b < 256) (sym (get_or_past (remade cells at len byte) i 0 (subst (λ m. m ≤ i) (sym (length-remade cells at len byte)) past)))
         (omega arith)
@@ -232,30 +228,21 @@ mixed-bit o w m k mask small = by_bit (cases_lt (bit_at m k) 1)
         ∙ ap (λ n. max n (bit_at (bit_and w m) k)) (bit_at_and o (255 - m) k ∙ ap (min (bit_at o k)) (bit_at_not w8 m k mask small))
         ∙ ap (max (min (bit_at o k) (1 - bit_at m k))) (bit_at_and w m k)
 
-    kept : (a b c : ℕ) → a < 2 → c < 1 → max (min a (1 - c)) (min b c) ≡ a
-    kept a b c bound none = omega arith
-
-    made : (a b c : ℕ) → b < 2 → c < 2 → 1 ≤ c → max (min a (1 - c)) (min b c) ≡ b
-    made a b c bound two some = omega arith
-
     by_bit : (bit_at m k < 1) ⊎ (1 ≤ bit_at m k) → (bit_at (mixed o w m) k ≡ bit_at o k) ⊎ (bit_at (mixed o w m) k ≡ bit_at w k)
-    by_bit (inl none) = inl (spread ∙ kept (bit_at o k) (bit_at w k) (bit_at m k) (bit_at-lt o k) none)
-    by_bit (inr some) = inr (spread ∙ made (bit_at o k) (bit_at w k) (bit_at m k) (bit_at-lt w k) (bit_at-lt m k) some)
+    by_bit (inl none) = inl (spread ∙ (grind arith))
+    by_bit (inr some) = inr (spread ∙ (grind arith))
 
 mixed-full : (o w : ℕ) → w < 256 → mixed o w 255 ≡ w
 mixed-full o w byte =
     same_from_bits_below 8 (mixed o w 255) w
     (or_lt 8 (bit_and o 0) (bit_and w 255) (omega (arith, and_le_r o 0)) (omega (arith, and_le_l w 255))) byte by_bit
   where
-    made : (a b c : ℕ) → b < 2 → c ≡ 1 → max (min a (1 - c)) (min b c) ≡ b
-    made a b c bound one = omega arith
-
     by_bit : (k : ℕ) → k < 8 → bit_at (mixed o w 255) k ≡ bit_at w k
     by_bit k small =
         bit_at_or (bit_and o (255 - 255)) (bit_and w 255) k
         ∙ ap (λ n. max n (bit_at (bit_and w 255) k)) (bit_at_and o (255 - 255) k ∙ ap (min (bit_at o k)) (bit_at_not w8 255 k (omega arith) small))
         ∙ ap (max (min (bit_at o k) (1 - bit_at 255 k))) (bit_at_and w 255 k)
-        ∙ made (bit_at o k) (bit_at w k) (bit_at 255 k) (bit_at-lt w k) (ones k small)
+        ∙ (let h0 = bit_at o k in let h1 = bit_at w k in let h2 = bit_at 255 k in let h3 = bit_at-lt w k in let h4 = ones k small in grind arith)
 
 -- What a change as planned left is what a call leaves that was to make each byte of a range anew.
 pub torn_is_change : (cells : List ℕ) (at len : ℕ) (byte : ℕ → ℕ) (whole mask : List ℕ) (ok : Bool) → AreCells cells → at + len ≤ 139264
@@ -501,9 +488,7 @@ header_settled from new p cells below bytes clean up valid i small = by_half (ca
     by_half (inl low) = (pair i low).0
     by_half (inr high) =
         let j : i - 9 < 9 = omega arith in
-        let e : 9 + (i - 9) ≡ i = omega arith in
-        let f : 512 * p + 9 + (i - 9) ≡ 512 * p + i = omega arith in
-        ap (slice_index new) (sym f) ∙ (pair (i - 9) j).1 ∙ ap from e
+        ap (slice_index new) (sym (omega arith)) ∙ (pair (i - 9) j).1 ∙ ap from (omega arith)
 
 clean_up : (from : ℕ → ℕ) (new : List ℕ) (p : ℕ)
     → ((i k : ℕ) → i < 9 → k < 8 → 0 < bit_at (from i) k + bit_at (from (9 + i)) k)
@@ -536,10 +521,7 @@ erase_put ok old new p s v bytes below change = record {
     page_clean clean i k small bit = grind arith
 
 full_clean : (a b : ℕ) → a ≡ 255 → (k : ℕ) → k < 8 → 0 < bit_at a k + bit_at b k
-full_clean a b is k bit = add_one_to (bit_at a k) (bit_at b k) (ap (λ n. bit_at n k) is ∙ bit_at_ones 8 k bit)
-  where
-    add_one_to : (x y : ℕ) → x ≡ 1 → 0 < x + y
-    add_one_to x y one = omega arith
+full_clean a b is k bit = let h0 = bit_at a k in let h1 = bit_at b k in let h2 = ap (λ n. bit_at n k) is ∙ bit_at_ones 8 k bit in grind arith
 
 full_invalid : (a b : ℕ) → a ≡ 255 → b ≡ 255 → b ≡ 255 - a → ⊥
 full_invalid a b e f g = absurd (omega arith)
@@ -642,10 +624,9 @@ header_put ok old mid filled new p s v bytes below fits len byte erase fill chan
     data_there : (j : ℕ) → j < 256 → slice_index new (512 * p + 18 + j) ≡ slice_index bytes j
     data_there j small =
         let e : 512 * p + 18 + j - (512 * p + 18) ≡ j = omega arith in
-        let f : 512 * p + (18 + j) ≡ 512 * p + 18 + j = omega arith in
         beside (512 * p + 18 + j) (inr (omega arith))
         ∙ programmed-byte mid filled bytes (512 * p + 18) fill (512 * p + 18 + j) (omega arith) (omega arith) (omega arith)
-        (subst (λ n. slice_index mid n ≡ 255) f (blank_at (18 + j) (omega arith)))
+        (subst (λ n. slice_index mid n ≡ 255) (omega arith) (blank_at (18 + j) (omega arith)))
         (byte (512 * p + 18 + j - (512 * p + 18)))
         ∙ ap (slice_index bytes) e
 

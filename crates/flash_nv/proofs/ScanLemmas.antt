@@ -35,15 +35,12 @@ found_invalid cells n header pages versions is invalid found = pass cells n page
 and_false : (a b : Bool) → a ≡ false → (a && b) ≡ false
 and_false a b e = ap (λ x. x && b) e
 
-other_sector : (cells : List ℕ) (n s : ℕ) (header : List ℕ) → header ≡ header_at cells n → (sector_of header ≡ s → ⊥) → is_page_of cells s n ≡ false
-other_sector cells n s header is other = grind arith
-
 pub found_older : (cells : List ℕ) (n : ℕ) (header : List ℕ) (pages : List (Option ℕ)) (versions : List ℕ) (version : ℕ) → header ≡ header_at cells n
     → sector_of header < 256 → version ≡ version_of header
     → beats (slice_index_or pages (sector_of header) None) (slice_index versions (sector_of header)) version ≡ false
     → ArePagesFound cells n pages versions → ArePagesFound cells (n + 1) pages versions
 found_older cells n header pages versions version is inside v older found =
-    pass cells n pages versions found (λ s small. by_sector s small (cases_eq (sector_of header) s))
+    pass cells n pages versions found (λ s small. (grind arith))
   where
     at : ℕ
     at = sector_of header
@@ -53,9 +50,6 @@ found_older cells n header pages versions version is inside v older found =
 
     and_second_false : (a b : Bool) → b ≡ false → (a && b) ≡ false
     and_second_false a b e = grind arith
-
-    by_sector : (s : ℕ) → s < 256 → (at ≡ s) ⊎ (at ≡ s → ⊥) → (is_page_of cells s n && is_newer cells (page_below cells s n) n) ≡ false
-    by_sector s small a = grind arith
 
 pub found_newer : (cells : List ℕ) (n : ℕ) (header : List ℕ) (pages : List (Option ℕ)) (versions : List ℕ) (version : ℕ) → header ≡ header_at cells n
     → sector_of header < 256 → length pages ≡ 256 → length versions ≡ 256 → is_valid header ≡ true → version ≡ version_of header
@@ -89,7 +83,7 @@ found_newer cells n header pages versions version is inside long_pages long_vers
         get_or-set_other pages at s (Some n) None other ∙ found.pages_are s small
         ∙ sym (below-next cells s n
         ∙ ap (λ b. if b then Some n else page_below cells s n)
-        (and_false (is_page_of cells s n) (is_newer cells (page_below cells s n) n) (other_sector cells n s header is (λ e. other (sym e)))))
+        (and_false (is_page_of cells s n) (is_newer cells (page_below cells s n) n) (grind arith)))
 
     version_at : (s p : ℕ) → s < 256 → slice_index_or (slice_set pages at (Some n)) s None ≡ Some p → (s ≡ at) ⊎ (s ≡ at → ⊥)
         → slice_index (slice_set versions at version) s ≡ version_of (header_at cells p)

@@ -24,9 +24,6 @@ extended ones after bit part spelling content step (inr ends) =
 one_step : (ones : ℕ) (content : List Bool) → eqb ones 4 ≡ false → stuffed_after ones (true ∷ content) ≡ (true ∷ []) ++ stuffed_after (ones + 1) content
 one_step ones content e = rw e refl
 
-fifth_step : (ones : ℕ) (content : List Bool) → eqb ones 4 ≡ true → stuffed_after ones (true ∷ content) ≡ (true ∷ false ∷ []) ++ stuffed_after 0 content
-fifth_step ones content e = rw e refl
-
 with_zero : (ones : ℕ) (spelling : List Bool) → Spelled 0 spelling → Spelled ones (false ∷ spelling)
 with_zero ones spelling s = (false ∷ s.0, extended ones 0 false (false ∷ []) spelling s.0 refl s.1)
 
@@ -34,11 +31,11 @@ few : (ones : ℕ) → ones ≤ 4 → eqb ones 4 ≡ false → ones + 1 ≤ 4
 few ones h e = let differ = eqb-false ones 4 e in omega (arith, differ)
 
 last_bit : (ones : ℕ) → (fifth : Bool) → eqb ones 4 ≡ fifth → Spelled ones (true ∷ [])
-last_bit ones true e = (true ∷ [], inr ([], refl, fifth_step ones [] e))
+last_bit ones true e = (true ∷ [], inr ([], refl, (grind arith)))
 last_bit ones false e = (true ∷ [], inl (sym (one_step ones [] e)))
 
 then_zero : (ones : ℕ) (spelling : List Bool) (fifth : Bool) → eqb ones 4 ≡ fifth → Spelled 0 spelling → Spelled ones (true ∷ false ∷ spelling)
-then_zero ones spelling true e s = (true ∷ s.0, extended ones 0 true (true ∷ false ∷ []) spelling s.0 (fifth_step ones s.0 e) s.1)
+then_zero ones spelling true e s = (true ∷ s.0, extended ones 0 true (true ∷ false ∷ []) spelling s.0 (grind arith) s.1)
 then_zero ones spelling false e s =
     let t = with_zero (ones + 1) spelling s in
     (true ∷ t.0, extended ones (ones + 1) true (true ∷ []) (false ∷ spelling) t.0 (one_step ones t.0 e) t.1)

@@ -29,12 +29,9 @@ opened : (seen since : List Symbol) → since_start seen ≡ Some since → IsOp
 opened [] since e = absurd (cc)
 opened (newest ∷ older) since e = found (mark_of (newest ∷ older)) newest older since (since_start older) refl (λ s h. opened older s h) e
 
-at_start : (front : List Symbol) → mark_of front ≡ start_mark → since_start front ≡ Some []
-at_start x0 h = grind arith
-
 is_open : (since front : List Symbol) → mark_of front ≡ start_mark → ((k : ℕ) → k < length since → mark_of (drop k (since ++ front)) ≡ no_mark)
     → since_start (since ++ front) ≡ Some since
-is_open [] front starts later = at_start front starts
+is_open [] front starts later = grind arith
 is_open (x ∷ since) front starts later =
     ap (λ m. since_mark m x (since_start (since ++ front))) (later 0 (omega arith))
     ∙ ap (option_map (λ s. x ∷ s)) (is_open since front starts (λ k h. later (suc k) (omega arith)))

@@ -33,8 +33,7 @@ with_zero n bits d = record {
 -- the list less the divisor, whose highest coefficient is 0 now
 with_one : (n : ℕ) (bits : List Bool) → 16 ≤ length bits → IsDivided n (drop 1 (sum_from_front divisor (true ∷ bits))) → IsDivided (suc n) (true ∷ bits)
 with_one n bits h d =
-    let rest : List Bool = drop 1 (sum_from_front divisor (true ∷ bits)) in
-    let remainder : List Bool = replicate n false ++ divided n rest in
+    let remainder : List Bool = replicate n false ++ divided n (drop 1 (sum_from_front divisor (true ∷ bits))) in
     record {
       quotient = true ∷ d.quotient;
       steps = ap suc d.steps;
@@ -51,10 +50,7 @@ is_divided (suc n) [] h = absurd (omega (arith, h))
 is_divided (suc n) (false ∷ bits) h = with_zero n bits (is_divided n bits (omega (arith, h)))
 is_divided (suc n) (true ∷ bits) h =
     let long : length (sum_from_front divisor (true ∷ bits)) ≡ suc (n + 16) = grind arith in
-    with_one n bits (omega (arith, h)) (is_divided n (drop 1 (sum_from_front divisor (true ∷ bits))) (shorter (sum_from_front divisor (true ∷ bits)) long))
-  where
-    shorter : (bs : List Bool) → length bs ≡ suc (n + 16) → length (drop 1 bs) ≡ n + 16
-    shorter x0 e = grind arith
+    with_one n bits (omega (arith, h)) (is_divided n (drop 1 (sum_from_front divisor (true ∷ bits))) (grind arith))
 
 pub crc_is_remainder : (bytes : List ℕ) → IsCrc bytes (crc_of bytes)
 crc_is_remainder bytes =

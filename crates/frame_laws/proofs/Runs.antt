@@ -1,8 +1,8 @@
 -- Runs of 1 bits by the elements in front.
-use Rattle.std.proofs.Common.{◌≡◌, ℕ, suc, zero, List, [], ◌∷◌, ◌++◌, Bool, eqb, cond, take, replicate, refl, ap, arith}
+use Rattle.std.proofs.Common.{◌≡◌, ℕ, suc, zero, List, [], ◌∷◌, ◌++◌, take, replicate, refl, ap, arith}
 use Rattle.std.proofs.lemmas.Bool.{eq-eqb}
 use Rattle.std.specs.Prelude.{◌↔◌}
-use Rattle.swp_frame.specs.Signal.{Symbol, bit_0, bit_1, break, run_of, start_mark, end_mark, no_mark, mark_of}
+use Rattle.swp_frame.specs.Signal.{Symbol, bit_0, bit_1, break, run_of, start_mark, end_mark, mark_of}
 use Rattle.frame_laws.specs.Marks.{with_zeros, EndsStart, EndsEnd}
 
 ones_then_zero : ℕ → List Symbol
@@ -32,13 +32,10 @@ is_run (break ∷ older) (suc n) e = absurd (cc)
 pub start_is : (seen : List Symbol) → (mark_of seen ≡ start_mark) ↔ EndsStart seen
 start_is [] = (λ h. absurd (cc), λ h. absurd (cc))
 start_is (bit_0 ∷ older) = (
-  λ h. ap (λ xs. bit_0 ∷ xs) (run_is older 6 (six (eqb (run_of older) 6) refl h)),
+  λ h. ap (λ xs. bit_0 ∷ xs) (run_is older 6 (grind arith)),
   λ h. let rest : take 7 (with_zeros older) ≡ bit_1 ∷ bit_1 ∷ bit_1 ∷ bit_1 ∷ bit_1 ∷ bit_1 ∷ bit_0 ∷ [] = grind arith in
       rw (eq-eqb (run_of older) 6 (is_run older 6 rest)) refl,
 )
-  where
-    six : (b : Bool) → eqb (run_of older) 6 ≡ b → cond b start_mark no_mark ≡ start_mark → run_of older ≡ 6
-    six x0 e h = grind arith
 start_is (bit_1 ∷ older) = grind arith
 start_is (break ∷ older) = (λ h. absurd (cc), λ h. absurd (cc))
 
@@ -46,11 +43,8 @@ pub end_is : (seen : List Symbol) → (mark_of seen ≡ end_mark) ↔ EndsEnd se
 end_is [] = (λ h. absurd (cc), λ h. absurd (cc))
 end_is (bit_0 ∷ older) = grind arith
 end_is (bit_1 ∷ older) = (
-  λ h. ap (λ xs. bit_1 ∷ xs) (run_is older 6 (six (eqb (run_of older) 6) refl h)),
+  λ h. ap (λ xs. bit_1 ∷ xs) (run_is older 6 (grind arith)),
   λ h. let rest : take 7 (with_zeros older) ≡ bit_1 ∷ bit_1 ∷ bit_1 ∷ bit_1 ∷ bit_1 ∷ bit_1 ∷ bit_0 ∷ [] = grind arith in
       rw (eq-eqb (run_of older) 6 (is_run older 6 rest)) refl,
 )
-  where
-    six : (b : Bool) → eqb (run_of older) 6 ≡ b → cond b end_mark no_mark ≡ end_mark → run_of older ≡ 6
-    six x0 e h = grind arith
 end_is (break ∷ older) = (λ h. absurd (cc), λ h. absurd (cc))

@@ -34,16 +34,13 @@ pub onto-aux : (seen : List Symbol) (bits : List Bool) → onto seen bits ≡ re
 onto-aux seen [] = refl
 onto-aux seen (b ∷ bits) = onto-aux (symbol_of b ∷ seen) bits
 
-bits_onto-aux : (seen bits : List Bool) → bits_onto seen bits ≡ reverse_aux bits seen
-bits_onto-aux seen x1 = grind arith
-
 onto-push : (seen : List Symbol) (bits : List Bool) (b : Bool) → onto seen (bits ++ b ∷ []) ≡ symbol_of b ∷ onto seen bits
 onto-push seen [] b = refl
 onto-push seen (x ∷ bits) b = onto-push (symbol_of x ∷ seen) bits b
 
 -- stuffed content, read from the newest bit
 pub reads : (content : List Bool) → unstuffed (onto [] (stuffed content)) ≡ reverse content
-reads content = stuffed_reads 0 content [] refl (omega arith) ∙ bits_onto-aux [] content
+reads content = stuffed_reads 0 content [] refl (omega arith) ∙ (grind arith)
 
 last_one : (fifth : Bool) (bits rest : List Bool) → cond fifth bits (false ∷ bits) ≡ true ∷ rest → bits ≡ true ∷ rest
 last_one x0 bits rest e = grind arith

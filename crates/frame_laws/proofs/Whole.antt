@@ -1,7 +1,7 @@
 -- A frame that was written is read.
-use Rattle.std.proofs.Common.{◌≡◌, ◌≢◌, ℕ, ◌+◌, ◌-◌, ◌*◌, ◌%◌, ◌≤◌, List, [], ◌∷◌, ◌++◌, Bool, true, false, eqb, cond, map, reverse, Some}
+use Rattle.std.proofs.Common.{◌≡◌, ◌≢◌, ℕ, ◌+◌, ◌-◌, ◌≤◌, List, [], ◌∷◌, ◌++◌, Bool, true, false, eqb, cond, map, reverse, Some}
 use Rattle.std.proofs.Common.{refl, sym, ap, ◌∙◌, subst, inl, inr, arith, append_assoc, append-nil}
-use Rattle.std.specs.Prelude.{filter, ◌||◌}
+use Rattle.std.specs.Prelude.{filter}
 use Rattle.std.proofs.lemmas.List.{map-append}
 use Rattle.swp_base.specs.Bits.{bits_of}
 use Rattle.swp_frame.specs.declared.fed.Fed.{Fed}
@@ -14,10 +14,6 @@ use Rattle.frame_laws.specs.Spelling.{Spells, NoSixOnes}
 use Rattle.frame_laws.specs.Whole.{framed, all_framed, SpellAll, verdicts_behind, IsBetweenFrames}
 use Rattle.frame_laws.proofs.Unstuffing.{onto, onto-aux, spelled_is_read}
 
--- a bit that ends no mark gives nothing
-quiet_bit : (b : Bool) (seen : List Symbol) → run_of seen ≢ 6 → verdict (symbol_of b ∷ seen) ≡ Nothing
-quiet_bit b seen h = grind arith
-
 still_open : (b : Bool) (seen since : List Symbol) → run_of seen ≢ 6 → since_start seen ≡ Some since
     → since_start (symbol_of b ∷ seen) ≡ Some (symbol_of b ∷ since)
 still_open b seen since h e = grind arith
@@ -27,7 +23,7 @@ skip answer answers e = rw e refl
 
 quiet : (b : Bool) (seen later : List Symbol) → run_of seen ≢ 6
     → filter is_verdict (answers_after seen (symbol_of b ∷ later)) ≡ filter is_verdict (answers_after (symbol_of b ∷ seen) later)
-quiet b seen later h = skip (verdict (symbol_of b ∷ seen)) (answers_after (symbol_of b ∷ seen) later) (quiet_bit b seen h)
+quiet b seen later h = skip (verdict (symbol_of b ∷ seen)) (answers_after (symbol_of b ∷ seen) later) (grind arith)
 
 not_six : (n : ℕ) → n ≤ 5 → n ≢ 6
 not_six n h e = absurd (omega arith)

@@ -42,9 +42,7 @@ dest_is_host v dest passed =
     elim (and_cases (not (eqb dest 0)) (not (is_configured v dest)) passed) [
       | inl controller ↦ let is = eqb-true dest 0 (not-false (eqb dest 0) controller) in le-leb dest 7 (omega arith)
       | inr configured ↦
-          let there = not-false (is_configured v dest) configured in
-          let within = and_parts (leb 1 dest && leb dest 7) _ there in
-          (and_parts (leb 1 dest) (leb dest 7) within.0).1
+          (and_parts (leb 1 dest) (leb dest 7) (and_parts (leb 1 dest && leb dest 7) _ (not-false (is_configured v dest) configured)).0).1
     ]
 
 pub creation-recordable : (t : HciTables) (v : LinkView) (host : ℕ) (body : List ℕ) → host ≤ 7 → first_of (tests_to_create t v host body) ≡ None
@@ -55,11 +53,10 @@ creation-recordable t v host body small passed =
     let free = lowest_free t.rows v.waiting.items in
     let dest = dest_in body in
     let pid = free_is_dynamic free (lowest_free-within t.rows v.waiting.items) none.1.1.1.1.1.1.1.0 in
-    let other : not (eqb host dest) ≡ true = ap not (ne_eqb host dest (λ same. eqb-false dest host none.1.1.0 (sym same))) in
     and_from (is_dynamic (unwrap_or free 0) && is_host host && is_host dest && not (eqb host dest)) true
     (and_from (is_dynamic (unwrap_or free 0) && is_host host && is_host dest) (not (eqb host dest))
     (and_from (is_dynamic (unwrap_or free 0) && is_host host) (is_host dest)
     (and_from (is_dynamic (unwrap_or free 0)) (is_host host) pid (le-leb host 7 small))
     (dest_is_host v dest none.1.0))
-    other)
+    (ap not (ne_eqb host dest (λ same. eqb-false dest host none.1.1.0 (sym same)))))
     refl

@@ -20,9 +20,8 @@ hosts_below test host = filter test (range_with_len 1 (host - 1))
 hosts_below-more : (test : ℕ → Bool) (host : ℕ) → 1 ≤ host → hosts_below test (host + 1) ≡ hosts_below test host ++ cond (test host) (host ∷ []) []
 hosts_below-more test host from =
     let next : host + 1 - 1 ≡ suc (host - 1) = omega arith in
-    let here : 1 + (host - 1) ≡ host = omega arith in
     ap (λ n. filter test (range_with_len 1 n)) next
-    ∙ (ap (filter test) (range-more 1 (host - 1) ∙ ap (λ k. range_with_len 1 (host - 1) ++ k ∷ []) here)
+    ∙ (ap (filter test) (range-more 1 (host - 1) ∙ ap (λ k. range_with_len 1 (host - 1) ++ k ∷ []) (omega arith))
     ∙ filter-append test (range_with_len 1 (host - 1)) (host ∷ []))
 
 pub hosts_below-taken : (test : ℕ → Bool) (host : ℕ) → 1 ≤ host → test host ≡ true → hosts_below test (host + 1) ≡ hosts_below test host ++ host ∷ []
@@ -69,20 +68,17 @@ if_told-some (host ∷ told) notice some = refl
 abbrev pub hosts_from : ℕ → List ℕ
 hosts_from host = range_with_len host (8 - host)
 
-hosts_from-next : (host : ℕ) → host < 8 → hosts_from host ≡ host ∷ hosts_from (host + 1)
-hosts_from-next host below = let next : 8 - host ≡ suc (8 - (host + 1)) = omega arith in ap (range_with_len host) next
-
 -- one that passes both tests is found among those from it on, and one that fails one of them isn't
 pub any-here : (p q : ℕ → Bool) (host : ℕ) → host < 8 → q host ≡ true → p host ≡ true → list_any p (filter q (hosts_from host)) ≡ true
 any-here p q host below passed found =
-    ap (λ hosts. list_any p (filter q hosts)) (hosts_from-next host below)
+    ap (λ hosts. list_any p (filter q hosts)) (let next : 8 - host ≡ suc (8 - (host + 1)) = omega arith in ap (range_with_len host) next)
     ∙ (ap (λ b. list_any p (cond b (host ∷ filter q (hosts_from (host + 1))) (filter q (hosts_from (host + 1))))) passed
     ∙ ap (λ b. b || list_any p (filter q (hosts_from (host + 1)))) found)
 
 pub any-later : (p q : ℕ → Bool) (host : ℕ) → host < 8 → (q host && p host) ≡ false
     → list_any p (filter q (hosts_from host)) ≡ list_any p (filter q (hosts_from (host + 1)))
 any-later p q host below failed =
-    ap (λ hosts. list_any p (filter q hosts)) (hosts_from-next host below)
+    ap (λ hosts. list_any p (filter q hosts)) (let next : 8 - host ≡ suc (8 - (host + 1)) = omega arith in ap (range_with_len host) next)
     ∙ (any-filter p q (host ∷ hosts_from (host + 1))
     ∙ (ap (λ b. b || list_any (λ h. q h && p h) (hosts_from (host + 1))) failed
     ∙ sym (any-filter p q (hosts_from (host + 1)))))

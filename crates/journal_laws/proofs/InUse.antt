@@ -70,9 +70,6 @@ in_use_then d j o says is = sym (in_use_is d) ∙ ap (λ (k : Journal). k.in_use
 pub state_at : (d : List ℕ) (side : Side) → current d ≡ Some side → state_of d ≡ state_by (Some side) (journal d) (is_opened_gate (head d (other side)).gate)
 state_at d side is = ap (λ o. state_by o (journal d) (option_map_or (λ s. is_opened_gate (head d (other s)).gate) o false)) is
 
-pub other_other : (side : Side) → other (other side) ≡ side
-other_other side = grind arith
-
 module _ (c d : List ℕ) where
   pub gate_is_open : (side : Side) → current c ≡ Some side → is_opened_gate (head c side).gate ≡ true
   gate_is_open First is = opened_first (head c First) (head c Second) is

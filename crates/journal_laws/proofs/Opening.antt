@@ -21,9 +21,8 @@ use Rattle.journal_laws.specs.declared.state.Head.{Head}
 use Rattle.journal_laws.specs.Records.{IsBody, Found, nothing_found, behind, found_from, record_bytes, records_bytes, used}
 use Rattle.journal_laws.proofs.Places.{overwritten-split, overwritten-right, length-bank, bank_beside, in_front, keeps_first, bank_here}
 use Rattle.journal_laws.proofs.Reading.{Parts, parts, found_closed, record_is_read, records_are_read, length-records_bytes, few_records}
-use Rattle.journal_laws.proofs.InUse.{journal_in_use, in_use_is, in_use_then, state_at, journal_inside, at_bank, closed_first, closed_second, other_other}
-use Rattle.journal_laws.proofs.InUse.{gate_is_open, same_current, moves, still_none, first_opens, same_journal, no_journal, bank_across, head_across}
-use Rattle.journal_laws.proofs.InUse.{journal_across}
+use Rattle.journal_laws.proofs.InUse.{journal_in_use, in_use_is, in_use_then, state_at, journal_inside, at_bank, closed_first, closed_second, gate_is_open}
+use Rattle.journal_laws.proofs.InUse.{same_current, moves, still_none, first_opens, same_journal, no_journal, bank_across, head_across, journal_across}
 use Rattle.journal_laws.specs.declared.state.State.{State}
 
 pub length-after : (writes : List Write) (c : List ℕ) → FitIn (length c) writes → length (after_writes writes c) ≡ length c
@@ -131,9 +130,7 @@ module _ (b : List ℕ) (version : ℕ) (long : length b ≡ 32768) (good : (fou
       ∙ drop_at (take 12 b) (overwritten (drop 12 b) (f.size + i) bytes) 12 (omega (arith, length-take 12 b))
       ∙ ap (λ l. overwritten l (f.size + i) bytes) bank_parts.whole
       ∙ overwritten-right bank_parts.front bank_parts.rest f.size i bytes bank_parts.size in
-      let fuel : length (overwritten b (12 + f.size + i) bytes) ≡ length f.bodies + (32768 - length f.bodies) =
-      length-overwritten b (12 + f.size + i) bytes (omega arith) ∙ omega (arith, many) in
-      ap₂ (λ m l. found_from version m 0 l) fuel behind_head
+      ap₂ (λ m l. found_from version m 0 l) (length-overwritten b (12 + f.size + i) bytes (omega arith) ∙ omega (arith, many)) behind_head
       ∙ bank_parts.again (32768 - length f.bodies) there
       (omega (arith, length-overwritten bank_parts.rest i bytes (omega (arith, bank_size)), bank_size, bank_parts.some))
       ∙ ap (λ m. behind f.bodies f.size (found_from version (32768 - length f.bodies) m there)) (zero-add (length f.bodies))
@@ -168,10 +165,9 @@ module _ (b : List ℕ) (version : ℕ) (long : length b ≡ 32768) (good : (fou
       let bytes = record_bytes (length f.bodies) body ++ 255 ∷ [] in
       let later = drop (0 + length (90 ∷ bytes)) bank_parts.rest in
       let most = 32768 - length f.bodies - 1 in
-      let fuel : 32768 - length f.bodies ≡ suc most = omega (arith, many) in
       ap (λ m. found_in version (overwritten b m (90 ∷ bytes))) (sym (add-zero (12 + f.size)))
       ∙ found_written 0 (90 ∷ bytes) (omega (arith, length-append body (255 ∷ [])))
-      ∙ ap₂ (λ v m. behind f.bodies f.size (found_from v m (length f.bodies) (overwritten bank_parts.rest 0 (90 ∷ bytes)))) new fuel
+      ∙ ap₂ (λ v m. behind f.bodies f.size (found_from v m (length f.bodies) (overwritten bank_parts.rest 0 (90 ∷ bytes)))) new (omega (arith, many))
       ∙ ap (λ l. behind f.bodies f.size (found_from 2 (suc most) (length f.bodies) l))
       (append_assoc (90 ∷ record_bytes (length f.bodies) body) (255 ∷ []) later)
       ∙ ap (behind f.bodies f.size) (record_is_read most (length f.bodies) body (255 ∷ later) (omega (arith, many)) short (omega arith))
@@ -243,8 +239,7 @@ module _ (c body : List ℕ) (started : IsStarted c) (h : HasRoomForBody (state_
   pub append_state : state_of (after_writes (append_writes (state_of c) body) c) ≡ appended (state_of c) body
   append_state =
       let d = after_writes (append_writes (state_of c) body) c in
-      let still : current d ≡ Some side = in_use_then d (one_more (journal c) body) (Some side) append_is_whole (in_use_is c ∙ is) in
-      state_at d side still
+      state_at d side (in_use_then d (one_more (journal c) body) (Some side) append_is_whole (in_use_is c ∙ is))
       ∙ ap₂ (λ (j : Journal) (h : Head). state_by (Some side) j (is_opened_gate h.gate)) append_is_whole append_beside_is
       ∙ ap (λ n. record
       (state_by (Some side) (journal c) (is_opened_gate (head c (other side)).gate)) { many = n; size = (journal c).found.size + (4 + length body) })
@@ -272,12 +267,6 @@ module _ (c body : List ℕ) (started : IsStarted c) (h : HasRoomForBody (state_
 
 length-bank_bytes : (generation base : ℕ) (bodies : List (List ℕ)) → length (bank_bytes generation base bodies) ≡ 12 + used bodies
 length-bank_bytes generation base bodies = omega (arith, length-append (records_bytes 0 bodies) (255 ∷ []), length-records_bytes 0 bodies)
-
--- what is read of such a bank
-filled_head : (generation base : ℕ) (bodies : List (List ℕ)) (rest : List ℕ) → generation < 2 ^ 32 → base < 2 ^ 32 → length bodies < 2 ^ 16
-    → head_of (take 12 ((90 ∷ bank_bytes generation base bodies) ++ rest))
-    ≡ record { gate = 90; version = 2; generation = generation; base = base; snapshot = length bodies }
-filled_head generation base bodies rest low_generation low_base few = grind arith
 
 filled_found : (generation base : ℕ) (bodies : List (List ℕ)) (rest : List ℕ) → length ((90 ∷ bank_bytes generation base bodies) ++ rest) ≡ 32768
     → length bodies < 2 ^ 15 → AllByRecursion IsBody bodies
@@ -323,7 +312,7 @@ module _ (c : List ℕ) (side : Side) (long : 65536 ≤ length c) where
       let few = few_records bodies in
       ap (at_bank side) (bank_at_gate 90 bytes (omega arith))
       ∙ ap₂ (λ h f. record { in_use = Some side; head = h; found = f })
-      (filled_head generation base bodies rest low_generation low_base (omega arith))
+      (grind arith)
       (filled_found generation base bodies rest
       (length-overwritten (bank c side) 0 (90 ∷ bytes) (omega (arith, length-bank c side long)) ∙ length-bank c side long) (omega arith) short)
 
@@ -469,8 +458,7 @@ module _ (c : List ℕ) (side : Side) (long : 65536 ≤ length c) (is : current 
       ∙ same_byte (bank c (other side)) 90 (omega (arith, length-bank c (other side) long)) gate in
       let here : bank d side ≡ bank c side = ap (λ m. bank (overwritten c m (90 ∷ [])) side) (sym (add-zero (bank_place (other side))))
       ∙ bank_across c side 0 (90 ∷ []) long (omega arith) in
-      let still : current d ≡ Some side = same_current c d side (ap (λ l. head_of (take 12 l)) here) (ap (λ l. head_of (take 12 l)) there) ∙ is in
-      same_journal c d side is still here
+      same_journal c d side is (same_current c d side (ap (λ l. head_of (take 12 l)) here) (ap (λ l. head_of (take 12 l)) there) ∙ is) here
 
   -- any byte
   gate_written : is_opened_gate (head c (other side)).gate ≡ true → (torn : List ℕ) → length torn ≡ 1
@@ -566,10 +554,9 @@ module _ (c : List ℕ) (bodies : List (List ℕ)) (long : 65536 ≤ length c) (
   pub compact_state : state_of (after_writes (compact_writes (state_of c) bodies) c) ≡ compacted (state_of c) bodies
   compact_state =
       let d = after_writes (compact_writes (state_of c) bodies) c in
-      let moved : current d ≡ Some (other side) = in_use_then d made (Some (other side)) (compact_is_whole ∙ made_is) refl in
-      state_at d (other side) moved
+      state_at d (other side) (in_use_then d made (Some (other side)) (compact_is_whole ∙ made_is) refl)
       ∙ ap₂ (λ (j : Journal) (b : Bool). state_by (Some (other side)) j b) (compact_is_whole ∙ made_is)
-      (ap (λ s. is_opened_gate (head d s).gate) (other_other side) ∙ beside_is)
+      (ap (λ s. is_opened_gate (head d s).gate) (grind arith) ∙ beside_is)
       ∙ ap₂ (λ (o : Option Side) (j : Journal). record (compacted (state_of c) bodies) { in_use = option_map other o; generation = j.head.generation + 1 })
       (sym is) (sym seen)
 

@@ -66,9 +66,8 @@ bank_beside c Second i bytes long fits =
 pub in_front : (c : List ℕ) (p gate : ℕ) (bytes : List ℕ) → p < length c
     → overwritten (overwritten c (p + 1) bytes) p (gate ∷ []) ≡ overwritten c p (gate ∷ bytes)
 in_front c p gate bytes within =
-    let size : length (take p c) ≡ p = omega (arith, length-take p c) in
     ap₂ (λ l m. overwritten l m (gate ∷ [])) (overwritten-split c p 1 bytes (omega arith)) (sym (add-zero p))
-    ∙ overwritten-right (take p c) (overwritten (drop p c) 1 bytes) p 0 (gate ∷ []) size
+    ∙ overwritten-right (take p c) (overwritten (drop p c) 1 bytes) p 0 (gate ∷ []) (omega (arith, length-take p c))
     ∙ ap (λ l. take p c ++ l) (at_head (drop p c) (omega (arith, length-drop p c)))
     ∙ sym (overwritten-split c p 0 (gate ∷ bytes) (omega arith))
     ∙ ap (λ m. overwritten c m (gate ∷ bytes)) (add-zero p)

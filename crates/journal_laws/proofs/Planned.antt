@@ -23,9 +23,6 @@ module _ {M : Type 0} (writes : M → ℕ → List ℕ → Bool → M → Type 0
 
 -- ---- where the failing write is planned, which writes are made is known
 
-later_within : (n : ℕ) (plan : Option Plan) → is_next plan ≡ false → fails_within n (plan_after plan) ≡ fails_within (suc n) plan
-later_within n plan later = grind arith
-
 pub none_within : (plan : Option Plan) → fails_within 0 plan ≡ false
 none_within plan = grind arith
 
@@ -40,7 +37,7 @@ planned_answer (w ∷ planned) old ok new (inr rest) =
     let later : is_next old.plan ≡ false = not-true (is_next old.plan) (sym rest.1.answer) in
     planned_answer planned rest.0 ok new rest.2
     ∙ ap (λ m. not (fails_within (length planned) m)) (ap (λ (m : Memory). m.plan) rest.1.memory ∙ plan_of_memory_after old w.at w.bytes later)
-    ∙ ap not (later_within (length planned) old.plan later)
+    ∙ ap not (grind arith)
 
 pub planned_memory : (planned : List Write) (old : Memory) (ok : Bool) (new : Memory) → AreMade WritesAsPlanned planned old ok new
     → new ≡ after_planned planned old

@@ -1,7 +1,7 @@
 -- Reads in front of writes.
 use Rattle.std.proofs.Common.{◌≡◌, inl, inr, ℕ, zero, suc, Bool, true, false, not, List, [], ◌∷◌, Option, None, refl, ap, ◌∙◌, subst, ◌⊎◌, ◌<◌, ◌≤◌, arith}
 use Rattle.std.proofs.lemmas.Bool.{true≢false, false≢true, cases_lt}
-use Rattle.swp_base.specs.InMemory.{Memory, is_next_read, memory_read, ReadsAsPlanned, ReadsSurely, WritesSurely}
+use Rattle.swp_base.specs.InMemory.{Memory, is_next_read, ReadsAsPlanned, ReadsSurely, WritesSurely}
 use Rattle.journal_laws.specs.Writes.{Write, after_writes, AreMade, AreRead, AreCalled}
 
 module _ {M : Type 0} (reads : M → Bool → M → Type 0) where
@@ -47,9 +47,6 @@ module _ {M : Type 0} (reads : M → Bool → M → Type 0) where
 
 -- ---- planned
 
-read_memory_none : (m : Memory) → m.failing_read ≡ None → memory_read m ≡ m
-read_memory_none m none = grind arith
-
 pub reads_content : (most : ℕ) (old : Memory) (ok : Bool) (new : Memory) → AreRead ReadsAsPlanned most old ok new → new.content ≡ old.content
 unfolding AreRead
 reads_content zero old ok new r = ap (λ (m : Memory). m.content) r.1
@@ -74,7 +71,7 @@ reads_surely zero old ok new r none = r
 reads_surely (suc most) old ok new (inl r) none = r
 reads_surely (suc most) old ok new (inr (inl r)) none = absurd (false≢true (r.1.answer ∙ next_none old.failing_read none))
 reads_surely (suc most) old ok new (inr (inr r)) none =
-    let same : r.0 ≡ old = r.1.memory ∙ read_memory_none old none in
+    let same : r.0 ≡ old = r.1.memory ∙ (grind arith) in
     let rest = reads_surely most r.0 ok new r.2 (ap (λ (m : Memory). m.failing_read) same ∙ none) in
     (rest.0, rest.1 ∙ same)
 

@@ -45,11 +45,9 @@ tells version position bytes = version == 1 || from_be_bytes w16 (slice_range by
 same_good : (version position : ℕ) (xs ys : List ℕ) → take (gap version ys) xs ≡ take (gap version ys) ys → gap version ys < length xs
     → is_good_record version position ys ≡ true → is_good_record version position xs ≡ true
 same_good version position xs ys same fits good =
-    let within = (is_good_parts version position ys good).1 in
-    let long_ys : nat_lt (gap version ys) (length ys) ≡ true = grind (arith, nat_tests) in
     let long_xs : nat_lt (gap version xs) (length xs) ≡ true = grind (arith, nat_tests, same_gap version xs ys same) in
     ap (λ len. test len (nat_lt (gap version xs) (length xs)) (tells version position xs)) (first xs ys (gap version ys) 1 same (omega arith))
-    ∙ ap (λ long. test (slice_index ys 1) long (tells version position xs)) (long_xs ∙ sym long_ys)
+    ∙ ap (λ long. test (slice_index ys 1) long (tells version position xs)) (long_xs ∙ sym (grind (arith, nat_tests)))
     ∙ ap (test (slice_index ys 1) (nat_lt (gap version ys) (length ys))) (index (cases_Bool (version == 1)))
     ∙ good
   where
@@ -79,9 +77,8 @@ step version most position bytes rest opened good some =
     let within = (is_good_parts version position bytes good).1 in
     let size : length (take n bytes) ≡ n = omega (arith, length-take n bytes) in
     let same : take n xs ≡ take n bytes = take_at (take n bytes) rest n size in
-    let long : n < length xs = omega (arith, length-append (take n bytes) rest) in
     found_good version most position xs (ap is_opened_gate (first xs bytes n 0 same (omega arith)) ∙ opened)
-    (same_good version position xs bytes same long good)
+    (same_good version position xs bytes same (omega (arith, length-append (take n bytes) rest)) good)
     ∙ ap (λ b. behind (b ∷ []) (gap version xs) (found_from version most (position + 1) (drop (gap version xs) xs))) (same_body version xs bytes same)
     ∙ ap (λ m. behind (body version bytes ∷ []) m (found_from version most (position + 1) (drop m xs))) (same_gap version xs bytes same)
     ∙ ap (λ l. behind (body version bytes ∷ []) n (found_from version most (position + 1) l)) (drop_at (take n bytes) rest n size)
@@ -193,9 +190,7 @@ record_is_read most position body rest low short some =
     let xs = (90 ∷ record_bytes position body) ++ rest in
     let front = 90 ∷ record_bytes position body in
     let fits : ltb (4 + length body) (length xs) ≡ true = lt-ltb (4 + length body) (length xs) (omega (arith, length-append body rest)) in
-    let index : from_be_bytes w16 (slice_range xs 2 4) == position ≡ true = grind arith in
-    let good : is_good_record 2 position xs ≡ true = grind arith in
-    found_good 2 most position xs refl good
+    found_good 2 most position xs refl (grind arith)
     ∙ ap (λ b. behind (b ∷ []) (4 + length body) (found_from 2 most (position + 1) (drop (4 + length body) xs))) (take_at body rest (length body) refl)
     ∙ ap (λ l. behind (body ∷ []) (4 + length body) (found_from 2 most (position + 1) l)) (drop_at front rest (4 + length body) (omega arith))
 
@@ -205,9 +200,8 @@ pub records_are_read : (most position : ℕ) (bodies : List (List ℕ)) (rest : 
     ≡ behind bodies (length (records_bytes position bodies)) (found_from 2 most (position + length bodies) rest)
 records_are_read most position [] rest low short some = grind arith
 records_are_read most position (body ∷ bodies) rest low short some =
-    let front = 90 ∷ record_bytes position body in
     let more = records_bytes (position + 1) bodies in
-    ap₂ (λ m l. found_from 2 m position l) (suc-add (length bodies) most) (append_assoc front more rest)
+    ap₂ (λ m l. found_from 2 m position l) (suc-add (length bodies) most) (append_assoc (90 ∷ record_bytes position body) more rest)
     ∙ record_is_read (length bodies + most) position body (more ++ rest) (omega arith) short.0 (omega (arith, length-append more rest))
     ∙ ap (behind (body ∷ []) (4 + length body)) (records_are_read most (position + 1) bodies rest (omega arith) short.1 some)
     ∙ behind-one body (4 + length body) bodies (length more) (found_from 2 most (position + 1 + length bodies) rest)

@@ -109,7 +109,6 @@ pub wave_is_read : (unit begin : ℕ) (periods : List Period) → 0 < unit
     → record_of unit begin (wave_of unit begin (map byte_of_period periods)) (begin + 16 * unit * length (map byte_of_period periods))
     ≡ map byte_of_period periods
 wave_is_read unit begin periods some =
-    let end : ℕ = begin + 16 * unit * length (map byte_of_period periods) in
     ap (λ changes. record_of unit begin changes (begin + 16 * unit * length (map byte_of_period periods))) (same_changes unit begin None periods)
     ∙ (near_is_read unit begin begin (begin + 16 * unit * length (map byte_of_period periods)) (drawn_of unit begin periods) some (here unit begin some)
     (edges unit begin begin periods (begin + 16 * unit * length (map byte_of_period periods)) some refl

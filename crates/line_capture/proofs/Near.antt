@@ -1,5 +1,5 @@
 -- A wave is read as the periods that it was drawn of, where each edge lies near to where it belongs.
-use Rattle.std.proofs.Common.{◌≡◌, ℕ, zero, suc, ◌+◌, ◌-◌, ◌*◌, ◌/◌, ◌≤◌, ◌<◌, Bool, true, false, cond, List, [], ◌∷◌, ◌++◌, map, refl, sym, ap}
+use Rattle.std.proofs.Common.{◌≡◌, ℕ, zero, suc, ◌+◌, ◌-◌, ◌*◌, ◌/◌, ◌<◌, Bool, true, false, cond, List, [], ◌∷◌, ◌++◌, map, refl, sym, ap}
 use Rattle.std.proofs.Common.{◌∙◌, subst, arith, append_assoc, inl, inr}
 use Rattle.std.specs.Prelude.{Option, Some, None, replicate, nat_lt}
 use Rattle.std.proofs.lemmas.Bool.{le-ltb}
@@ -112,11 +112,10 @@ risen unit time rise some near = record {
 turned : (unit from i time rise due : ℕ) (s2 : Bool) (held : Option Bool) → time ≡ from + 16 * unit * suc i → Runs unit from rise due held
     → Runs unit time rise (due + 16 * unit * suc i) (Some s2)
 turned unit from i time rise due s2 held is runs =
-    let below : rise + 2 * unit ≤ due = rise_below unit rise due held runs.start in
     record {
       late = omega (arith, is, runs.late);
       early = omega (arith, is, runs.early);
-      start = inr (omega (arith, below));
+      start = inr (omega (arith, (rise_below unit rise due held runs.start)));
     }
 
 -- ---- one more period, behind S1 low
@@ -132,16 +131,14 @@ low_on unit end some (Off fall lows) rest low high time held rise until due owed
     ∙ append_assoc owed (0 ∷ []) (map byte_drawn rest))
     lows at s2
 low_on unit end some (High up begin) rest low high time held rise until due owed ends edges at s2 =
-    let at_begin : IsNear unit (time + 16 * unit * 0) begin = record { late = omega (arith, edges.0.late); early = omega (arith, edges.0.early) } in
     ap (λ bs. bs ++ line_bytes_from (line unit begin true up None begin begin (begin + 2 * unit)) (changes_drawn (Some up) rest) end)
-    (ends 0 begin at_begin ∙ append-nil owed)
+    (ends 0 begin (record { late = omega (arith, edges.0.late); early = omega (arith, edges.0.early) }) ∙ append-nil owed)
     ∙ ap (λ bs. owed ++ bs)
     (high time zero (time + 16 * unit) up None begin begin (begin + 2 * unit) begin (omega arith) (risen unit time begin some edges.0) edges.1)
 low_on unit end some (Bit bit up begin fall lows) rest low high time held rise until due owed ends edges at s2 =
-    let at_begin : IsNear unit (time + 16 * unit * 0) begin = record { late = omega (arith, edges.0.late); early = omega (arith, edges.0.early) } in
     ap (λ bs. bs ++ line_bytes_from (line unit begin true up None begin begin (begin + 2 * unit))
     (low_change fall ∷ (map low_change lows ++ changes_drawn None rest)) end)
-    (ends 0 begin at_begin ∙ append-nil owed)
+    (ends 0 begin (record { late = omega (arith, edges.0.late); early = omega (arith, edges.0.early) }) ∙ append-nil owed)
     ∙ ap (λ bs. owed ++ bs)
     (falls unit end rest low bit up time zero time None begin begin (begin + 2 * unit) begin fall lows (omega arith)
     (risen unit time begin some edges.0) edges.1 edges.2)
@@ -163,8 +160,6 @@ s2_turns unit end from i time s2 up held rise until due at begin changes bytes i
 high_on : (unit end : ℕ) → (period : DrawnPeriod) (rest : List DrawnPeriod) → FromLow unit rest end → FromHigh unit rest end
     → FromHigh unit (period ∷ rest) end
 high_on unit end (Off fall lows) rest low high from i time s2 held rise until due at is runs edges =
-    let near : IsNear unit (from + 16 * unit * suc i) fall.time =
-    record { late = omega (arith, is, edges.0.late); early = omega (arith, is, edges.0.early) } in
     at_count unit at s2 held rise until due (low_change fall) (map low_change lows ++ changes_drawn None rest) end (suc i)
     (held_period held ++ (replicate (suc i) (high_byte s2) ++ (0 ∷ map byte_drawn rest)))
     (counted_at_edge unit from i time rise due fall.time held is runs edges.0)
@@ -172,7 +167,7 @@ high_on unit end (Off fall lows) rest low high from i time s2 held rise until du
     (stays_low unit (Some s2) rise fall.time (due + 16 * unit * suc i) (changes_drawn None rest) end
     (high_byte s2 ∷ 0 ∷ map byte_drawn rest)
     (low (time + 16 * unit) (Some s2) rise fall.time (due + 16 * unit * suc i) (high_byte s2 ∷ 0 ∷ [])
-    (λ k x there. ends_behind_high unit from i rise due fall.time s2 held runs near k x
+    (λ k x there. ends_behind_high unit from i rise due fall.time s2 held runs (grind arith) k x
     (record { late = omega (arith, is, there.late); early = omega (arith, is, there.early) }))
     edges.1)
     lows fall.time fall.s2)

@@ -49,13 +49,9 @@ pub ends_behind_high : (unit time i rise due fall : ℕ) (s2 : Bool) (held : Opt
     → IsNear unit (time + 16 * unit * suc i) fall
     → Ends unit (time + 16 * unit * suc i + 16 * unit) (Some s2) rise fall (due + 16 * unit * suc i) (byte_of_shape Whole s2 ∷ 0 ∷ [])
 ends_behind_high unit time i rise due fall s2 held runs near k x there =
-    let risen : rise + 2 * unit ≤ due = rise_below unit rise due held runs.start in
-    let apart : is_lone unit (fall - rise) ((fall - rise) + (x - fall)) ≡ false =
-    whole_is_long unit (fall - rise) ((fall - rise) + (x - fall)) (omega arith) in
-    let long : 14 * unit ≤ x - fall = omega arith in
-    let most : 14 * unit < fall + 18 * unit - (due + 16 * unit * suc i) = omega arith in
+    let apart : is_lone unit (fall - rise) ((fall - rise) + (x - fall)) ≡ false = grind arith in
     bytes_apart unit (fall - rise) (fall + 18 * unit - (due + 16 * unit * suc i)) (x - fall) (suc k) s2 Whole apart
-    (shape_whole unit (fall - rise) (fall + 18 * unit - (due + 16 * unit * suc i)) (x - fall) apart long most)
+    (shape_whole unit (fall - rise) (fall + 18 * unit - (due + 16 * unit * suc i)) (x - fall) apart (omega arith) (omega arith))
     (off_by_bounds unit (x - fall) (suc k) (omega arith) (omega arith))
 
 -- ---- S1 falls behind the high part of a bit
@@ -97,16 +93,12 @@ bit_alone : (bit s2 : Bool) (unit time rise next fall x : ℕ) → IsNear unit t
     → IsNear unit (time + high_part bit * unit) fall → IsNear unit (time + 16 * unit) x
     → stretch_bytes unit (Some s2) (fall - rise) (fall + 18 * unit - next) (x - fall) ≡ byte_of_shape (shape_of_bit bit) s2 ∷ []
 bit_alone false s2 unit time rise next fall x from near there =
-    let high : fall - rise ≤ 16 * unit = omega arith in
-    let all : (fall - rise) + (x - fall) ≡ x - rise = omega arith in
     bytes_lone unit (fall - rise) (fall + 18 * unit - next) (x - fall) s2 Zero
-    (lone unit (fall - rise) ((fall - rise) + (x - fall)) high (omega arith) (omega arith))
+    (lone unit (fall - rise) ((fall - rise) + (x - fall)) (omega arith) (omega arith) (omega arith))
     (share_zero (fall - rise) ((fall - rise) + (x - fall)) (omega arith) (omega arith))
 bit_alone true s2 unit time rise next fall x from near there =
-    let high : fall - rise ≤ 16 * unit = omega arith in
-    let all : (fall - rise) + (x - fall) ≡ x - rise = omega arith in
     bytes_lone unit (fall - rise) (fall + 18 * unit - next) (x - fall) s2 One
-    (lone unit (fall - rise) ((fall - rise) + (x - fall)) high (omega arith) (omega arith))
+    (lone unit (fall - rise) ((fall - rise) + (x - fall)) (omega arith) (omega arith) (omega arith))
     (share_one (fall - rise) ((fall - rise) + (x - fall)) (omega arith) (omega arith))
 
 least_high : (bit : Bool) (unit time fall : ℕ) → IsNear unit (time + high_part bit * unit) fall → time + 3 * unit < fall
@@ -122,27 +114,21 @@ bit_behind_high : (bit s2 : Bool) (unit time rise next fall : ℕ) → time + 17
     → rise + 13 * unit < time → IsNear unit (time + high_part bit * unit) fall
     → Ends unit (time + 16 * unit) (Some s2) rise fall next (byte_of_shape (shape_of_bit bit) s2 ∷ [])
 bit_behind_high bit s2 unit time rise next fall least most before near zero x there =
-    let high : time + 3 * unit < fall = least_high bit unit time fall near in
-    let at : IsNear unit (time + 16 * unit) x = record { late = omega (arith, there.late); early = omega (arith, there.early) } in
-    bit_by_low bit s2 unit time rise next fall x least most near at
-    (high_for_long unit (fall - rise) ((fall - rise) + (x - fall)) (omega (arith, high, before)))
+    bit_by_low bit s2 unit time rise next fall x least most near (record { late = omega (arith, there.late); early = omega (arith, there.early) })
+    (high_for_long unit (fall - rise) ((fall - rise) + (x - fall)) (omega (arith, (least_high bit unit time fall near), before)))
 bit_behind_high bit s2 unit time rise next fall least most before near (suc k) x there =
-    let high : time + 3 * unit < fall = least_high bit unit time fall near in
     bit_by_tail bit s2 unit time rise next fall k x least most near there
-    (high_for_long unit (fall - rise) ((fall - rise) + (x - fall)) (omega (arith, high, before)))
+    (high_for_long unit (fall - rise) ((fall - rise) + (x - fall)) (omega (arith, (least_high bit unit time fall near), before)))
 
 bit_behind_low : (bit s2 : Bool) (unit time rise next fall : ℕ) → time + 17 * unit < next → next < time + 19 * unit
     → IsNear unit time rise → IsNear unit (time + high_part bit * unit) fall
     → Ends unit (time + 16 * unit) (Some s2) rise fall next (byte_of_shape (shape_of_bit bit) s2 ∷ [])
 bit_behind_low bit s2 unit time rise next fall least most from near zero x there =
-    let at : IsNear unit (time + 16 * unit) x = record { late = omega (arith, there.late); early = omega (arith, there.early) } in
-    bit_alone bit s2 unit time rise next fall x from near at
+    bit_alone bit s2 unit time rise next fall x from near (record { late = omega (arith, there.late); early = omega (arith, there.early) })
 bit_behind_low bit s2 unit time rise next fall least most from near (suc k) x there =
-    let high : time + 3 * unit < fall = least_high bit unit time fall near in
-    let not_so : fall < time + 13 * unit = most_high bit unit time fall near in
     bit_by_tail bit s2 unit time rise next fall k x least most near there
     (whole_is_long unit (fall - rise) ((fall - rise) + (x - fall))
-    (omega (arith, high, not_so, from.late, from.early, there.late, there.early)))
+    (omega (arith, (least_high bit unit time fall near), (most_high bit unit time fall near), from.late, from.early, there.late, there.early)))
 
 pub ends_behind_bit : (bit s2 : Bool) (unit from j time rise due fall : ℕ) (held : Option Bool) → time ≡ from + 16 * unit * j
     → Runs unit from rise due held → IsNear unit (time + high_part bit * unit) fall

@@ -28,9 +28,7 @@ not_second false b e = refl
 -- ---- a number by its bounds
 
 pub quotient : (w k y : ℕ) → k * w ≤ y → y < k * w + w → y / w ≡ k
-quotient w k y least most =
-    let e : y ≡ k * w + (y - k * w) = omega arith in
-    ap (λ n. n / w) e ∙ div-mul-add k w (y - k * w) (omega arith)
+quotient w k y least most = ap (λ n. n / w) (omega arith) ∙ div-mul-add k w (y - k * w) (omega arith)
 
 pub off_by_bounds : (unit low k : ℕ) → 16 * unit * k ≤ low + 2 * unit → low + 2 * unit < 16 * unit * k + 16 * unit → periods_off unit low ≡ k
 off_by_bounds unit low k least most = quotient (16 * unit) k (low + 2 * unit) (omega arith) (omega arith)

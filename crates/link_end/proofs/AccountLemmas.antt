@@ -140,8 +140,6 @@ pub kept_beside_call : {old : PoolState} {before other : End} {m n : Machine} {t
     → EndStandsFor before old m → EndLeavesOthers old new before after → HaveOwners before other
     → EndStandsFor other old n → Accounts other old theirs → EndStandsFor other new n × Accounts other new theirs
 kept_beside_call {old} {before} {other} {m} {n} {theirs} new after h l differ g a =
-    let o = other.outbox.owner in
-    let i = other.inbox.joiner.owner in
     both_stay old new other n theirs g a (record {
       first = λ c live is.
           let away = far_from old before m c h live (λ e. differ.senders (sym e ∙ is)) (λ e. differ.from (sym e ∙ is)) in
@@ -151,8 +149,8 @@ kept_beside_call {old} {before} {other} {m} {n} {theirs} new after h l differ g 
           let away = far_from old before m c h live (λ e. differ.to (sym e ∙ is)) (λ e. differ.receivers (sym e ∙ is)) in
           let s = l.others c live away.0 away.1 in
           (s.0, s.1);
-      counts = l.counts o (λ e. differ.senders (sym e)) (λ e. differ.from (sym e));
-      uses = l.counts i (λ e. differ.to (sym e)) (λ e. differ.receivers (sym e));
+      counts = l.counts other.outbox.owner (λ e. differ.senders (sym e)) (λ e. differ.from (sym e));
+      uses = l.counts other.inbox.joiner.owner (λ e. differ.to (sym e)) (λ e. differ.receivers (sym e));
       lengths = l.lengths;
     })
 
@@ -165,16 +163,10 @@ account_kept old new before after m (Some c) h l a =
     let f = a.fetched in
     let queue = lies_apart_by_owner Queued chain_in old before.outbox.owner before.outbox.queue.items c h.halfway.sends.lies.kept.own f.live
     (λ e. h.halfway.differ (sym e ∙ f.owned)) in
-    let s = l.others c f.live queue f.apart in
-    let blocks = ap (λ bs. blocks_for (length bs)) s.1 in
-    let P : ℕ → Type 0 = λ o. used_of new o ≡ held_blocks new (chains_in after.inbox) + blocks_for (length (chain_bytes new c)) in
+    let blocks = ap (λ bs. blocks_for (length bs)) (l.others c f.live queue f.apart).1 in
     grind arith
 
 -- ---- calls that leave what comes as it is
-
-fetched_moved : (pool : PoolState) (k after : End) (chain : Option Chain) → after.inbox ≡ k.inbox → IfSome chain (IsFetched pool k)
-    → IfSome chain (IsFetched pool after)
-fetched_moved pool k after chain inbox f = grind arith
 
 pub account_moved : (pool : PoolState) (before after : End) (chain : Option Chain) → after.inbox ≡ before.inbox → Accounts before pool chain
     → Accounts after pool chain
@@ -193,8 +185,7 @@ rests_may_take k pool r =
     let got = r.fetched in
     let chains : chains_in k.inbox ≡ k.inbox.joiner.open.items = ap (λ g. k.inbox.joiner.open.items ++ got_chains g) got
     ∙ append-nil k.inbox.joiner.open.items in
-    let held = ap (held_blocks pool) chains in
-    record { fetched = got; free = inl (omega (arith, r.accounts.used, held)) }
+    record { fetched = got; free = inl (omega (arith, r.accounts.used, (ap (held_blocks pool) chains))) }
 
 pub rests : (k : End) (pool : PoolState) (m : Machine) → EndStandsFor k pool m → Accounts k pool None → m.got ≡ [] → Rests k pool
 rests k pool m h a none = record { state = m; stands = h; fetched = fetched_all pool k m h none; accounts = a }
@@ -227,12 +218,9 @@ fetched_counted {pool} {k} {inbox} {x = Some y} h a f =
     let holds = subst (HoldsChains pool o) chains h.halfway.receives.lies.holds in
     let own = all_front (IsOwnOpen pool o) xs one holds.own in
     let apart = all_map (λ x. AreApart x one) (λ x. IsApart y.1 x.chain) xs (λ x d first p q. d.chains first q p) (apart_front xs one holds.apart).1 in
-    let sum = held_both pool xs (one ∷ []) in
-    let held = ap (held_blocks pool) chains in
-    let front = ap (held_blocks pool) (append-nil xs) in
     subst P (ap (λ j. record { joiner = j; got = None }) (sym f.joiner) ∙ ap (λ g. record { joiner = inbox.joiner; got = g }) (sym f.fetched)) (record {
       fetched = record { live = own.1.live; owned = own.1.owned; apart = subst (λ l. IsApartFrom l y.1) (sym (append-nil xs)) apart };
-      used = omega (arith, a.used, held, sum, front);
+      used = omega (arith, a.used, (ap (held_blocks pool) chains), (held_both pool xs (one ∷ [])), (ap (held_blocks pool) (append-nil xs)));
     })
 
 -- ---- a message that was fetched goes away
@@ -248,13 +236,11 @@ record HasGone (old new : PoolState) (k : End) (chain : Chain) : Type 0 where
 goes_own : {old new : PoolState} {k : End} {m : Machine} {chain : Chain} → EndStandsFor k old m → Accounts k old (Some chain) → HasGone old new k chain
     → EndStandsFor k new m × Accounts k new None
 goes_own {old} {new} {k} {m} {chain} h a g =
-    let o = k.outbox.owner in
     let i = k.inbox.joiner.owner in
     let f = a.fetched in
-    let lies = h.halfway.receives.lies in
-    let opens = all_joined Open (IsOwnOpen old i) (λ x. IsApart chain x.chain) (chains_in k.inbox) lies.holds.own f.apart in
+    let opens = all_joined Open (IsOwnOpen old i) (λ x. IsApart chain x.chain) (chains_in k.inbox) h.halfway.receives.lies.holds.own f.apart in
     let u : Untouched old new k = record {
-      queued = all_mapped Queued (λ q. IsChainOf old o q.chain) (λ q. Stays old new q.chain) k.outbox.queue.items
+      queued = all_mapped Queued (λ q. IsChainOf old k.outbox.owner q.chain) (λ q. Stays old new q.chain) k.outbox.queue.items
           (λ q own. g.apart q.chain own.live (apart_by_owner old q.chain chain own.live f.live
           (λ e. h.halfway.differ (sym own.owned ∙ (grind arith)))) (inl own.owned)) h.halfway.sends.lies.kept.own;
       opens = all_mapped Open (λ x. IsOwnOpen old i x × IsApart chain x.chain) (λ x. Stays old new x.chain) (chains_in k.inbox)
@@ -405,7 +391,7 @@ passed_taker {old} {new} {to = to} {theirs = theirs} after a differ g b inbox l 
     let moved = fetched_stays old new to theirs stay b.fetched in
     let used = ap (λ (x : Owner). x.used) (l.counts i (λ e. g.halfway.differ (sym e)) (λ e. differ.receivers (sym t.owned ∙ sym e))) in
     let P : Inbox → Type 0 = λ box. used_of new box.joiner.owner ≡ held_blocks new (chains_in box) + blocks_of new theirs in
-    record { fetched = fetched_moved new to after theirs inbox moved.0; used = subst P (sym inbox) (omega (arith, used, b.used, all.blocks, moved.1)) }
+    record { fetched = (grind arith); used = subst P (sym inbox) (omega (arith, used, b.used, all.blocks, moved.1)) }
 
 -- ---- a new pool
 

@@ -1,9 +1,9 @@
 -- What parts of a step leave of a link end.
-use Rattle.link_end.proofs.Words.{Act, ActDue, ArrayVec, Bool, Cause, Due, End, EndStandsFor, EndState, ForgetsMessages, Fragment, Halfway, Inbox, InboxLeaves}
+use Rattle.link_end.proofs.Words.{Act, ActDue, ArrayVec, Cause, Due, End, EndStandsFor, EndState, ForgetsMessages, Fragment, Halfway, Inbox, InboxLeaves}
 use Rattle.link_end.proofs.Words.{InboxLiesIn, KeptEnd, LinkReport, List, Machine, None, Option, Outbox, OutboxLeaves, OutboxLiesIn, PoolState, Role}
 use Rattle.link_end.proofs.Words.{ShdlcStandsFor, Some, StandsBefore, Up, [], act_told, activated, ap, arith, aside-with_used, aside_of, came_whole, chains_in}
-use Rattle.link_end.proofs.Words.{drop, due_of, fragments_of, held_blocks, if◌then◌else◌, inl, inr, kept_in_front, length, map, messages_of, messages_of_all}
-use Rattle.link_end.proofs.Words.{messages_under_way, min, moved, nothing_told, owner_at, put_down, queued_messages, refl, role_of, stopped, subst, sym, true}
+use Rattle.link_end.proofs.Words.{drop, due_of, fragments_of, held_blocks, if◌then◌else◌, inl, inr, kept_in_front, length, map, messages_of_all}
+use Rattle.link_end.proofs.Words.{min, moved, nothing_told, owner_at, put_down, queued_messages, refl, role_of, stopped, subst, sym, true}
 use Rattle.link_end.proofs.Words.{used_of, waiting_in, with_act, with_out, ℕ, ◌++◌, ◌+◌, ◌-◌, ◌<◌, ◌∙◌, ◌∷◌, ◌≡◌, ◌≢◌, ◌⊎◌}
 use Rattle.std.proofs.lemmas.List.{map_push}
 use Rattle.shdlc_core.specs.Machine.{offered}
@@ -11,8 +11,7 @@ use Rattle.shdlc_core.proofs.Offering.{stands_offered, stands_idle, stands_stopp
 use Rattle.swp_base.specs.declared.link_terms.Cause.TheVariants.{Act as ByAct}
 use Rattle.swp_act.specs.declared.ActEvent.{ActEvent}
 use Rattle.swp_act.specs.declared.ActOut.{ActOut}
-use Rattle.link_laws.specs.machine.Machine.{act_answer, if_up, role_after}
-use Rattle.link_laws.specs.machine.Machine.{in_front as due_in_front}
+use Rattle.link_laws.specs.machine.Machine.{act_answer, if_up, role_after, in_front as due_in_front}
 use Rattle.link_end.proofs.BoxLemmas.{inbox_kept, outbox_kept, leaves_out, leaves_in, leaves_more}
 use Rattle.link_end.specs.declared.activation.Activation.{Activation}
 
@@ -171,12 +170,10 @@ pub session_over : {old new : PoolState} {k k1 : End} {s0 s : KeptEnd} {m : Mach
 session_over {new = new} {k = k} {k1 = k1} {s = s} {e = e} h f none =
     let messages : queued_messages new k1.outbox ≡ [] = ap (messages_of_all new) f.none in
     let waiting : waiting_in new k1.outbox ≡ [] = ap (λ n. drop n (fragments_of (queued_messages new k1.outbox))) f.cut ∙ ap (λ ms. fragments_of ms) messages in
-    let P : List Fragment → Type 0 = λ w. StandsBefore s w e in
-    let under : messages_under_way new k1.inbox ≡ [] = ap (messages_of new) f.under in
     record {
       halfway = record {
         role = ap role_of f.activation ∙ h.role;
-        link = subst P (sym waiting) none.stands;
+        link = subst (λ w. StandsBefore s w e) (sym waiting) none.stands;
         acts = ap (map due_of) f.acts ∙ (front_same k.acts.items ∙ ap (map due_in_front) h.acts);
         sends = grind arith;
         receives = grind arith;
@@ -228,8 +225,7 @@ pub act_made : (pool : PoolState) (k : End) (acts : ArrayVec ActDue) (frame : Ac
     → behind ≡ length k.shdlc.due → EndStandsFor k pool m → EndStandsFor (record k { acts = acts }) pool (with_act (Some frame) m)
 act_made pool k acts frame behind m pushed counted h =
     let before = h.halfway in
-    let due : k.shdlc.due ≡ m.shdlc.due = before.link.kept.due in
-    let here : behind ≡ length m.shdlc.due = counted ∙ ap length due in
+    let here : behind ≡ length m.shdlc.due = counted ∙ ap length before.link.kept.due in
     record {
       halfway = record {
         role = before.role;
@@ -256,9 +252,6 @@ with_role pool k a m r is h =
       full = h.full;
     }
 
-pub put_down-with_role : (b : Bool) (m : Machine) (r : Role) → put_down b (record m { role = r }) ≡ record (put_down b m) { role = r }
-put_down-with_role b m r = grind arith
-
 -- an end took an event of activation, and gave this answer
 pub record HasStepped (k : End) (pool : PoolState) (m : Machine) (event : ActEvent) (a : Activation) (out : ActOut) : Type 0 where
   pub before : EndStandsFor k pool m
@@ -278,16 +271,14 @@ pub event_stands : {pool new : PoolState} {k k2 k3 : End} {a : Activation} {m : 
     → ((p : PoolState) (x : Machine) → EndStandsFor k2 p x → EndStandsFor k3 p (with_act out.send x)) → EndStandsFor k3 new (activated m event)
 event_stands {new = new} {k2 = k2} {k3 = k3} {m = m} {event = event} {out = out} s down made =
     let r = role_after m.role event in
-    let P : Machine → Type 0 = λ x. EndStandsFor k2 new x in
     let Q : ActOut → Type 0 = λ o. EndStandsFor k3 new (with_act o.send (record (put_down o.ended_link m) { role = r })) in
-    let h = subst P (put_down-with_role out.ended_link m r) (down (record m { role = r }) (stepped s)) in
+    let h = subst (λ x. EndStandsFor k2 new x) (grind arith) (down (record m { role = r }) (stepped s)) in
     subst Q (step_answer s) (made new (record (put_down out.ended_link m) { role = r }) h)
 
 pub stopped_before : {s s1 new : KeptEnd} {waiting : List Fragment} {e : EndState} → StandsBefore s waiting e → s1 ≡ s
     → ((x : EndState) → ShdlcStandsFor s1 x → ShdlcStandsFor new (stopped x)) → StandsBefore new [] (stopped e)
 stopped_before {s} {s1} {new} {waiting} {e} h same stops =
-    let P : KeptEnd → Type 0 = λ x. ShdlcStandsFor x (with_out e h.offered) in
-    (stands_stopped s new waiting e h (stops (with_out e h.offered) (subst P (sym same) h.kept))).stands
+    (stands_stopped s new waiting e h (stops (with_out e h.offered) (subst (λ x. ShdlcStandsFor x (with_out e h.offered)) (sym same) h.kept))).stands
 
 pub event_told : {pool : PoolState} {k : End} {a : Activation} {m : Machine} {event : ActEvent} {out : ActOut} {ended : Option Cause} {nothing : LinkReport}
     → HasStepped k pool m event a out

@@ -9,7 +9,7 @@ use Rattle.link_end.proofs.Words.{OutboxLiesIn, PoolState, ReceivesOn, Session, 
 use Rattle.link_end.proofs.Words.{aside-with_used, aside_of, came_whole, chains_in, drop, false, fragments_of, got_chains, heard, heard_told, held_blocks}
 use Rattle.link_end.proofs.Words.{if◌then◌else◌, in_phase, inl, inr, is_some, left_waiting, length, length-append, length-drop, messages_of, messages_under_way}
 use Rattle.link_end.proofs.Words.{moved, not, nothing_told, option_to_list, owner_at, packet_of, packets_in, put_down, queued_messages, refl, stopped, subst}
-use Rattle.link_end.proofs.Words.{sym, take_answer, true, used_of, waiting_in, whole_acked, whole_among, with_out, ℕ, ◌++◌, ◌+◌, ◌-◌, ◌∙◌, ◌∷◌, ◌≡◌, ◌≤◌, ◌⊎◌}
+use Rattle.link_end.proofs.Words.{sym, take_answer, true, used_of, waiting_in, whole_among, with_out, ℕ, ◌++◌, ◌+◌, ◌-◌, ◌∙◌, ◌∷◌, ◌≡◌, ◌≤◌, ◌⊎◌}
 use Rattle.swp_base.specs.declared.link_terms.Cause.TheVariants.{Chain}
 use Rattle.shdlc_core.specs.declared.answers.Taken.{Taken}
 use Rattle.shdlc_core.specs.Machine.{taken}
@@ -18,7 +18,6 @@ use Rattle.hcp_packet.specs.Packets.{good_of}
 use Rattle.hcp_chain.specs.Joining.{are_taken, given_by, open_after}
 use Rattle.hcp_chain.proofs.ReadyLemmas.{open_after-append, given_by-append, are_taken-append}
 use Rattle.link_laws.specs.machine.Machine.{is_faulty, messages_got, news}
-use Rattle.link_laws.specs.machine.Machine.{oldest}
 use Rattle.link_messages.specs.Outgoing.{GivesBack, acked_more, rest_among}
 use Rattle.link_messages.specs.Incoming.{IsInboxReady as InboxIsReady}
 use Rattle.link_messages.proofs.Among.{whole-more, whole-length}
@@ -85,11 +84,8 @@ module _ {k : End} {pool : PoolState} {m : Machine} {c : Control} {s : KeptEnd} 
   took_link : {b : Bool} → ended_in m c ≡ b → StandsBefore s (left_waiting b (waiting_in pool k.outbox)) (taken m.shdlc c)
   took_link over =
       let link = h.before.halfway.link in
-      let waiting = waiting_in pool k.outbox in
-      let on = takes_on m.shdlc c link.session in
-      let P : List Fragment → Type 0 = λ w. StandsBefore s w (taken m.shdlc c) in
-      subst P (grind arith)
-      (stands_taken k.shdlc s waiting m.shdlc c link (h.stands (with_out m.shdlc link.offered) link.kept))
+      subst (λ w. StandsBefore s w (taken m.shdlc c)) (grind arith)
+      (stands_taken k.shdlc s (waiting_in pool k.outbox) m.shdlc c link (h.stands (with_out m.shdlc link.offered) link.kept))
 
 -- ---- a session that the frame ends
 
@@ -112,8 +108,7 @@ module _ {k : End} {pool : PoolState} {m : Machine} {c : Control} {s : KeptEnd} 
       let on = takes_on m.shdlc c h.before.halfway.link.session in
       let over = ended_by h ended in
       let acc = over_acc m c on over in
-      let P : Machine → Type 0 = λ x. EndStandsFor k1 new x in
-      subst P (sym (heard-over m c over acc)) (session_ended (carries h.before.halfway) f (record {
+      subst (λ x. EndStandsFor k1 new x) (sym (heard-over m c over acc)) (session_ended (carries h.before.halfway) f (record {
         stands = took_link h over;
         out = on.out ∙ ap (λ b. left_waiting b m.shdlc.session.out) over;
         acked = on.acked ∙ ap (λ b. if b then 0 else m.shdlc.session.acked + (take_answer m.shdlc c).acked) over;
@@ -123,13 +118,8 @@ module _ {k : End} {pool : PoolState} {m : Machine} {c : Control} {s : KeptEnd} 
   pub over_told : {n : LinkReport} → is_some t.ended ≡ true → n ≡ nothing_told → record n { ended = t.ended; began = t.began } ≡ heard_told m c
   over_told ended none =
       let e = taken m.shdlc c in
-      let on = takes_on m.shdlc c h.before.halfway.link.session in
       let over = ended_by h ended in
-      let acc = over_acc m c on over in
-      let faulty : is_faulty e.session ≡ false = ap (λ l. not (are_taken [] (packets_in l))) acc in
-      let acked : whole_acked (heard m c) - whole_acked m ≡ 0 = ap (λ x. whole_acked x - whole_acked m) (heard-over m c over acc) ∙ omega arith in
-      let got : is_some (oldest (if is_faulty e.session then [] else news m.shdlc.session e)) ≡ false = grind arith in
-      let cause : (if is_faulty e.session then Some Chain else (take_answer m.shdlc c).ended) ≡ (take_answer m.shdlc c).ended = grind arith in
+      let acc = over_acc m c (takes_on m.shdlc c h.before.halfway.link.session) over in
       ap (λ (x : LinkReport). record x { ended = t.ended; began = t.began }) none
       ∙ (ap (λ (x : Taken). record nothing_told { ended = x.ended; began = x.began }) (took_answer h)
       ∙ sym (grind arith))
@@ -151,14 +141,13 @@ sends_on {old} {new} {box} {after} {sent} {s} {s'} {count} {whole} o a same_out 
     let w = whole_among sent s.acked in
     let more = whole-more sent s.acked count in
     let left : whole_among (queued_messages old box) (box.acked + count) ≡ whole_among (drop w sent) (rest_among sent s.acked + count) = grind arith in
-    let resting : rest_among (queued_messages old box) (box.acked + count) ≡ rest_among (drop w sent) (rest_among sent s.acked + count) = grind arith in
     let among : whole_among sent s'.acked ≡ w + whole = ap (whole_among sent) counted ∙ omega (arith, more.0, left, g.among, a.all) in (
       record {
         lies = g.lies;
         all = o.all;
         out = same_out ∙ o.out;
         messages = g.messages ∙ (ap (drop whole) o.messages ∙ (drop-drop whole w sent ∙ ap (λ n. drop n sent) (sym among)));
-        acked = sym a.rest ∙ (g.rest ∙ (resting ∙ (sym more.1 ∙ ap (rest_among sent) (sym counted))));
+        acked = sym a.rest ∙ (g.rest ∙ ((grind arith) ∙ (sym more.1 ∙ ap (rest_among sent) (sym counted))));
       },
       among,
     )
@@ -264,12 +253,9 @@ goes_on {old} {mid} {new} {k} {m} {c} {s} {t} {inbox} {outbox} {whole} h going j
 
 -- ---- when a fragment may be taken
 
-ready_in : (p : LinkState) (e : EndState) (c : Control) (f : Fragment) → (take_answer (in_phase p e) c).accepted ≡ Some f → e.ready ≡ true
-ready_in p e c f is = grind arith
-
 -- an end that accepts a fragment is ready
 pub accepted_ready : (e : EndState) (c : Control) (f : Fragment) → (take_answer e c).accepted ≡ Some f → e.ready ≡ true
-accepted_ready e c f is = ready_in e.phase e c f is
+accepted_ready e c f is = grind arith
 
 pub may_receive : {k : End} {pool : PoolState} {m : Machine} {c : Control} {s : KeptEnd} {t : Taken} → HasTaken k pool m c s t → MayTake k pool
     → IfSome t.accepted (λ _. InboxIsReady pool k.inbox)

@@ -8,13 +8,10 @@ use Rattle.link_end.specs.Idle.{IsIdle}
 pub stands_whole : (k : KeptEnd) (waiting : List Fragment) (e : EndState) (h : StandsBefore k waiting e)
     → (waiting ≡ []) ⊎ (length h.offered ≡ e.session.acked + 4) → k.sender.queue ≡ [] → ShdlcStandsFor k e
 stands_whole k waiting e h full empty =
-    let len : length k.sender.queue ≡ 0 = ap length empty in
-    let offered = h.kept.sender.offered in
     elim full [
       | inl none ↦
-          let out : e.session.out ≡ h.offered = h.out ∙ (ap (λ w. h.offered ++ w) none ∙ append-nil h.offered) in
-          subst (λ (o : List Fragment). ShdlcStandsFor k (with_out e o)) (sym out) h.kept
-      | inr four ↦ absurd (omega (arith, four, offered, len))
+          subst (λ (o : List Fragment). ShdlcStandsFor k (with_out e o)) (sym (h.out ∙ (ap (λ w. h.offered ++ w) none ∙ append-nil h.offered))) h.kept
+      | inr four ↦ absurd (omega (arith, four, h.kept.sender.offered, (ap length empty)))
     ]
 
 pub idle_end : (k : End) (pool : PoolState) (m : Machine) → EndStandsFor k pool m → is_open m.role ≡ true → k.acts.items ≡ []

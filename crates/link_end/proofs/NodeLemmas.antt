@@ -2,8 +2,8 @@
 use Rattle.std.specs.Prelude.{unwrap_or}
 use Rattle.std.proofs.lemmas.List.{drop-append-le}
 use Rattle.std.proofs.lemmas.Bool.{lt-ltb}
-use Rattle.link_end.proofs.Words.{Act, ActDue, ActFrame, ArrayVec, Bool, Chain, Control, Down, Due, End, EndStandsFor, EndState, ForgetsMessages, Fragment}
-use Rattle.link_end.proofs.Words.{Full, Got, Halfway, HoldsChains, IfSome, Inbox, InboxLiesIn, KeptEnd, LeavesBoxes, LeavesOthersBut, LinkState, List, Machine}
+use Rattle.link_end.proofs.Words.{Act, ActDue, ActFrame, ArrayVec, Bool, Chain, Control, Down, Due, End, EndStandsFor, EndState, ForgetsMessages}
+use Rattle.link_end.proofs.Words.{Full, Halfway, HoldsChains, IfSome, Inbox, InboxLiesIn, KeptEnd, LeavesBoxes, LeavesOthersBut, LinkState, List, Machine}
 use Rattle.link_end.proofs.Words.{MayPass, Message, None, Option, Outbox, OutboxLeaves, PoolState, Queued, Session, ShdlcStandsFor, Some, StandsBefore, TooLong}
 use Rattle.link_end.proofs.Words.{Up, [], after_input, ap, append-nil, arith, aside-with_used, aside_of, behind_front, blocks_for, came_whole, chain_bytes}
 use Rattle.link_end.proofs.Words.{chain_in, drop, due_of, false, fragments_of, frame_due, frame_fetched, front_act, front_holds, got_chains, held_blocks}
@@ -14,9 +14,8 @@ use Rattle.block_pool.specs.Pool.{spare_of}
 use Rattle.block_pool.specs.Holdings.{all_blocks}
 use Rattle.block_pool.proofs.HoldingLemmas.{all_pushed}
 use Rattle.shdlc_core.specs.declared.answers.LinkState.TheVariants.{Waiting}
-use Rattle.shdlc_core.specs.declared.answers.Due.{Due as Shdlc_due}
 use Rattle.shdlc_core.specs.Machine.{fetched, fragment_due, is_waiting, no_session, put_out, reset_with}
-use Rattle.shdlc_core.specs.Offering.{HasSession, StandsWith}
+use Rattle.shdlc_core.specs.Offering.{StandsWith}
 use Rattle.shdlc_core.proofs.Offering.{stands_reset, stands_fetched, fetched_alike, stands_put}
 use Rattle.hcp_packet.specs.Packets.{IsSendable, packet_bytes, packets_of}
 use Rattle.link_laws.specs.machine.Machine.{Refused, give_refusal, given, in_use, nearer as due_nearer, need_of_all, turn, unless, window_of}
@@ -29,10 +28,6 @@ use Rattle.link_end.proofs.StepLemmas.{same_session}
 use Rattle.link_end.proofs.BoxLemmas.{inbox_kept, inbox_passed, leaves_out}
 
 -- ---- a reset
-
-pub window_low : (pool : PoolState) (k : End) (m : Machine) (window : Option ℕ) → EndStandsFor k pool m → IfSome window (λ w. (1 ≤ w) × (w ≤ 4))
-    → window_of m window ≤ 4
-window_low pool k m window h some = grind arith
 
 pub reset_closed : (m : Machine) (window : Option ℕ) → is_open m.role ≡ false → after_input m (Reset window) ≡ m
 reset_closed m window o = rw o
@@ -61,7 +56,7 @@ reset_link : {k : End} {pool : PoolState} {m : Machine} {s : KeptEnd} {window : 
     → m.shdlc.phase ≡ p → StandsBefore s [] (reset_with m.shdlc (window_of m window))
 reset_link {k} {pool} {m} {s} {window} p h other is =
     let link = h.before.halfway.link in
-    let next = stands_reset k.shdlc s (waiting_in pool k.outbox) m.shdlc (window_of m window) link (window_low pool k m window h.before h.small)
+    let next = stands_reset k.shdlc s (waiting_in pool k.outbox) m.shdlc (window_of m window) link (grind arith)
     (h.stands (with_out m.shdlc link.offered) link.kept) in
     let P : Bool → Type 0 = λ b. StandsBefore s (left_waiting (not b) (waiting_in pool k.outbox)) (reset_with m.shdlc (window_of m window)) in
     subst P (waits_not p m.shdlc other is) next
@@ -77,20 +72,14 @@ reset_ends {m = m} {window = window} h up f =
       acc = ap (λ (x : Session). x.acc) empty;
     })
 
-idle_in : (p : LinkState) (s : Session) → HasSession p s → p ≡ Down → s ≡ no_session
-idle_in p s h d = grind arith
-
 pub reset_begins : {k : End} {pool : PoolState} {m : Machine} {s : KeptEnd} {window : Option ℕ} → HasReset k pool m s window → m.shdlc.phase ≡ Down
     → Halfway (record k { shdlc = s }) pool (moved m false (reset_with m.shdlc (window_of m window)))
 reset_begins {k} {pool} {m} {s} {window} h down =
     let link = h.before.halfway.link in
     let e = reset_with m.shdlc (window_of m window) in
-    let empty : e.session ≡ no_session = reset_empty Down m.shdlc (window_of m window) (λ x. cc) down in
-    let idle : m.shdlc.session ≡ no_session = idle_in m.shdlc.phase m.shdlc.session link.session down in
-    let none : waiting_in pool k.outbox ≡ [] = grind arith in
-    let P : List Fragment → Type 0 = λ l. StandsBefore s l e in
-    let same : e.session ≡ m.shdlc.session = empty ∙ sym idle in
-    same_session h.before.halfway (subst P (sym none) (reset_link Down h (λ x. cc) down))
+    let idle : m.shdlc.session ≡ no_session = grind arith in
+    let same : e.session ≡ m.shdlc.session = (reset_empty Down m.shdlc (window_of m window) (λ x. cc) down) ∙ sym idle in
+    same_session h.before.halfway (subst (λ l. StandsBefore s l e) (sym (grind arith)) (reset_link Down h (λ x. cc) down))
     (ap (λ (x : Session). x.out) same) (ap (λ (x : Session). x.acked) same) (ap (λ (x : Session). x.acc) same)
 
 -- ---- a message is fetched
@@ -98,19 +87,12 @@ reset_begins {k} {pool} {m} {s} {window} h down =
 pub fetched_lies : (pool : PoolState) (old new : Inbox) → InboxLiesIn pool old → new.joiner ≡ old.joiner → new.got ≡ None → InboxLiesIn pool new
 fetched_lies pool old new lies same none =
     let xs = old.joiner.open.items in
-    let P : Inbox → Type 0 = λ b. InboxLiesIn pool b in
-    let is : new ≡ record old { got = None } = ap (λ g. record new { got = g }) none ∙ ap (λ j. record { joiner = j; got = None }) same in
-    let sum = held_both pool xs (got_chains old.got) in
-    let nil = held_both pool xs [] in
-    subst P (sym is) (record {
+    subst (λ b. InboxLiesIn pool b) (sym (ap (λ g. record new { got = g }) none ∙ ap (λ j. record { joiner = j; got = None }) same)) (record {
       holds = subst (HoldsChains pool old.joiner.owner) (sym (append-nil xs)) (front_holds pool old.joiner.owner xs old.got lies.holds);
       has_quota = lies.has_quota;
       quota = lies.quota;
-      used = (let n = ap (held_blocks pool) (append-nil xs) in omega (arith, n, sum, lies.used));
+      used = (let n = ap (held_blocks pool) (append-nil xs) in omega (arith, n, (held_both pool xs (got_chains old.got)), lies.used));
     })
-
-fetched_got : (pool : PoolState) (g : Option Got) → [] ≡ drop 1 (messages_of pool (got_chains g))
-fetched_got pool g = grind arith
 
 pub message_fetched : (pool : PoolState) (k : End) (inbox : Inbox) (m : Machine) → inbox.joiner ≡ k.inbox.joiner → inbox.got ≡ None → EndStandsFor k pool m
     → EndStandsFor (record k { inbox = inbox }) pool (record m { got = drop 1 m.got })
@@ -127,7 +109,7 @@ message_fetched pool k inbox m same none h =
           under = grind arith;
           sound = before.receives.sound;
         };
-        got = ap (λ g. messages_of pool (got_chains g)) none ∙ (fetched_got pool k.inbox.got ∙ ap (drop 1) before.got);
+        got = ap (λ g. messages_of pool (got_chains g)) none ∙ ((grind arith) ∙ ap (drop 1) before.got);
         aside = before.aside;
         passed_over = before.passed_over;
         differ = λ d. before.differ (d ∙ ap (λ j. j.owner) same);
@@ -169,19 +151,14 @@ act_sent pool k acts m act h front rest =
       }),
     )
 
-fetched_acc : (e : EndState) (due : List Shdlc_due) (q : Option Fragment) → fragment_due e.session ≡ q
-    → (fetched (record e { due = due })).session.acc ≡ e.session.acc
-fetched_acc e due q s = grind arith
-
 -- the next frame of a link end is that of its SHDLC end, where no ACT frame is next
 pub link_frame : {pool : PoolState} {k : End} {m : Machine} {frame : Option Control} → EndStandsFor k pool m → None ≡ front_act k.acts.items
     → ((e : EndState) → ShdlcStandsFor k.shdlc e → frame ≡ frame_due e) → frame ≡ next_frame m
 link_frame {pool} {k} {m} h front frame =
     let link = h.halfway.link in
-    let n = link_next m k.acts.items front in
     let is : record m { acts = map due_of k.acts.items } ≡ m = ap (λ a. record m { acts = a }) h.halfway.acts in
     let a = fetched_alike m.shdlc link.offered (waiting_in pool k.outbox) link.out link.narrow.session h.full in
-    frame (with_out m.shdlc link.offered) link.kept ∙ (a.frame ∙ sym (sym (ap next_frame is) ∙ n.0))
+    frame (with_out m.shdlc link.offered) link.kept ∙ (a.frame ∙ sym (sym (ap next_frame is) ∙ (link_next m k.acts.items front).0))
 
 -- the SHDLC end of a link end sent its next frame, where no ACT frame is next
 pub record HasFetchedFrame (k : End) (s : KeptEnd) (acts : ArrayVec ActDue) : Type 0 where
@@ -196,13 +173,12 @@ link_fetched {pool} {k} {s} {acts} {m} h f =
     let link = before.link in
     let both : StandsWith k.shdlc (waiting_in pool k.outbox) m.shdlc = record { stands = link; full = h.full } in
     let n = link_next m k.acts.items f.front in
-    let is : record m { acts = map due_of k.acts.items } ≡ m = ap (λ a. record m { acts = a }) before.acts in
     let P : Machine → Type 0 = λ x. EndStandsFor (record k { shdlc = s; acts = acts }) pool x in
     let a = fetched_alike m.shdlc link.offered (waiting_in pool k.outbox) link.out link.narrow.session h.full in
     let w = stands_fetched k.shdlc s (waiting_in pool k.outbox) m.shdlc both (f.stands (with_out m.shdlc link.offered) link.kept) in
-    let acc : (fetched m.shdlc).session.acc ≡ m.shdlc.session.acc = fetched_acc m.shdlc m.shdlc.due (fragment_due m.shdlc.session) refl in
+    let acc : (fetched m.shdlc).session.acc ≡ m.shdlc.session.acc = let h0 = fragment_due m.shdlc.session in grind arith in
     let sent = same_session before w.stands a.out a.acked acc in
-    subst P (sym n.1 ∙ ap frame_fetched is) (record {
+    subst P (sym n.1 ∙ ap frame_fetched (ap (λ a. record m { acts = a }) before.acts)) (record {
       halfway = record {
         role = sent.role;
         link = w.stands;
@@ -265,14 +241,12 @@ accepted_stands {old} {new} {k} {box} {m} {x} h lies under got aside =
     let link = before.link in
     let sends = before.sends in
     let n = m.shdlc.session.acked in
-    let some = link.kept.sender.offered in
     let len : length (fragments_of m.sent) ≡ length link.offered + length (waiting_in old k.outbox) = ap length (sym sends.out ∙ link.out)
     ∙ length-append link.offered (waiting_in old k.outbox) in
-    let push = whole-push m.sent x n h.sendable (omega (arith, len, some)) in
-    let P : List Fragment → Type 0 = λ w. StandsBefore k.shdlc w (put_out m.shdlc (map packet_bytes (packets_of x.0 x.1))) in
+    let push = whole-push m.sent x n h.sendable (omega (arith, len, link.kept.sender.offered)) in
     record {
       role = before.role;
-      link = subst P (sym a.waiting)
+      link = subst (λ w. StandsBefore k.shdlc w (put_out m.shdlc (map packet_bytes (packets_of x.0 x.1)))) (sym a.waiting)
           (stands_put k.shdlc (waiting_in old k.outbox) (map packet_bytes (packets_of x.0 x.1)) m.shdlc (sym link.kept.phase ∙ h.up) link);
       acts = before.acts;
       sends = record {

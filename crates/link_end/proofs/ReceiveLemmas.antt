@@ -2,7 +2,6 @@
 use Rattle.link_end.proofs.Words.{Fragment, Inbox, InboxLiesIn, IsInboxReady, PoolState, ReceivesOn, [], ap, append-nil, arith, came_whole, chains_in}
 use Rattle.link_end.proofs.Words.{got_chains, held_blocks, option_to_list, packet_of, packets_in, refl, sym, used_of, ◌++◌, ◌∙◌, ◌∷◌, ◌≡◌}
 use Rattle.block_pool.proofs.HoldingLemmas.{with_used-same}
-use Rattle.hcp_chain.specs.Holding.{messages_in}
 use Rattle.link_messages.specs.Incoming.{Joins}
 
 -- the packet of one fragment
@@ -12,13 +11,9 @@ packets_in-one f = grind arith
 pub received_one : (old new : PoolState) (before after : Inbox) (f : Fragment) → IsInboxReady old before
     → Joins old new before after (option_to_list (packet_of f)) → ReceivesOn old new before after (f ∷ [])
 received_one old new before after f ready j =
-    let packets = packets_in-one f in
-    let o = before.joiner.owner in
-    let none : came_whole old before ≡ [] = ap (λ g. messages_in old (got_chains g)) ready.fetched in
     let chains : chains_in before ≡ before.joiner.open.items = ap (λ g. before.joiner.open.items ++ got_chains g) ready.fetched
     ∙ append-nil before.joiner.open.items in
-    let used_old = ready.used ∙ sym (ap (held_blocks old) chains) in
-    let used_new : used_of new o ≡ held_blocks new (chains_in after) = ap (used_of new) (sym j.owner) ∙ j.used in
+    let used_new : used_of new before.joiner.owner ≡ held_blocks new (chains_in after) = ap (used_of new) (sym j.owner) ∙ j.used in
     grind arith
 
 pub received_none : (pool : PoolState) (box : Inbox) → InboxLiesIn pool box → ReceivesOn pool pool box box []

@@ -3,7 +3,7 @@ use Rattle.std.specs.Bool.{OnTrue, OnFalse}
 use Rattle.link_end.proofs.Words.{Act, ActFrame, Bool, Control, End, EndStandsFor, EndState, ForgetsMessages, Halfway, IsShdlc, KeptEnd, LinkReport, LinkState}
 use Rattle.link_end.proofs.Words.{Machine, PoolState, Role, ShdlcStandsFor, StandsBefore, act_told, activated, after_input, ap, arith, false, heard, heard_told}
 use Rattle.link_end.proofs.Words.{if◌then◌else◌, in_phase, is_open, is_some, left_waiting, length, length-append, min, moved, nothing_told, report, report_told}
-use Rattle.link_end.proofs.Words.{subst, sym, take_answer, tick_answer, ticked, true, waiting_in, with_out, ℕ, ◌+◌, ◌∙◌, ◌≡◌, ◌⊎◌}
+use Rattle.link_end.proofs.Words.{subst, sym, take_answer, tick_answer, ticked, true, waiting_in, with_out, ℕ, ◌+◌, ◌∙◌, ◌≡◌}
 use Rattle.swp_base.specs.declared.control_frames.Control.TheVariants.{Clt, I, Rset, S, Ua}
 use Rattle.shdlc_core.specs.declared.answers.Ticked.{Ticked}
 use Rattle.shdlc_core.specs.Machine.{with_ready}
@@ -29,10 +29,6 @@ pub same_session : {pool : PoolState} {k : End} {s : KeptEnd} {m : Machine} {e :
     → Halfway (record k { shdlc = s }) pool (moved m false e)
 same_session before link out acked acc = grind arith
 
--- as many fragments are offered as before, where as many wait
-full_still : {W : Type 0} (before after acked now : ℕ) → W ⊎ (before ≡ acked + 4) → after ≡ before → now ≡ acked → W ⊎ (after ≡ now + 4)
-full_still before after acked now a same count = grind arith
-
 -- the same where what waits had no room before
 pub stays_full : {pool : PoolState} {k : End} {s : KeptEnd} {m : Machine} {e : EndState} → EndStandsFor k pool m
     → StandsBefore s (waiting_in pool k.outbox) e → e.session.out ≡ m.shdlc.session.out → e.session.acked ≡ m.shdlc.session.acked
@@ -46,7 +42,7 @@ stays_full {pool} {k} {s} {m} {e} h link out acked acc =
     let same : length link.offered ≡ length was.offered = omega (arith, all, all_before, ap length out) in
     record {
       halfway = same_session h.halfway link out acked acc;
-      full = full_still (length was.offered) (length link.offered) m.shdlc.session.acked e.session.acked h.full same acked;
+      full = let h0 = length was.offered in let h1 = length link.offered in grind arith;
     }
 
 acc_in : (e : EndState) (old new answered : Bool)
@@ -69,7 +65,6 @@ held pool k s m r readies h =
 alike : (pool : PoolState) (k : End) (m : Machine) (h : EndStandsFor k pool m) → TicksAlike m.shdlc h.halfway.link.offered
 alike pool k m h =
     let link = h.halfway.link in
-    let next = link.kept.sender.next in
     ticked_alike m.shdlc link.offered (waiting_in pool k.outbox) link.out h.full (omega arith)
 
 -- the SHDLC end of a link end took a tick, and answered this
@@ -100,8 +95,7 @@ module _ {k : End} {pool : PoolState} {m : Machine} {s : KeptEnd} {t : Ticked} (
   tick_ends {new} {k1} ended f =
       let a = alike pool k m h.before in
       let over = ended_by_tick ended in
-      let P : Bool → Type 0 = λ b. EndStandsFor k1 new (moved m b (ticked m.shdlc)) in
-      subst P (sym over) (session_ended (carries h.before.halfway) f (record {
+      subst (λ b. EndStandsFor k1 new (moved m b (ticked m.shdlc))) (sym over) (session_ended (carries h.before.halfway) f (record {
         stands = ticked_link ended;
         out = a.out ∙ ap (λ b. left_waiting b m.shdlc.session.out) over;
         acked = a.acked ∙ ap (λ b. if b then 0 else m.shdlc.session.acked) over;
@@ -112,8 +106,7 @@ module _ {k : End} {pool : PoolState} {m : Machine} {s : KeptEnd} {t : Ticked} (
   tick_goes_on going =
       let a = alike pool k m h.before in
       let over = ended_by_tick going in
-      let P : Bool → Type 0 = λ b. EndStandsFor (record k { shdlc = s }) pool (moved m b (ticked m.shdlc)) in
-      subst P (sym over)
+      subst (λ b. EndStandsFor (record k { shdlc = s }) pool (moved m b (ticked m.shdlc))) (sym over)
       (stays_full h.before (ticked_link going)
       (a.out ∙ ap (λ b. left_waiting b m.shdlc.session.out) over)
       (a.acked ∙ ap (λ b. if b then 0 else m.shdlc.session.acked) over)

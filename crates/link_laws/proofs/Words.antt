@@ -75,8 +75,7 @@ pub use Rattle.shdlc_core.specs.declared.answers.LinkState.{LinkState}
 pub use Rattle.shdlc_core.specs.declared.answers.LinkState.TheVariants.{Down, Up, Waiting}
 pub use Rattle.std.proofs.Common.{Bool, List, None, Option, Some, [], ap, append-nil, append_assoc, arith, cond, drop, false, inl, inr, length, length-append}
 pub use Rattle.std.proofs.Common.{map, min, refl, subst, suc, sym, take, true, zero, ℕ, ⊎_elim, ◌%◌, ◌++◌, ◌+◌, ◌-◌, ◌<◌, ◌||◌, ◌∙◌, ◌∷◌, ◌≡◌, ◌≤◌, ◌⊎◌}
-pub use Rattle.std.proofs.lemmas.Bool.{and_from, and_parts, cases_eq, cases_lt, eq-eqb, eqb-false, eqb-true, leb-false, lt-ltb, ltb-false, ltb-true, ne_eqb}
-pub use Rattle.std.proofs.lemmas.Bool.{not-true, or_parts, true≢false}
+pub use Rattle.std.proofs.lemmas.Bool.{and_parts, cases_lt, eq-eqb, eqb-true, leb-false, lt-ltb, ltb-false, ltb-true, ne_eqb, not-true, or_parts, true≢false}
 pub use Rattle.std.proofs.lemmas.Grind.{common_steps}
 pub use Rattle.std.proofs.lemmas.List.{length-map}
 pub use Rattle.std.proofs.lemmas.List.Concat.{flat_map-append}

@@ -12,14 +12,8 @@ use Rattle.hcp_packet.specs.Packets.{packets_of, packet_count, packet_bytes, fra
 abbrev fragments : Message → List (List ℕ)
 fragments m = map packet_bytes (packets_of m.0 m.1)
 
-pub fragments-append : (xs ys : List Message) → fragments_of (xs ++ ys) ≡ fragments_of xs ++ fragments_of ys
-fragments-append xs ys = flat_map-append fragments xs ys
-
 pub fragments-push : (xs : List Message) (m : Message) → fragments_of (xs ++ m ∷ []) ≡ fragments_of xs ++ map packet_bytes (packets_of m.0 m.1)
-fragments-push xs m = fragments-append xs (m ∷ []) ∙ ap (λ l. fragments_of xs ++ l) (nil_behind (fragments m))
-  where
-    nil_behind : (l : List (List ℕ)) → l ++ [] ≡ l
-    nil_behind l = grind (arith, common_steps)
+fragments-push xs m = (flat_map-append fragments xs (m ∷ [])) ∙ ap (λ l. fragments_of xs ++ l) (grind (arith, common_steps))
 
 -- the first message is acknowledged whole
 pub whole-first : (m : Message) (ms : List Message) (n : ℕ) → packet_count (length m.1) ≤ n
@@ -38,8 +32,7 @@ whole-none m ms n high = go (nat_le (packet_count (length m.1)) n) refl
 pub waiting-first : (m : Message) (ms : List Message) (cut : ℕ) → packet_count (length m.1) ≤ cut
     → drop cut (fragments_of (m ∷ ms)) ≡ drop (cut - packet_count (length m.1)) (fragments_of ms)
 waiting-first m ms cut low =
-    let len = length-fragments m in
-    let places : cut ≡ length (fragments m) + (cut - packet_count (length m.1)) = omega (arith, len, low) in
+    let places : cut ≡ length (fragments m) + (cut - packet_count (length m.1)) = omega (arith, (length-fragments m), low) in
     ap (λ n. drop n (fragments m ++ fragments_of ms)) places ∙ drop-append-add (fragments m) (fragments_of ms) (cut - packet_count (length m.1))
 
 pub length-first : (m : Message) (ms : List Message) → length (fragments_of (m ∷ ms)) ≡ packet_count (length m.1) + length (fragments_of ms)

@@ -13,9 +13,8 @@ use Rattle.hcp_chain.specs.declared.joiner.Joiner.{Joiner}
 use Rattle.hcp_chain.specs.declared.joiner.ChainFault.{ChainFault}
 use Rattle.hcp_chain.specs.declared.joiner.ChainFault.TheVariants.{TooManyChains, MessageTooLong}
 use Rattle.hcp_chain.specs.declared.joiner.Joined.TheVariants.{Fault}
-use Rattle.hcp_chain.specs.Joining.{JoinOutcome, Message as Ended, given_by, grown, is_fault, is_fifth, message_in}
-use Rattle.hcp_chain.specs.Holding.{AreApart, HoldsChains, IsOwnOpen, held_blocks, messages_in, open_messages}
-use Rattle.hcp_chain.specs.Holding.{KeepsOtherChains, IsApartFrom, AnswersOutcome}
+use Rattle.hcp_chain.specs.Joining.{JoinOutcome, Message as Ended, grown, is_fault, is_fifth, message_in}
+use Rattle.hcp_chain.specs.Holding.{AreApart, HoldsChains, IsOwnOpen, held_blocks, messages_in, open_messages, KeepsOtherChains, IsApartFrom, AnswersOutcome}
 use Rattle.hcp_chain.proofs.HoldingLemmas.{all_front, all_map, apart_front}
 use Rattle.hcp_chain.proofs.ClearLemmas.{kept}
 use Rattle.hcp_chain.proofs.ReadyLemmas.{ready_given}
@@ -101,9 +100,6 @@ cleared old new before after lies owner none got owners keeps =
 
 -- ---- a message that came whole
 
-bad_dropped : (pipe : ℕ) (bytes : List ℕ) → is_good bytes ≡ false → good_of ((pipe, bytes) ∷ []) ≡ []
-bad_dropped pipe bytes bad = ap (λ b. if b then (pipe, bytes) ∷ [] else []) bad
-
 -- what keeping a message leaves
 pub record Keeps (old new : PoolState) (before after : Inbox) (whole : Open) : Type 0 where
   pub lies : InboxLiesIn new after
@@ -121,9 +117,8 @@ dropped_bad old new before whole h none bad gives keeps =
     let n = blocks_for (length (chain_bytes old whole.chain)) in
     let r = ready_given old new before.joiner whole h gives keeps in
     let own = all_front (IsOwnOpen old o) xs whole h.holds.own in
-    let apart = apart_front xs whole h.holds.apart in
     let k = kept old new o whole.chain whole.chain xs keeps own.0
-    (all_map (λ y. AreApart y whole) (λ y. IsApart y.chain whole.chain) xs (λ y a. a.chains) apart.1) in
+    (all_map (λ y. AreApart y whole) (λ y. IsApart y.chain whole.chain) xs (λ y a. a.chains) (apart_front xs whole h.holds.apart).1) in
     let chains = only_under_way before none in
     let owners : new.owners ≡ with_used old.owners o (used_of old o - n) = gives.owners ∙ ap (λ q. with_used old.owners q (used_of old q - n)) own.1.owned in
     let used : used_of new o ≡ used_of old o - n = ap (λ os. (owner_at os o).used) owners ∙ used-with_used old.owners o (used_of old o - n) h.has_quota in
@@ -135,7 +130,7 @@ dropped_bad old new before whole h none bad gives keeps =
         used = subst (λ l. held_blocks new l ≤ used_of new o) (sym chains) (omega (arith, r.used));
       };
       under = k.messages;
-      got = ap (λ g. messages_in new (got_chains g)) none ∙ sym (bad_dropped whole.pipe (chain_bytes old whole.chain) bad);
+      got = ap (λ g. messages_in new (got_chains g)) none ∙ sym (let h0 = chain_bytes old whole.chain in grind arith);
       used = r.used ∙ sym (ap (held_blocks new) chains);
       elsewhere = record {
         owners = owners ∙ ap (with_used old.owners o) (sym used);
@@ -185,9 +180,6 @@ counts old new before joiner p whole lies t =
       ap (λ os. (owner_at os o).used) t.owners ∙ used-with_used old.owners o n lies.has_quota,
     )
 
-step_given : (ms : List Message) (p : Packet) (o : JoinOutcome) → (join_step ms p).0 ≡ o → given_by ms (p ∷ []) ≡ message_in o
-step_given ms p o e = append-nil (message_in (join_step ms p).0) ∙ ap message_in e
-
 -- the chain of the message that came whole is still counted
 holds_whole : {old mid : PoolState} {before : Inbox} {joiner : Joiner} {p : Packet} {whole : Open} → InboxLiesIn old before
     → TakesIn old mid before joiner p (whole ∷ []) → HoldsWhole mid joiner whole
@@ -202,12 +194,11 @@ pub joins_whole : {old mid new : PoolState} {before after : Inbox} {joiner : Joi
 joins_whole {old} {mid} {new} {before} {after} {joiner} {p} {whole} lies ready t outcome same keeps =
     let o = before.joiner.owner in
     let k = keeps (holds_whole lies t) in
-    let before_chains = only_under_way before ready.fetched in
     let owner : after.joiner.owner ≡ joiner.owner = ap (λ (j : Joiner). j.owner) same in
     record {
       lies = k.lies;
       joined = k.under ∙ t.under;
-      got = k.got ∙ sym (ap good_of (step_given (messages_under_way old before) p (Ended whole.pipe (chain_bytes mid whole.chain)) outcome));
+      got = k.got ∙ sym (ap good_of (append-nil (message_in (join_step (messages_under_way old before) p).0) ∙ ap message_in outcome));
       owner = owner ∙ t.owner;
       used = ap (λ q. used_of new q) owner ∙ k.used;
       elsewhere = record {
@@ -215,7 +206,7 @@ joins_whole {old} {mid} {new} {before} {after} {joiner} {p} {whole} lies ready t
             ∙ (ap (λ os. with_used os o (used_of new o)) t.owners
             ∙ with_used-with_used old.owners o (held_blocks mid (joiner.open.items ++ whole ∷ [])) (used_of new o) lies.has_quota));
         others = λ other live away.
-            let s = t.others other live (subst (λ l. IsApartFrom l other) before_chains away) in
+            let s = t.others other live (subst (λ l. IsApartFrom l other) (only_under_way before ready.fetched) away) in
             let u = k.elsewhere.others other s.0 s.2 in
             (u.0, u.1 ∙ s.1, u.2);
       };
@@ -252,7 +243,6 @@ joins_fault old new before joiner p lies ready t fault =
     let empty : joiner.open.items ≡ [] = none_open new joiner.open.items (t.under ∙ fault_empties (messages_under_way old before) p fault) in
     let all : joiner.open.items ++ got_chains before.got ≡ joiner.open.items ++ [] = ap (λ g. joiner.open.items ++ got_chains g) ready.fetched in
     let nothing : joiner.open.items ++ [] ≡ [] = ap (λ l. l ++ []) empty in
-    let before_chains = only_under_way before ready.fetched in
     record {
       lies = record {
         holds = subst (λ q. HoldsChains new q (joiner.open.items ++ got_chains before.got)) (sym t.owner) (subst (HoldsChains new o) (sym all) t.holds);
@@ -267,7 +257,7 @@ joins_fault old new before joiner p lies ready t fault =
       elsewhere = record {
         owners = t.owners ∙ ap (with_used old.owners o) (sym c.2);
         others = λ other live away.
-            let s = t.others other live (subst (λ l. IsApartFrom l other) before_chains away) in
+            let s = t.others other live (subst (λ l. IsApartFrom l other) (only_under_way before ready.fetched) away) in
             (s.0, s.1, subst (λ l. IsApartFrom l other) nothing s.2);
       };
     }

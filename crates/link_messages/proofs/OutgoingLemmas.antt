@@ -24,23 +24,19 @@ pub messages_same : (old new : PoolState) (queue : List Queued) → all_bytes Qu
 messages_same old new [] e = refl
 messages_same old new (q ∷ queue) e =
     let here : chain_bytes new q.chain ≡ chain_bytes old q.chain = cc in
-    let rest : all_bytes Queued chain_in new queue ≡ all_bytes Queued chain_in old queue = cc in
-    ap (λ b. (q.pipe, b) ∷ messages_of_all new queue) here ∙ ap (λ ms. queued_message old q ∷ ms) (messages_same old new queue rest)
+    ap (λ b. (q.pipe, b) ∷ messages_of_all new queue) here ∙ ap (λ ms. queued_message old q ∷ ms) (messages_same old new queue cc)
 
 -- each message has a block
 pub each_has_block : (pool : PoolState) (queue : List Queued) → AreSendable (messages_of_all pool queue) → length queue ≤ all_blocks Queued chain_in pool queue
 each_has_block pool [] s = omega arith
 each_has_block pool (q ∷ queue) s =
-    let some = s.0.1 in
-    let rest = each_has_block pool queue s.1 in
-    omega (arith, some, rest, sum_by-cons (λ (x : Queued). blocks_for (length (chain_bytes pool x.chain))) q queue)
+    omega (arith, s.0.1, (each_has_block pool queue s.1), sum_by-cons (λ (x : Queued). blocks_for (length (chain_bytes pool x.chain))) q queue)
 
 -- what is counted of an owner whose use changed
 pub aside-with_used : (owners : List Owner) (o n : ℕ) → o < length owners → (owner_at (with_used owners o n) o).aside ≡ (owner_at owners o).aside
 aside-with_used owners o n low =
-    let nobody : Owner = record { quota = 0; used = 0; aside = 0 } in
     ap (λ (x : Owner). x.aside)
-    (get_or-set_same owners o (record { quota = (owner_at owners o).quota; used = n; aside = (owner_at owners o).aside }) nobody low)
+    (get_or-set_same owners o (record { quota = (owner_at owners o).quota; used = n; aside = (owner_at owners o).aside }) (grind arith) low)
 
 -- the first of some items
 pub front_is : (items : List Queued) (q : Queued) → Some q ≡ slice_get items 0 → items ≡ q ∷ drop 1 items
@@ -81,20 +77,10 @@ gives_front {old} {new} {before} {after} {q} kept items capacity same_places giv
     let sum = sum_by-cons (λ (x : Queued). blocks_for (length (chain_bytes old x.chain))) q rest in
     let all : all_blocks Queued chain_in old before.queue.items ≡ all_blocks Queued chain_in old (q ∷ rest) = ap (all_blocks Queued chain_in old) items in
     let uses : used_of new o ≡ aside_of new o + all_blocks Queued chain_in new rest = omega (arith, used, aside, sum, all, kept.used, both.0.blocks) in
-    let here : AreKept new o after.queue = record {
-      own = both.0.own;
-      apart = apart.1;
-      sendable = subst AreSendable (sym same) sendable.1;
-      capacity = capacity ∙ kept.capacity;
-      has_quota = has;
-      quota = quota;
-      used = uses;
-      within = omega (arith, used, kept.within);
-    } in
     record {
       first = queued_message old q;
       messages = ap (messages_of_all old) items ∙ ap (λ ms. queued_message old q ∷ ms) (sym same);
-      kept = subst (λ p. AreKept new p after.queue) (sym same_places.owner) here;
+      kept = subst (λ p. AreKept new p after.queue) (sym same_places.owner) (grind arith);
       acked = same_places.acked;
       cut = same_places.cut;
       left = same_places.left;
@@ -137,11 +123,10 @@ gives_whole old new before after g lies low =
     let len = length-first g.first ms in
     let both = whole-first g.first ms before.acked low in
     let places : after.acked - c ≡ before.acked - c = ap (λ n. n - c) g.acked in
-    let cuts : after.cut - c ≡ before.cut - c = ap (λ n. n - c) g.cut in
     record {
       lies = record { kept = g.kept; acked = omega (arith, g.acked, g.cut, acked); cut = omega (arith, g.cut, g.left, acked, low, cut, len) };
       messages = sym (ap (drop 1) g.messages);
-      waiting = ap (λ n. drop n (fragments_of ms)) cuts
+      waiting = ap (λ n. drop n (fragments_of ms)) (ap (λ n. n - c) g.cut)
           ∙ (sym (waiting-first g.first ms before.cut (omega (arith, acked, low))) ∙ sym (ap (λ l. drop before.cut (fragments_of l)) g.messages));
       among = ap (λ n. 1 + whole_among ms n) places ∙ (let e : 1 + whole_among ms (before.acked - c) ≡ suc (whole_among ms (before.acked - c)) = omega arith in
           e ∙ (sym both.0 ∙ sym (ap (λ l. whole_among l before.acked) g.messages)));
@@ -203,14 +188,11 @@ pushed {old} {new} {o} {queue} {after} {bytes} before pipe kept keeps away c sen
     let both = kept_all new after keeps all in
     let same : messages_of_all new xs ≡ messages_of_all old xs = messages_same old new xs both.0.bytes in
     let sum = sum_by_push (λ (x : Queued). blocks_for (length (chain_bytes new x.chain))) xs y in
-    let size : blocks_for (length (chain_bytes new after)) ≡ blocks_for (length bytes) = ap (λ l. blocks_for (length l)) c.bytes_are in
     let messages : messages_of_all new (xs ++ y ∷ []) ≡ messages_of_all old xs ++ (pipe, bytes) ∷ [] =
     map_push (queued_message new) xs y
     ∙ (ap (λ ms. ms ++ (pipe, chain_bytes new after) ∷ []) same ∙ ap (λ l. messages_of_all old xs ++ (pipe, l) ∷ []) c.bytes_are) in
-    let each = each_has_block old xs kept.sendable in
-    let some = sendable.1 in
     record {
-      room = omega (arith, each, some, c.used, c.within, kept.used);
+      room = omega (arith, (each_has_block old xs kept.sendable), sendable.1, c.used, c.within, kept.used);
       kept = record {
         own = all_pushed Queued (λ x. IsOwnChain new o x.chain) xs y both.0.own (record { live = c.live; owned = c.owned });
         apart = lie_apart_pushed Queued chain_in xs y kept.apart both.1;
@@ -218,7 +200,7 @@ pushed {old} {new} {o} {queue} {after} {bytes} before pipe kept keeps away c sen
         capacity = kept.capacity;
         has_quota = c.has_quota;
         quota = c.quota ∙ kept.quota;
-        used = omega (arith, c.used, c.aside, sum, size, both.0.blocks, kept.used);
+        used = omega (arith, c.used, c.aside, sum, (ap (λ l. blocks_for (length l)) c.bytes_are), both.0.blocks, kept.used);
         within = c.within;
       };
       messages = messages;
@@ -231,10 +213,8 @@ pub few_fragments : (pool : PoolState) (queue : List Queued) → AreSendable (me
     → length (fragments_of (messages_of_all pool queue)) ≤ 2 * all_blocks Queued chain_in pool queue
 few_fragments pool [] s = omega arith
 few_fragments pool (q ∷ queue) s =
-    let some = s.0.1 in
-    let rest = few_fragments pool queue s.1 in
     let len = length-first (queued_message pool q) (messages_of_all pool queue) in
-    omega (arith, some, rest, len, sum_by-cons (λ (x : Queued). blocks_for (length (chain_bytes pool x.chain))) q queue)
+    omega (arith, s.0.1, (few_fragments pool queue s.1), len, sum_by-cons (λ (x : Queued). blocks_for (length (chain_bytes pool x.chain))) q queue)
 
 -- so many fragments come with a message pushed
 pub added : {old new : PoolState} {o : ℕ} {queue : Buffer Queued} {chain : Chain} {pipe : ℕ} {bytes : List ℕ} (left : ℕ)
@@ -247,8 +227,7 @@ pub left_fits : {old new : PoolState} {box : Outbox} {chain : Chain} {pipe : ℕ
 left_fits {old} {new} {box} {chain} {pipe} {bytes} lies p =
     let few = few_fragments new (box.queue.items ++ record { pipe = pipe; chain = chain } ∷ []) p.kept.sendable in
     let len = ap (λ l. length (fragments_of l)) p.messages ∙ length-push (queued_messages old box) (pipe, bytes) in
-    let same : packet_count (length (chain_bytes new chain)) ≡ packet_count (length bytes) = ap (λ (l : List ℕ). packet_count (length l)) p.bytes_are in
-    omega (arith, few, len, same, lies.cut, p.kept.used, p.kept.within)
+    omega (arith, few, len, (ap (λ (l : List ℕ). packet_count (length l)) p.bytes_are), lies.cut, p.kept.used, p.kept.within)
 
 -- a message came to the queue, none of which was cut
 pub record AddsMessage (before after : Outbox) (m : Message) : Type 0 where
@@ -311,25 +290,20 @@ taken_into {old} {new} {o} {queue} {before} {bytes = bytes} pipe kept is_empty s
     let owned = is_empty.0 in
     let none = is_empty.1 in
     let empty : chain_bytes old before ≡ [] = ap (named_bytes old.slots) none in
-    let n : more_blocks (length (chain_bytes old before)) (length bytes) ≡ blocks_for (length bytes) =
-    ap (λ (l : List ℕ). more_blocks (length l) (length bytes)) empty ∙ omega arith in
-    let owners : new.owners ≡ with_used old.owners o (used_of old o + blocks_for (length bytes)) =
-    t.appends.owners ∙ (ap (λ p. with_used old.owners p (used_of old p + more_blocks (length (chain_bytes old before)) (length bytes))) owned
-    ∙ ap (λ k. with_used old.owners o (used_of old o + k)) n) in
+    let n : more_blocks (length (chain_bytes old before)) (length bytes) ≡ blocks_for (length bytes) = grind arith in
+    let owners : new.owners ≡ with_used old.owners o (used_of old o + blocks_for (length bytes)) = grind arith in
     let used : used_of new o ≡ used_of old o + blocks_for (length bytes) = ap (λ os. (owner_at os o).used) owners
     ∙ used-with_used old.owners o (used_of old o + blocks_for (length bytes)) kept.has_quota in
     let aside : aside_of new o ≡ aside_of old o = ap (λ os. (owner_at os o).aside) owners
     ∙ aside-with_used old.owners o (used_of old o + blocks_for (length bytes)) kept.has_quota in
     let quota : quota_of new o ≡ quota_of old o = ap (λ os. (owner_at os o).quota) owners
     ∙ quota-with_used old.owners o (used_of old o + blocks_for (length bytes)) kept.has_quota in
-    let has : HasQuota new o = omega (arith, ap length owners ∙ length-with_used old.owners o (used_of old o + blocks_for (length bytes)), kept.has_quota) in
-    let room : blocks_for (length bytes) ≤ spare_of old o =
-    subst (λ k. k ≤ spare_of old o) n (subst (λ p. more_blocks (length (chain_bytes old before)) (length bytes) ≤ spare_of old p) owned t.room) in
+    let room : blocks_for (length bytes) ≤ spare_of old o = grind arith in
     pushed before pipe kept t.others (apart_empty_all queue.items before none) (record {
       live = t.live;
       owned = t.appends.owner ∙ owned;
       bytes_are = t.appended ∙ ap (λ (l : List ℕ). l ++ bytes) empty;
-      has_quota = has;
+      has_quota = omega (arith, ap length owners ∙ length-with_used old.owners o (used_of old o + blocks_for (length bytes)), kept.has_quota);
       quota = quota;
       used = used;
       aside = aside;
@@ -386,8 +360,6 @@ looks_on pool box at place count q looks found counted low =
     let items = drop_at box.queue.items at q found in
     let own = subst (OwnsAll Queued chain_in pool box.owner) items looks.own in
     let sendable = subst (λ l. AreSendable (messages_of_all pool l)) items looks.sendable in
-    let here = looks_at pool box at place q looks found in
-    let len = length-fragments (queued_message pool q) in
     let some = slice_get_within box.queue.items at q (sym found) in
     record {
       low = omega arith;
@@ -396,13 +368,11 @@ looks_on pool box at place count q looks found counted low =
       within = omega (arith, looks.within);
       fragment = sym (slice_get_behind (map packet_bytes (packets_of q.pipe (chain_bytes pool q.chain)))
           (fragments_of (messages_of_all pool (drop (at + 1) box.queue.items))) place (place - count)
-          (omega (arith, len, counted, low))) ∙ here.2;
+          (omega (arith, (length-fragments (queued_message pool q)), counted, low))) ∙ (looks_at pool box at place q looks found).2;
     }
 
 pub cut_low : (pool : PoolState) (box : Outbox) → OutboxLiesIn pool box → box.cut ≤ 256
-cut_low pool box lies =
-    let few = few_fragments pool box.queue.items lies.kept.sendable in
-    omega (arith, few, lies.cut, lies.kept.used, lies.kept.within)
+cut_low pool box lies = omega (arith, (few_fragments pool box.queue.items lies.kept.sendable), lies.cut, lies.kept.used, lies.kept.within)
 
 -- no fragment is left exactly where none waits
 pub all_cut : (pool : PoolState) (box : Outbox) → OutboxLiesIn pool box → (box.left ≡ 0 → waiting_in pool box ≡ []) × (waiting_in pool box ≡ [] → box.left ≡ 0)
@@ -418,12 +388,8 @@ pub one_found : (pool : PoolState) (box : Outbox) (at place : ℕ) → OutboxLie
     → None ≡ slice_get box.queue.items at → ⊥
 one_found pool box at place lies some looks none =
     let found : None ≡ slice_get (fragments_of (queued_messages pool box)) box.cut =
-    sym (ap (λ l. slice_get (fragments_of (messages_of_all pool l)) place) (drop_none box.queue.items at none) ∙ nothing place) ∙ looks.fragment in
-    let all = (all_cut pool box lies).1 (drop_none (fragments_of (queued_messages pool box)) box.cut found) in
-    absurd (omega (arith, all, some))
-  where
-    nothing : (n : ℕ) → slice_get (fragments_of []) n ≡ None
-    nothing n = refl
+    sym (ap (λ l. slice_get (fragments_of (messages_of_all pool l)) place) (drop_none box.queue.items at none) ∙ (refl)) ∙ looks.fragment in
+    absurd (omega (arith, ((all_cut pool box lies).1 (drop_none (fragments_of (queued_messages pool box)) box.cut found)), some))
 
 -- ---- acknowledging
 
@@ -477,8 +443,7 @@ passed_into {old} {new} {o} {queue} {before} {after} pipe kept live differ senda
     ∙ (quota-with_used without o more low ∙ ap (λ (x : Owner). x.quota) other) in
     let len : length new.owners ≡ length old.owners = ap length owners
     ∙ (length-with_used without o more ∙ length-with_used old.owners before.owner (used_of old before.owner - n)) in
-    let away = lies_apart_by_owner Queued chain_in old o xs before kept.own live differ in
-    let p = pushed before pipe kept t.others away (record {
+    let p = pushed before pipe kept t.others (lies_apart_by_owner Queued chain_in old o xs before kept.own live differ) (record {
       live = t.live;
       owned = t.passes.owner_is;
       bytes_are = t.same_bytes;
@@ -544,8 +509,7 @@ pub first_given : (pool new : PoolState) (box after : Outbox) (q : Queued) (b : 
     × (length after.queue.items + 1 ≡ length box.queue.items)
 first_given pool new box after q b count lies found given none counted low =
     let items = box.queue.items in
-    let messages : queued_messages pool box ≡ queued_message pool q ∷ messages_of_all pool (drop 1 items) =
-    ap (messages_of_all pool) (front_is items q found) in
+    let messages : queued_messages pool box ≡ queued_message pool q ∷ messages_of_all pool (drop 1 items) = grind arith in
     let g = front_given b (GivesFront pool new box after) items _ given none (λ n. n.0) (λ e. some_left pool items _ _ messages e) in
     let first : queued_message pool q ≡ g.first = first_is _ g.first _ _ (sym messages ∙ g.messages) in
     let same : packet_count (length g.first.1) ≡ count = ap (λ (x : Message). packet_count (length x.1)) (sym first) ∙ sym counted in
@@ -556,6 +520,4 @@ pub some_waits : (x : List ℕ) (xs ys : List (List ℕ)) → ys ≡ x ∷ xs �
 some_waits x xs ys e none = cc
 
 pub few_queued : (pool : PoolState) (box : Outbox) → OutboxLiesIn pool box → length box.queue.items ≤ 128
-few_queued pool box lies =
-    let each = each_has_block pool box.queue.items lies.kept.sendable in
-    omega (arith, each, lies.kept.used, lies.kept.within)
+few_queued pool box lies = omega (arith, (each_has_block pool box.queue.items lies.kept.sendable), lies.kept.used, lies.kept.within)

@@ -45,9 +45,6 @@ some_is a b p = ap (or_this a) p
 lost_entry : (to : End) (x : OnWire) → entries_for to.link (Lost (side_of to) x.frame TooMany ∷ []) ≡ entry.Lost to (lpdu_of x.frame) Full ∷ []
 lost_entry to x = ap (λ z. entry.Lost z (lpdu_of x.frame) Full ∷ []) (end_is to)
 
-old_entry : (to : End) (x : OnWire) → entries_for to.link (Lost (side_of to) x.frame TooOld ∷ []) ≡ entry.Lost to (lpdu_of x.frame) Age ∷ []
-old_entry to x = ap (λ z. entry.Lost z (lpdu_of x.frame) Age ∷ []) (end_is to)
-
 lengths : (wire : Buffer Flying) (frames : List OnWire) → WireStandsFor wire frames → length wire.items ≡ length frames
 lengths wire frames w = ap length w.frames ∙ length-map frames
 
@@ -67,20 +64,16 @@ was_lost {wire} {flying} {lost} {frames} w put =
     (λ q. absurd (let z : Some lost ≡ None = rw q at put.out_is in cc))
     (λ q.
     let z : Some lost ≡ slice_get (wire.items ++ flying ∷ []) 0 = rw q at put.out_is in
-    let i = ltb-false (length wire.items) wire.capacity q in
-    let l = lengths wire frames w in
-    let f = w.few in let k = w.capacity in (omega (arith, i, l, f, k), z))
+    let f = w.few in let k = w.capacity in (omega (arith, (ltb-false (length wire.items) wire.capacity q), (lengths wire frames w), f, k), z))
 
 pub not_full : {wire new : Buffer Flying} {flying : Flying} {frames : List OnWire} → WireStandsFor wire frames → IsPutLast wire new flying None
     → length frames < 64
 not_full {wire} {flying} {frames} w put =
     by_test (nat_lt (length wire.items) wire.capacity)
     (λ q.
-    let i = ltb-true (length wire.items) wire.capacity q in
-    let l = lengths wire frames w in let k = w.capacity in omega (arith, i, l, k))
+    let l = lengths wire frames w in let k = w.capacity in omega (arith, (ltb-true (length wire.items) wire.capacity q), l, k))
     (λ q.
-    let z : None ≡ slice_get (wire.items ++ flying ∷ []) 0 = rw q at put.out_is in
-    absurd (some_first wire.items flying (sym z)))
+    absurd (some_first wire.items flying (sym (rw q at put.out_is))))
 
 -- there was room
 pub has_room : {wire new : Buffer Flying} {flying : Flying} {frames : List OnWire} (x : OnWire) (to : End) (entries : List Entry)
@@ -172,13 +165,12 @@ pub too_old : {wire new : Buffer Flying} {flying : Flying} {x : OnWire} {frames 
     → WireStandsFor new (frames ++ aged_wire (x ∷ [])) × AreNoted to before now (aged_entries (side_of to) (x ∷ []))
 too_old {new} {flying} {x} {frames} to before w off old noted =
     let first : flying ≡ kept_of x = first_is w off in
-    let age : 4 ≤ x.age = let z = ap (λ (f : Flying). f.age) first in omega (arith, z, old) in
-    let q : nat_lt x.age 4 ≡ false = le-ltb x.age 4 age in
+    let q : nat_lt x.age 4 ≡ false = le-ltb x.age 4 (let z = ap (λ (f : Flying). f.age) first in omega (arith, z, old)) in
     let none : frames ++ aged_wire (x ∷ []) ≡ frames = rw q (append-nil frames) in
     let told : aged_entries (side_of to) (x ∷ []) ≡ Lost (side_of to) x.frame TooOld ∷ [] = rw q refl in (
       rw (← none) at (taken_off w off),
       noted ∙ ap (λ (f : Flying). before ++ entry.Lost to f.lpdu Age ∷ []) first
-          ∙ ap (λ es. before ++ es) (sym (old_entry to x)) ∙ ap (λ n. before ++ entries_for to.link n) (sym told),
+          ∙ ap (λ es. before ++ es) (sym (grind arith)) ∙ ap (λ n. before ++ entries_for to.link n) (sym told),
     )
 
 pub grows_older : {wire mid new : Buffer Flying} {flying : Flying} {x : OnWire} {frames : List OnWire} (to : End) (entries : List Entry)
@@ -227,9 +219,6 @@ aging_starts {frames} {wire} {entries} w q =
       noted = sym (append-nil entries);
     }
 
-one_wire : (x : OnWire) (xs : List OnWire) → aged_wire (x ∷ xs) ≡ aged_wire (x ∷ []) ++ aged_wire xs
-one_wire x xs = by_test (nat_lt x.age 4) (λ q. rw q refl) (λ q. rw q refl)
-
 one_note : (to : End) (x : OnWire) (xs : List OnWire) → aged_entries (side_of to) (x ∷ xs) ≡ aged_entries (side_of to) (x ∷ []) ++ aged_entries (side_of to) xs
 one_note to x xs = by_test (nat_lt x.age 4) (λ q. rw q refl) (λ q. rw q refl)
 
@@ -252,7 +241,7 @@ aging_goes_on {to} {frames} {wire} {new} {before} {now} {left} a ages =
       notes = a.notes ++ aged_entries (side_of to) (x ∷ []);
       stands = rw (append_assoc xs a.done (aged_wire (x ∷ []))) at r.0;
       left_is = (let z = ap length q in let l = a.left_is in omega (arith, z, l));
-      wire_is = a.wire_is ∙ (ap (λ l. a.done ++ aged_wire l) q ∙ (ap (λ l. a.done ++ l) (one_wire x xs)
+      wire_is = a.wire_is ∙ (ap (λ l. a.done ++ aged_wire l) q ∙ (ap (λ l. a.done ++ l) (grind arith)
           ∙ sym (append_assoc a.done (aged_wire (x ∷ [])) (aged_wire xs))));
       notes_are = a.notes_are ∙ (ap (λ l. a.notes ++ aged_entries (side_of to) l) q ∙ (ap (λ l. a.notes ++ l) (one_note to x xs)
           ∙ sym (append_assoc a.notes (aged_entries (side_of to) (x ∷ [])) (aged_entries (side_of to) xs))));

@@ -1,6 +1,6 @@
 -- What a node decides may be done: a command finds room.
 use Rattle.node_core.proofs.Words.{AllByRecursion, AreGranted, Asks, Bool, Command, Commits, Core, Deed, Drops, Ends, Err, GoesOn, Hears, Init, IsAnswered}
-use Rattle.node_core.proofs.Words.{IsGranted, IsOnTask, List, Message, None, Ok, Option, Orders, Releases, Result, SaysOk, Sends, SetsErrors, Some, Tells, Work}
+use Rattle.node_core.proofs.Words.{IsOnTask, List, Message, None, Ok, Option, Orders, Releases, Result, SaysOk, Sends, SetsErrors, Some, Tells, Work}
 use Rattle.node_core.proofs.Words.{[], arith, body_in, cond, controller_deeds, done, false, has, has_link, has_turn, hosts_where, map, own_view, refl, subst}
 use Rattle.node_core.proofs.Words.{sym, true, view_of, ℕ, ◌∷◌, ◌≡◌}
 use Rattle.hcp_packet.specs.declared.MessageKind.{MessageKind}
@@ -13,7 +13,7 @@ use Rattle.gate_admin.specs.declared.decision.Decision.{Decision}
 use Rattle.gate_admin.specs.declared.decision.Decision.TheVariants.{Answer, Commit, Ask}
 use Rattle.gate_admin.specs.Decide.{decided}
 use Rattle.node_machine.specs.Carrying.{finds_room}
-use Rattle.node_machine.specs.Controller.{commit_deeds, decision_deeds, gate_deeds, served_at, relayed_to, unless_asking, kind_deeds, own_deeds, relay_deeds}
+use Rattle.node_machine.specs.Controller.{commit_deeds, decision_deeds, served_at, relayed_to, unless_asking, kind_deeds, own_deeds}
 use Rattle.node_machine.specs.Controller.{deeds_by_relay, own_gate, view_for, goes_through}
 
 -- ## Deeds that may always be done
@@ -36,9 +36,6 @@ IsPlain (Ends e) = ⊥
 abbrev ArePlain : List Deed → Type 0
 ArePlain deeds = AllByRecursion IsPlain deeds
 
-one_plain : (init : Option Init) (d : Deed) (w : Work) → IsPlain d → IsGranted init d w
-one_plain init d w plain = grind arith
-
 plain_core : (h : ℕ) (d : Deed) (w : Work) → IsPlain d → (done h d w).core ≡ w.core
 plain_core h d w plain = grind arith
 
@@ -46,7 +43,7 @@ all_plain : (h : ℕ) (init : Option Init) (deeds : List Deed) (w : Work) → Ar
 all_plain h init [] w plain on = on
 all_plain h init (d ∷ deeds) w plain on =
     let same = plain_core h d (record w { plan = None }) plain.0 in (
-      one_plain init d w plain.0,
+      (grind arith),
       all_plain h init deeds (done h d (record w { plan = None })) plain.1 (subst (λ (c : Core). IsOnTask c) (sym same) on),
     )
 
@@ -73,13 +70,10 @@ module _ (h : ℕ) (m : Message) (init : Option Init) (w : Work) (on : IsOnTask 
       (tells_plain notice.items (hosts_where (has tell)))
   decision_allowed pipe (Ask asked notice c answer) = (tt, on)
 
-  gate_allowed : (gate errors pipe instruction : ℕ) (body : List ℕ) → AreGranted h init (gate_deeds gate errors h pipe instruction body) (has_turn h m w)
-  gate_allowed gate errors pipe instruction body = grind arith
-
   served_allowed : (view : LinkView) (pipe instruction : ℕ) (body : List ℕ) (o : Option ℕ)
       → AreGranted h init (served_at (own_view w.core) view h pipe instruction body o) (has_turn h m w)
   served_allowed view pipe instruction body None = decision_allowed pipe (decided w.core.tables view h pipe instruction body)
-  served_allowed view pipe instruction body (Some gate) = gate_allowed gate view.errors pipe instruction body
+  served_allowed view pipe instruction body (Some gate) = grind arith
 
   asking_allowed : (instruction : ℕ) (b : Bool) → AreGranted h init (unless_asking (view_of w.core w.ports) h m instruction b) (has_turn h m w)
   asking_allowed instruction true = (tt, on)
@@ -97,11 +91,8 @@ module _ (h : ℕ) (m : Message) (init : Option Init) (w : Work) (on : IsOnTask 
   own_allowed true = kind_allowed (header_of m.1)
   own_allowed false = (tt, on)
 
-  relay_allowed : (other : ℕ) (b : Bool) → AreGranted h init (relay_deeds (has_link w.ports) h m other b) (has_turn h m w)
-  relay_allowed other b = grind arith
-
   by_relay_allowed : (o : Option ℕ) → AreGranted h init (deeds_by_relay (view_of w.core w.ports) h m o) (has_turn h m w)
-  by_relay_allowed (Some other) = relay_allowed other (has_link w.ports other)
+  by_relay_allowed (Some other) = let h0 = has_link w.ports other in grind arith
   by_relay_allowed None = own_allowed (has_link w.ports h)
 
   -- what a controller decides may be done, once the message has its turn

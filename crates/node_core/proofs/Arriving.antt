@@ -14,10 +14,6 @@ use Rattle.node_core.proofs.Elsewhere.{host_at, hosts_differ}
 
 -- ## The ends
 
-come_ports : (h : ℕ) (i : LinkInput) (ports : List Port)
-    → map (λ (p : Port). has_come p (input_at (AtEnd h i) p)) ports ≡ with_port h (λ p. has_come p (Some i)) ports
-come_ports h i ports = grind arith
-
 -- ## What is noted
 
 none_told : (core : Core) (h : ℕ) (i : LinkInput) (ports : List Port) → AllByRecursion (λ (g : ℕ). g ≢ h) (map host_at ports)
@@ -25,11 +21,7 @@ none_told : (core : Core) (h : ℕ) (i : LinkInput) (ports : List Port) → AllB
 none_told core h i [] differ = refl
 none_told core h i (p ∷ ports) differ =
     flat_map-cons (λ (q : Port). told_at core q (input_at (AtEnd h i) q)) p ports
-    ∙ by (p.desk.host == h) refl (none_told core h i ports differ.1)
-  where
-    by : (b : Bool) → (p.desk.host == h) ≡ b → flat_map (λ (q : Port). told_at core q (input_at (AtEnd h i) q)) ports ≡ []
-        → told_at core p (input_at (AtEnd h i) p) ++ flat_map (λ (q : Port). told_at core q (input_at (AtEnd h i) q)) ports ≡ []
-    by b q later = grind arith
+    ∙ (let h0 = p.desk.host == h in let h1 = none_told core h i ports differ.1 in grind arith)
 
 come_entries : (core : Core) (h : ℕ) (i : LinkInput) (ports : List Port) → AreAllDifferent (map host_at ports)
     → flat_map (λ (p : Port). told_at core p (input_at (AtEnd h i) p)) ports
@@ -41,8 +33,7 @@ come_entries core h i (p ∷ ports) differ =
   where
     others : (p.desk.host == h) ≡ true → flat_map (λ (q : Port). told_at core q (input_at (AtEnd h i) q)) ports ≡ []
     others q =
-        let P : ℕ → Type 0 = λ n. AllByRecursion (λ (g : ℕ). g ≢ n) (map host_at ports) in
-        none_told core h i ports (subst P (eqb-true p.desk.host h q) differ.0)
+        none_told core h i ports (subst (λ n. AllByRecursion (λ (g : ℕ). g ≢ n) (map host_at ports)) (eqb-true p.desk.host h q) differ.0)
 
     by : (b : Bool) → (p.desk.host == h) ≡ b
         → flat_map (λ (q : Port). told_at core q (input_at (AtEnd h i) q)) ports ≡ option_map_or (λ (q : Port). told_at core q (Some i)) (port_at ports h) []
@@ -57,16 +48,12 @@ pub come_is : (h : ℕ) (i : LinkInput) (w : Work) → AreAllDifferent (map host
     (record w { ports = with_port h (λ p. has_come p (Some i)) w.ports }) ≡ all_come (AtEnd h i) w
 come_is h i w differ =
     ap₂ (λ (es : List Entry) (ports : List Port). noting es (record w { ports = ports })) (sym (come_entries w.core h i w.ports differ))
-    (sym (come_ports h i w.ports))
+    (sym (grind arith))
 
 pub changed_here : (h : ℕ) (f : Port → Port) (ports : List Port) (p : Port) → ((q : Port) → (f q).desk.host ≡ q.desk.host)
     → port_at ports h ≡ Some p → port_at (with_port h f ports) h ≡ Some (f p)
 changed_here h f [] p same is = cc
-changed_here h f (q ∷ ports) p same is = by (q.desk.host == h) refl (changed_here h f ports p same)
-  where
-    by : (b : Bool) → (q.desk.host == h) ≡ b → (port_at ports h ≡ Some p → port_at (with_port h f ports) h ≡ Some (f p))
-        → port_at (with_port h f (q ∷ ports)) h ≡ Some (f p)
-    by b e later = grind arith
+changed_here h f (q ∷ ports) p same is = let h0 = q.desk.host == h in let h1 = changed_here h f ports p same in grind arith
 
 pub comes_to : {N : Type 0} {n : Node N} {ends : KeptEnds} {before now start : List Entry} {was short : Bool} {w : Work} (h : ℕ) (i : LinkInput)
     (told : LinkReport) → IsInStep n before was start w → EndsStandFor ends (with_port h (λ p. has_come p (Some i)) w.ports)
@@ -83,13 +70,11 @@ comes_to {N} {n} {ends} {before} {now} {start} {was} {short} {w} h i told u stan
     by None q = absurd (let z : Some told ≡ None = is ∙ ap (option_map (λ (p : Port). report_told (report p.side i))) q in cc)
     by (Some p) q =
         let z : Some told ≡ Some (report_told (report p.side i)) = is ∙ ap (option_map (λ (p : Port). report_told (report p.side i))) q in
-        let one : told ≡ report_told (report p.side i) = cc in
-        let es : List Entry = told_at w.core p (Some i) in
         let P : Work → Type 0 = λ v. IsInStep (record n { ends = ends }) now short start v in
         let f : Port → List Entry = λ p. told_at w.core p (Some i) in
         let ports : List Port = with_port h (λ p. has_come p (Some i)) w.ports in
         subst P (ap (λ (o : Option Port). noting (option_map_or f o []) (record w { ports = ports })) (sym q) ∙ come_is h i w differ)
-        (comes_noted es ports u stands (notes p q one))
+        (comes_noted (told_at w.core p (Some i)) ports u stands (notes p q cc))
 
 -- where it tells nothing, nothing is noted
 pub comes_silently : {N : Type 0} {n : Node N} {ends : KeptEnds} {before start : List Entry} {was : Bool} {w : Work} (h : ℕ) (i : LinkInput)
@@ -97,9 +82,8 @@ pub comes_silently : {N : Type 0} {n : Node N} {ends : KeptEnds} {before start :
     → option_map_or (λ (p : Port). told_at w.core p (Some i)) (port_at w.ports h) [] ≡ []
     → IsInStep (record n { ends = ends }) before was start (all_come (AtEnd h i) w)
 comes_silently {N} {n} {ends} {before} {start} {was} {w} h i u stands none =
-    let P : Work → Type 0 = λ v. IsInStep (record n { ends = ends }) before was start v in
     let ports : List Port = with_port h (λ p. has_come p (Some i)) w.ports in
-    subst P (ap (λ (es : List Entry). noting es (record w { ports = ports })) (sym none)
+    subst (λ v. IsInStep (record n { ends = ends }) before was start v) (ap (λ (es : List Entry). noting es (record w { ports = ports })) (sym none)
     ∙ come_is h i w (hosts_differ n.ends.pool n.ends.seats w.ports u.ends.hosts u.ends.each)) (comes_noted [] ports u stands (no_notes was before))
 
 -- where there is no such end nothing comes
@@ -109,9 +93,8 @@ pub comes_nowhere : {N : Type 0} {n : Node N} {ends : KeptEnds} {before start : 
     → IsInStep (record n { ends = ends }) before was start (all_come (AtEnd h i) w)
 comes_nowhere {N} {n} {ends} {before} {start} {was} {w} h i u stands none notes =
     let P : Work → Type 0 = λ v. IsInStep (record n { ends = ends }) before was start v in
-    let f : Port → List Entry = λ p. told_at w.core p (Some i) in
     let ports : List Port = with_port h (λ p. has_come p (Some i)) w.ports in
-    subst P (ap (λ (o : Option Port). noting (option_map_or f o []) (record w { ports = ports })) (sym none)
+    subst P (ap (λ (o : Option Port). noting (option_map_or (λ p. told_at w.core p (Some i)) o []) (record w { ports = ports })) (sym none)
     ∙ come_is h i w (hosts_differ n.ends.pool n.ends.seats w.ports u.ends.hosts u.ends.each)) (comes_noted [] ports u stands notes)
 
 pub no_port : {X : Type 0} (f : Port → X) (o : Option Port) → None ≡ option_map f o → o ≡ None
@@ -134,14 +117,11 @@ each_few pool [] [] g = tt
 each_few pool [] (p ∷ ports) g = absurd g
 each_few pool (s ∷ seats) [] g = absurd g
 each_few pool (s ∷ seats) (p ∷ ports) g =
-    let same = ap (λ (ms : List Message). length ms) g.0.holds.waits in
-    let few = waiting_few pool s.waiting in
-    (omega (arith, same, few), each_few pool seats ports g.1)
+    (omega (arith, (ap (λ (ms : List Message). length ms) g.0.holds.waits), (waiting_few pool s.waiting)), each_few pool seats ports g.1)
 
 got_few : (ends : KeptEnds) (ports : List Port) (h : ℕ) (p : Port) → EndsStandFor ends ports → port_at ports h ≡ Some p → length p.side.got ≤ 1
 got_few ends ports h p e is =
-    let P : Option Port → Type 0 = λ o. IfSome o (λ (q : Port). length q.side.got ≤ 1) in
-    subst P is (found_all _ ports h (each_few ends.pool ends.seats ports e.each))
+    subst (λ o. IfSome o (λ (q : Port). length q.side.got ≤ 1)) is (found_all _ ports h (each_few ends.pool ends.seats ports e.each))
 
 got_after : (m : Machine) (i : LinkInput) → is_outside i ≡ true → (after_input m i).got ≡ m.got ++ got_by m i
 got_after m i out = ap (λ (x : Machine). x.got) (input_apart m m.got i out)
@@ -153,9 +133,8 @@ pub brought_is : (ends : KeptEnds) (ports : List Port) (h : ℕ) (i : LinkInput)
 brought_is ends ports h i p out e is =
     let after = changed_here h (λ q. has_come q (Some i)) ports p (λ q. refl) is in
     let got = got_after p.side i out in
-    let few = got_few ends (with_port h (λ q. has_come q (Some i)) ports) h (has_come p (Some i)) e after in
     let P : List Message → Type 0 = λ l. length l ≤ 1 in
-    got_so p.side.got (got_by p.side i) (subst P got few)
+    got_so p.side.got (got_by p.side i) (subst P got (got_few ends (with_port h (λ q. has_come q (Some i)) ports) h (has_come p (Some i)) e after))
     ∙ ap (λ (l : List Message). if is_some (oldest (got_by p.side i)) then l else [])
     (sym got ∙ ap (λ (o : Option Port). option_map_or (λ (q : Port). q.side.got) o []) (sym after))
 

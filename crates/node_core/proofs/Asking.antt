@@ -1,9 +1,8 @@
 -- What a host does by itself leaves it running.
-use Rattle.node_core.proofs.Words.{BeginsStep, Bool, Core, Deed, EndsStandFor, Entry, GoesOn, HasStepped, IfSome, Init, IsAllSent, IsAsked, IsAskedOf, IsInStep}
-use Rattle.node_core.proofs.Words.{IsNodeInOrder, IsOnOrder, IsOnTask, IsUicc, IsUsable, List, MayComeAt, MayStartAt, Node, None, Option, Orders, Port, Refused}
-use Rattle.node_core.proofs.Words.{RunsAs, Sends, Some, Stored, ToEnd, Work, [], all_done, ap, append-nil, arith, beginning, between, done, false, give_refusal}
-use Rattle.node_core.proofs.Words.{if_waiting, is_command_message, is_some, map, not, port_at, refl, sending, subst, sym, true, ℕ, ◌&&◌, ◌==◌, ◌∙◌, ◌∷◌, ◌≡◌}
-use Rattle.node_core.proofs.Words.{◌≢◌, ◌≤◌}
+use Rattle.node_core.proofs.Words.{BeginsStep, Bool, Core, Deed, EndsStandFor, Entry, GoesOn, HasStepped, Init, IsAllSent, IsAsked, IsAskedOf, IsInStep}
+use Rattle.node_core.proofs.Words.{IsNodeInOrder, IsOnTask, IsUicc, IsUsable, List, MayComeAt, Node, None, Option, Orders, Port, Refused, RunsAs, Sends, Some}
+use Rattle.node_core.proofs.Words.{Stored, ToEnd, Work, [], all_done, ap, append-nil, arith, beginning, between, done, false, give_refusal, if_waiting}
+use Rattle.node_core.proofs.Words.{is_command_message, is_some, map, not, port_at, refl, sending, subst, sym, true, ℕ, ◌&&◌, ◌==◌, ◌∙◌, ◌∷◌, ◌≡◌, ◌≢◌, ◌≤◌}
 use Rattle.node_ends.specs.declared.inputs.LinkInput.TheVariants as asks
 use Rattle.node_core.proofs.Quiet.{done_quiet}
 use Rattle.node_core.proofs.Elsewhere.{same_links}
@@ -51,11 +50,6 @@ begins_at_rest {ports = ports} noted short runs sent = record {
 pub never_waits : (b : Bool) (why : Option Refused) → if_waiting b why ≡ None → b ≡ false
 never_waits b why none = grind arith
 
--- where no command waits, no init runs
-free_order : (command : Option (List ℕ)) (init : Option Init) (order : List ℕ) → is_some command ≡ false → IsOnOrder command init
-    → IsOnOrder (Some order) init
-free_order command init order free on = grind arith
-
 one_order : (h : ℕ) (d : Deed) (w : Work) → (done h d w).core.node ≡ w.core.node → IsOnTask (done h d w).core → IsNodeInOrder w.core w.ports
     → IsNodeInOrder (done h d w).core (done h d w).ports
 one_order h d w node task order =
@@ -75,7 +69,7 @@ sending_order h pipe message w free order = by (pipe == 1 && is_command_message 
     by true q =
         let none : is_some w.core.command ≡ false = sym (ap (λ b. b && is_some w.core.command) q) ∙ free in
         subst P (given_order h pipe message w q)
-        (one_order h (Orders message) w refl (free_order w.core.command w.core.init message none order.task.0, order.task.1) order)
+        (one_order h (Orders message) w refl ((grind arith), order.task.1) order)
     by false q = subst P (given_other h pipe message w q) (one_order h (Sends h (pipe, message)) w refl order.task order)
 
 -- so does one that begins an init
@@ -84,11 +78,10 @@ pub beginning_order : (h : ℕ) (identity : List ℕ) (pipes : List (List ℕ)) 
 beginning_order h identity pipes w live some order =
     let i : Init = record { identity = identity; pipes = pipes; answered = 0 } in
     let first : Work = done h (GoesOn i) w in
-    let P : Work → Type 0 = λ v. IsNodeInOrder v.core v.ports in
     let second : Work = done h (Orders (3 ∷ [])) first in
     let ports = in_order_at w.core w.ports second.ports
     (same_kinds second.ports w.ports (same_links second.ports w.ports (done_quiet h (Orders (3 ∷ [])) first))) order in
-    subst P (given_both h (GoesOn i) (Orders (3 ∷ [])) w live)
+    subst (λ v. IsNodeInOrder v.core v.ports) (given_both h (GoesOn i) (Orders (3 ∷ [])) w live)
     (with_task w.core second.core second.ports refl (refl, λ none. absurd (some none)) ports)
 
 -- ## As it ends
@@ -103,10 +96,9 @@ pub has_given : {N : Type 0} {n n2 : Node N} {noted start : List Entry} {short :
     → n.store.journal.live ≡ true → EndsStandFor n2.ends (map between w.ports) → n2.store ≡ n.store → n2.number ≡ n.number → n2.tasks ≡ n.tasks
     → IsUsable n2.store → IsNodeInOrder w.core w.ports → OfAll (Rests 4) w.ports → HasStepped n2 noted short start w
 has_given {N} {n} {n2} {w = w} u live ends store number tasks usable order rest =
-    let P : Stored N → Type 0 = λ s. w.cut ≡ not s.journal.live in
     let k = u.core (u.power ∙ ap not live) in
     record {
-      power = subst P (sym store) u.power;
+      power = subst (λ s. w.cut ≡ not s.journal.live) (sym store) u.power;
       runs = λ power.
           runs_so 4 w.ports (omega arith) usable (ap (λ (s : Stored N). s.journal.live) store ∙ live) (u.node ∙ sym number) (core_with store tasks k)
           ends order rest;
@@ -115,17 +107,13 @@ has_given {N} {n} {n2} {w = w} u live ends store number tasks usable order rest 
 
 -- ## Activation
 
--- the end of a host is activated with any identifier
-uicc_may_start : (value : ℕ) (o : Option Port) → IfSome o (λ (p : Port). IsUicc p.side.role) → MayStartAt value o
-uicc_may_start value o is = grind arith
-
 -- what is asked of a host may come to its end
 pub asked_may : (what : ToEnd) (host : ℕ) (core : Core) (ports : List Port) → IsAskedOf what → core.node ≢ 0 → IsNodeInOrder core ports
     → MayComeAt what (port_at ports host)
 asked_may (asks.Frame read) host core ports asked some order = absurd asked
 asked_may (asks.Reset window) host core ports asked some order = asked
 asked_may (asks.Start value) host core ports asked some order =
-    uicc_may_start value (port_at ports host) (found_all (λ (p : Port). IsUicc p.side.role) ports host (order.roles.uicc some))
+    let h0 = port_at ports host in let h1 = found_all (λ (p : Port). IsUicc p.side.role) ports host (order.roles.uicc some) in grind arith
 asked_may asks.Stop host core ports asked some order = tt
 
 -- ## A host that was asked
@@ -153,11 +141,9 @@ has_sent_so {N} {n} {n1} {n2} {w = w} pipe message a some taken u kept ended sto
     let node = a.runs.node in
     let o = own_port w.core w.ports (λ none. some (sym node ∙ none)) a.runs.order in
     let at = ap (port_at w.ports) (sym node) ∙ o.at in
-    let free = never_waits ((pipe == 1 && is_command_message message) && is_some w.core.command) (give_refusal o.port.side (pipe, message))
-    (sym (taken o.port at)) in
     let v : Work = all_done n.number (sending n.number (pipe, message)) w in
     has_given u (ap (λ (s : Stored N). s.journal.live) kept ∙ a.runs.live) (ended v.ports u.ends) store number tasks (usable_with (store ∙ kept) a.runs.usable)
-    (sending_order n.number pipe message w free a.runs.order) (given_rests n.number (sending n.number (pipe, message)) a)
+    (sending_order n.number pipe message w (grind arith) a.runs.order) (given_rests n.number (sending n.number (pipe, message)) a)
 
 -- it began an init that wasn't refused
 pub has_begun_so : {N : Type 0} {n n1 n2 : Node N} {noted noted2 start : List Entry} {short short2 : Bool} {w : Work} (identity : List ℕ)

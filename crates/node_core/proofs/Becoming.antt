@@ -91,12 +91,7 @@ step_links h i w = by settled.cut refl
 come_there : (h : ℕ) (i : LinkInput) (ports : List Port) (p : Port) → port_at ports h ≡ Some p
     → port_at (map (λ (q : Port). has_come q (input_at (AtEnd h i) q)) ports) h ≡ Some (has_come p (Some i))
 come_there h i [] p is = cc
-come_there h i (q ∷ ports) p is = by (q.desk.host == h) refl (come_there h i ports p)
-  where
-    by : (b : Bool) → (q.desk.host == h) ≡ b
-        → (port_at ports h ≡ Some p → port_at (map (λ (x : Port). has_come x (input_at (AtEnd h i) x)) ports) h ≡ Some (has_come p (Some i)))
-        → port_at (map (λ (x : Port). has_come x (input_at (AtEnd h i) x)) (q ∷ ports)) h ≡ Some (has_come p (Some i))
-    by b z later = grind arith
+come_there h i (q ∷ ports) p is = let h0 = q.desk.host == h in let h1 = come_there h i ports p in grind arith
 
 links_at : (a b : List Port) (h : ℕ) → map link_at a ≡ map link_at b → option_map link_at (port_at a h) ≡ option_map link_at (port_at b h)
 links_at a b h same =
@@ -119,6 +114,5 @@ pub becomes_ready : {N : Type 0} {n : Node N} {noted start : List Entry} {short 
 becomes_ready {w = w} h i p b at became =
     let R : Option Port → Type 0 = λ o. IfSome o (λ (q : Port). IsReached q.side) in
     let reached : IsReached p.side = subst R at (found_all (λ (q : Port). IsReached q.side) w.ports h (runs_reached b.runs)) in
-    let ready = ready_behind p.side i (reached_sound p.side reached) became in
-    as_seen (after_input p.side i) p.desk.host (port_at (steps (AtEnd h i) w).ports h) ready
+    as_seen (after_input p.side i) p.desk.host (port_at (steps (AtEnd h i) w).ports h) (ready_behind p.side i (reached_sound p.side reached) became)
     (links_at (steps (AtEnd h i) w).ports (all_come (AtEnd h i) w).ports h (step_links h i w) ∙ ap (option_map link_at) (come_there h i w.ports p at))

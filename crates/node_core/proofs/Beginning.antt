@@ -1,7 +1,7 @@
 -- A node that has booted runs.
 use Rattle.node_core.proofs.Words.{AllByRecursion, AreAtMostDue, AreHeldWhileOneWaits, AreInTime, AreOfHosts, EndsStandFor, HasOwnLink, HaveOwnRoles, IsClf}
 use Rattle.node_core.proofs.Words.{IsTrue, IsUsable, List, Named, Node, None, Port, RunsAs, [], ap, arith, between, has, hosts_linked, hosts_where}
-use Rattle.node_core.proofs.Words.{init_running, length, map, new_port, refl, subst, suc, sym, zero, ℕ, ◌+◌, ◌∷◌, ◌≡◌, ◌≤◌}
+use Rattle.node_core.proofs.Words.{init_running, map, new_port, refl, subst, suc, sym, zero, ℕ, ◌∷◌, ◌≡◌, ◌≤◌}
 use Rattle.swp_base.specs.declared.link_terms.Role.TheVariants.{Clf, Uicc}
 use Rattle.node_core.specs.Booting.{role_at}
 use Rattle.node_core.specs.Running.{core_kept}
@@ -15,12 +15,9 @@ pub record BeginsAs {N : Type 0} (number : ℕ) (role : Named) (hosts : List ℕ
   pub command : n.tasks.command ≡ None
   pub init : n.tasks.init ≡ None
 
-one_few : (role : Named) (h : ℕ) → length (new_port role h).side.acts + length (new_port role h).side.shdlc.due ≤ 5
-one_few role h = grind arith
-
 new_few : (role : Named) (hosts : List ℕ) → AreAtMostDue 5 (map (new_port role) hosts)
 new_few role [] = tt
-new_few role (h ∷ hosts) = (one_few role h, new_few role hosts)
+new_few role (h ∷ hosts) = ((grind arith), new_few role hosts)
 
 new_in_time : (role : Named) (hosts : List ℕ) → AreInTime (map (new_port role) hosts)
 new_in_time role [] = tt
@@ -47,13 +44,12 @@ new_runs : {N : Type 0} (n : Node N) (number : ℕ) (role : Named) (hosts : List
     → AreOfHosts (map (new_port role) hosts) → HasOwnLink n.number (map (new_port role) hosts) → HaveOwnRoles n.number (map (new_port role) hosts)
     → RunsAs n (core_kept n) (map (new_port role) hosts)
 new_runs n number role hosts b usable of own roles =
-    let P : List Port → Type 0 = λ ports. EndsStandFor n.ends ports in
     record {
       usable = usable;
       live = b.live;
       node = refl;
       stands = record { journal = refl; tables = refl; command = sym b.command; init = ap init_running (sym b.init) };
-      ends = subst P (sym (new_between role hosts)) b.ends;
+      ends = subst (λ ports. EndsStandFor n.ends ports) (sym (new_between role hosts)) b.ends;
       order = record { hosts = of; own = own; roles = roles; task = (tt, λ zero. refl) };
       few = new_few role hosts;
       in_time = new_in_time role hosts;

@@ -3,7 +3,7 @@ use Rattle.std.proofs.lemmas.List.{length-map}
 use Rattle.node_core.proofs.Words.{AllByRecursion, AreAllDifferent, AreAtMostDue, AreHeldWhileOneWaits, AreInTime, BeginsStep, Bool, Core, CoreStandsFor}
 use Rattle.node_core.proofs.Words.{EndsStandFor, Entry, HasNoneEnded, HasStepped, IsAllSent, IsHeldWhileOneWaits, IsInStep, IsNodeInOrder, IsReached, IsTrue}
 use Rattle.node_core.proofs.Words.{IsUsable, KeptEnds, List, Machine, Node, None, Option, PoolState, Port, RunsAs, Seat, SeatsStandFor, Some, Stored, Work, []}
-use Rattle.node_core.proofs.Words.{ap, append-nil, ap₂, arith, at_place, between, changed_if, due_count, false, frame_fetched, has_sent, length, map}
+use Rattle.node_core.proofs.Words.{ap, append-nil, ap₂, arith, at_place, between, due_count, false, frame_fetched, has_sent, length, map}
 use Rattle.node_core.proofs.Words.{next_frame, not, one_more_error, option_map, port_at, refl, sent_all, slice_get, subst, sym, true, with_port, ℕ, ◌&&◌, ◌++◌}
 use Rattle.node_core.proofs.Words.{◌+◌, ◌==◌, ◌∙◌, ◌∷◌, ◌≡◌, ◌≤◌}
 use Rattle.swp_base.specs.declared.control_frames.Control.{Control}
@@ -15,7 +15,7 @@ use Rattle.link_laws.specs.machine.Laws.{fetches, after_fetches, most_fetches}
 use Rattle.link_laws.proofs.machine.Reports.{fetched_all, left_all}
 use Rattle.link_laws.proofs.places.Joined.{idle_after, left}
 use Rattle.node_machine.specs.Node.{with_error}
-use Rattle.node_ends.specs.Ends.{SeatStandsFor, are_at_rest, frame_at}
+use Rattle.node_ends.specs.Ends.{are_at_rest, frame_at}
 use Rattle.node_ends.specs.Desks.{age_at}
 use Rattle.node_ends.proofs.Sending.{sent_same}
 use Rattle.node_core.specs.Running.{SendsOneByOne}
@@ -32,26 +32,19 @@ use Rattle.node_core.proofs.Lasting.{Of, OfAll, Ready, Rests, port_so}
 abbrev pub begun : Port → Port
 begun p = record p { late = false; ended = false; turns = [] }
 
-seat_kept : {pool : PoolState} {s : Seat} (p : Port) → SeatStandsFor pool s (begun p) → SeatStandsFor pool s (between p)
-seat_kept p k = grind arith
-
-seat_back : {pool : PoolState} {s : Seat} {p : Port} → SeatStandsFor pool s (between p) → p.late ≡ false → p.ended ≡ false
-    → SeatStandsFor pool s p
-seat_back k late ended = grind arith
-
 seats_kept : (pool : PoolState) (seats : List Seat) (ports : List Port) → SeatsStandFor pool seats (map begun ports)
     → SeatsStandFor pool seats (map between ports)
 seats_kept pool [] [] g = tt
 seats_kept pool [] (p ∷ ports) g = absurd g
 seats_kept pool (s ∷ seats) [] g = absurd g
-seats_kept pool (s ∷ seats) (p ∷ ports) g = (seat_kept p g.0, seats_kept pool seats ports g.1)
+seats_kept pool (s ∷ seats) (p ∷ ports) g = ((grind arith), seats_kept pool seats ports g.1)
 
 seats_back : (pool : PoolState) (seats : List Seat) (ports : List Port) → SeatsStandFor pool seats (map between ports) → HasNoneEnded ports
     → SeatsStandFor pool seats ports
 seats_back pool [] [] g none = tt
 seats_back pool [] (p ∷ ports) g none = absurd g
 seats_back pool (s ∷ seats) [] g none = absurd g
-seats_back pool (s ∷ seats) (p ∷ ports) g none = (seat_back g.0 none.0.0 none.0.1, seats_back pool seats ports g.1 none.1)
+seats_back pool (s ∷ seats) (p ∷ ports) g none = ((grind arith), seats_back pool seats ports g.1 none.1)
 
 -- what is kept of ends as a step begins
 pub ends_kept : (ends : KeptEnds) (ports : List Port) → EndsStandFor ends (map begun ports) → EndsStandFor ends (map between ports)
@@ -76,10 +69,7 @@ kept_none_ended (p ∷ ports) = ((refl, refl), kept_none_ended ports)
 pub kept_with : (h : ℕ) (f : Port → Port) → ((p : Port) → between (f p) ≡ f (between p)) → (ports : List Port)
     → map between (with_port h f ports) ≡ with_port h f (map between ports)
 kept_with h f same [] = refl
-kept_with h f same (p ∷ ports) = ap₂ (λ (q : Port) qs. q ∷ qs) (one (p.desk.host == h)) (kept_with h f same ports)
-  where
-    one : (b : Bool) → between (changed_if b f p) ≡ changed_if b f (between p)
-    one b = grind arith
+kept_with h f same (p ∷ ports) = ap₂ (λ (q : Port) qs. q ∷ qs) (let h0 = p.desk.host == h in grind arith) (kept_with h f same ports)
 
 -- ## What is so of them
 
@@ -141,10 +131,8 @@ record GoOut (e : Machine) : Type 0 where
 
 go_out : (e : Machine) → IsReached e → length e.shdlc.due ≤ 12 → GoOut e
 go_out e reached few =
-    let F : Machine → Type 0 = λ m. length m.shdlc.due ≤ 12 in
-    let few_there = subst F reached.is few in
-    let S : Machine → Type 0 = λ m. GoOut m in
-    subst S (sym reached.is) (record {
+    let few_there = subst (λ m. length m.shdlc.due ≤ 12) reached.is few in
+    subst (λ m. GoOut m) (sym reached.is) (record {
       frames = fetched_all reached.role reached.inputs few_there;
       rest = left_all reached.role reached.inputs few_there;
     })
@@ -170,14 +158,6 @@ pub runs_reached : {N : Type 0} {n : Node N} {core : Core} {ports : List Port} �
 runs_reached {n = n} {ports = ports} r =
     kept_reached ports (reached_each n.ends.pool n.ends.seats (map between ports) r.ends.each)
 
-few_due : (p : Port) → length p.side.acts + length p.side.shdlc.due ≤ 5 → length p.side.shdlc.due ≤ 12
-few_due p few = omega (arith, few)
-
--- at most nine frames wait at an end of a node that runs
-few_of_seat : {pool : PoolState} {s : Seat} (p : Port) → SeatStandsFor pool s (between p) → length p.side.acts + length p.side.shdlc.due ≤ 5
-    → length p.side.acts + left p.side.shdlc ≤ 9
-few_of_seat p k few = grind arith
-
 pub few_wait : {N : Type 0} {n : Node N} {core : Core} {ports : List Port} → RunsAs n core ports
     → AllByRecursion (λ (p : Port). length p.side.acts + left p.side.shdlc ≤ 9) ports
 few_wait {n = n} r = go n.ends.seats _ r.ends.each r.few
@@ -186,7 +166,7 @@ few_wait {n = n} r = go n.ends.seats _ r.ends.each r.few
         → AllByRecursion (λ (p : Port). length p.side.acts + left p.side.shdlc ≤ 9) ports
     go seats [] g few = tt
     go [] (p ∷ ports) g few = absurd g
-    go (s ∷ seats) (p ∷ ports) g few = (few_of_seat p g.0 few.0, go seats ports g.1 few.1)
+    go (s ∷ seats) (p ∷ ports) g few = ((grind arith), go seats ports g.1 few.1)
 
 one_by_one : (e : Machine) → IsReached e → length e.acts + length e.shdlc.due ≤ 5 → length e.acts + left e.shdlc ≤ 9 → SendsOneByOne e
 one_by_one e reached few wait =
@@ -210,7 +190,7 @@ runs_ready r sent = go _ (runs_reached r) r.few r.in_time sent
         → IsAllSent ports → OfAll (Ready 0) ports
     go [] reached few time sent = tt
     go (p ∷ ports) reached few time sent =
-        let none = none_due p.side reached.0 (few_due p few.0) sent.0 in
+        let none = none_due p.side reached.0 (omega (arith, few.0)) sent.0 in
         ((omega (arith, none), time.0), go ports reached.1 few.1 time.1 sent.1)
 
 sent_due : (e : Machine) → (due_count (frame_fetched e) ≤ due_count e) × ((frame_fetched e).shdlc.ready ≡ e.shdlc.ready)
@@ -232,17 +212,12 @@ sent_due e = go e.acts refl e.shdlc.due refl (fragment_due e.shdlc.session) refl
         by false z =
             let f = fetched_less in
             let less = f.0 in
-            let same = length-map (a ∷ acts) nearer in
-            rw (p, z) (omega (arith, less, same), f.1)
+            rw (p, z) (omega (arith, less, (length-map (a ∷ acts) nearer)), f.1)
 
 pub sent_rests : (k : ℕ) (p : Port) → Of (Rests k) p → Of (Rests k) (has_sent p)
 sent_rests k p is =
     let less = sent_due p.side in
-    let got = sent_same p.side in
-    let few = is.0.0 in
-    let fewer = less.0 in
-    let G : _ → Type 0 = λ (g : _). g ≡ [] → ⊥ in
-    ((omega (arith, few, fewer), is.0.1), λ some. ap not less.1 ∙ is.1 (subst G got.0 some))
+    ((omega (arith, is.0.0, less.0), is.0.1), λ some. ap not less.1 ∙ is.1 (subst (λ (g : _). g ≡ [] → ⊥) (sent_same p.side).0 some))
 
 -- ## Steps
 
@@ -281,29 +256,21 @@ pub has_stepped : {N : Type 0} {n n2 : Node N} {noted start : List Entry} {short
     → EndsStandFor n2.ends (map between w.ports) → n2.store ≡ n.store → n2.number ≡ n.number → n2.tasks ≡ n.tasks → IsUsable n2.store
     → (w.cut ≡ false → IsNodeInOrder w.core w.ports) → (w.cut ≡ false → OfAll (Rests 2) w.ports) → HasStepped n2 noted short start w
 has_stepped {N} {n} {n2} {w = w} u ends store number tasks usable order rest =
-    let P : Stored N → Type 0 = λ s. w.cut ≡ not s.journal.live in
-    let power : w.cut ≡ not n2.store.journal.live = subst P (sym store) u.power in
+    let power : w.cut ≡ not n2.store.journal.live = subst (λ s. w.cut ≡ not s.journal.live) (sym store) u.power in
     record {
       power = power;
       runs = λ live.
           (let k = u.core live in
-          runs_so 2 w.ports (omega arith) usable (alive n2.store.journal.live (sym power ∙ live)) (u.node ∙ sym number)
+          runs_so 2 w.ports (omega arith) usable (let h0 = sym power ∙ live in grind arith) (u.node ∙ sym number)
           (core_with store tasks k) ends (order live) (rest live));
       noted_are = u.noted_are;
     }
-  where
-    alive : (b : Bool) → not b ≡ false → b ≡ true
-    alive b q = grind arith
 
 -- ## Refused frames
 
 pub error_desks : (h : ℕ) (ports : List Port) → map (λ (p : Port). p.desk) (with_port h one_more_error ports) ≡ with_error h (map (λ (p : Port). p.desk) ports)
 error_desks h [] = refl
-error_desks h (p ∷ ports) = by (error_desks h ports) (p.desk.host == h) refl
-  where
-    by : map (λ (p : Port). p.desk) (with_port h one_more_error ports) ≡ with_error h (map (λ (p : Port). p.desk) ports) → (b : Bool)
-        → (p.desk.host == h) ≡ b → map (λ (p : Port). p.desk) (with_port h one_more_error (p ∷ ports)) ≡ with_error h (map (λ (p : Port). p.desk) (p ∷ ports))
-    by later b q = grind arith
+error_desks h (p ∷ ports) = let h0 = error_desks h ports in let h1 = p.desk.host == h in grind arith
 
 error_seen : (k : ℕ) (p : Port) → Of (Rests k) p → Of (Rests k) (one_more_error p)
 error_seen k p is = is
@@ -316,11 +283,9 @@ pub runs_with : {N : Type 0} {n n2 : Node N} {core : Core} {ports : List Port} (
     → EndsStandFor n2.ends (with_port h f (map between ports)) → n2.store ≡ n.store → n2.number ≡ n.number → n2.tasks ≡ n.tasks
     → RunsAs n2 core (with_port h f ports)
 runs_with {N} {n} {n2} {core} {ports} h f r kind same rests ends store number tasks =
-    let E : List Port → Type 0 = λ qs. EndsStandFor n2.ends qs in
     let L : Stored N → Type 0 = λ s. IsTrue s.journal.live in
-    let kept = subst E (sym (kept_with h f same ports)) ends in
     runs_so 4 (with_port h f ports) (omega arith) (usable_with store r.usable) (subst L (sym store) r.live) (r.node ∙ sym number)
-    (core_with store tasks r.stands) kept
+    (core_with store tasks r.stands) (subst (λ qs. EndsStandFor n2.ends qs) (sym (kept_with h f same ports)) ends)
     (in_order_at core ports (with_port h f ports) (port_kinds h f kind ports) r.order)
     (port_so (Rests 4) h f rests ports (runs_rest ports r.few r.in_time r.held))
 
@@ -352,17 +317,10 @@ placed i h f ports differ is = by (slice_get ports i) refl
 
 pub kept_at : (h : ℕ) (ports : List Port) → port_at (map between ports) h ≡ option_map between (port_at ports h)
 kept_at h [] = refl
-kept_at h (p ∷ ports) = by (p.desk.host == h) refl (kept_at h ports)
-  where
-    by : (b : Bool) → (p.desk.host == h) ≡ b → port_at (map between ports) h ≡ option_map between (port_at ports h)
-        → port_at (map between (p ∷ ports)) h ≡ option_map between (port_at (p ∷ ports) h)
-    by b q later = grind arith
-
-kept_frame : (o : Option Port) → frame_at (option_map between o) ≡ frame_at o
-kept_frame o = grind arith
+kept_at h (p ∷ ports) = let h0 = p.desk.host == h in let h1 = kept_at h ports in grind arith
 
 pub kept_frame_at : (h : ℕ) (ports : List Port) → frame_at (port_at (map between ports) h) ≡ frame_at (port_at ports h)
-kept_frame_at h ports = ap frame_at (kept_at h ports) ∙ kept_frame (port_at ports h)
+kept_frame_at h ports = ap frame_at (kept_at h ports) ∙ (let h0 = port_at ports h in grind arith)
 
 -- what isn't kept of an end says nothing of whether it is at rest
 pub kept_at_rest : (ports : List Port) → are_at_rest (map between ports) ≡ are_at_rest ports
@@ -384,13 +342,12 @@ kept_facts F to from (p ∷ a) (q ∷ b) same all =
 
 pub kept_alike : {N : Type 0} {n : Node N} {core : Core} (a b : List Port) → map between a ≡ map between b → RunsAs n core a → RunsAs n core b
 kept_alike {n = n} {core = core} a b same r =
-    let E : List Port → Type 0 = λ qs. EndsStandFor n.ends qs in
     record {
       usable = r.usable;
       live = r.live;
       node = r.node;
       stands = r.stands;
-      ends = subst E same r.ends;
+      ends = subst (λ qs. EndsStandFor n.ends qs) same r.ends;
       order = in_order_at core a b (sym (kept_kinds b) ∙ (ap (map kind_at) (sym same) ∙ kept_kinds a)) r.order;
       few = kept_facts (λ p. length p.side.acts + length p.side.shdlc.due ≤ 5) (λ p is. is) (λ p is. is) a b same r.few;
       in_time = kept_facts (λ p. age_at (Some p) ≤ 99) (λ p is. is) (λ p is. is) a b same r.in_time;

@@ -1,7 +1,7 @@
 -- What begins a step of a node.
 use Rattle.node_core.proofs.Words.{AreAllDifferent, AreAtMostDue, AreFewDue, AreOfHosts, At, AtEnd, Core, Err, HasNoneEnded, IfSome, IsNodeInOrder, LinkInput}
 use Rattle.node_core.proofs.Words.{List, MayComeAt, NodeInput, OnErr, Option, Plan, Port, ResetRefused, Result, Some, TimePasses, ToEnd, Work, [], all_come, ap}
-use Rattle.node_core.proofs.Words.{arith, between, flat_map, input_of_end, input_of_node, is_outside, map, option_map, option_map_or, port_at, refl, refusal_at}
+use Rattle.node_core.proofs.Words.{arith, between, flat_map, input_of_end, input_of_node, is_outside, map, option_map_or, port_at, refl, refusal_at}
 use Rattle.node_core.proofs.Words.{reset_few_due, subst, sym, sync_kept, synced, times_out, told_at, true, ℕ, ◌∷◌, ◌≡◌, ◌≤◌}
 use Rattle.node_ends.proofs.Dues.{lpdu_few, start_few, stop_few}
 use Rattle.node_ends.specs.declared.inputs.LinkInput.TheVariants.{Frame, Reset, Start, Stop}
@@ -35,13 +35,10 @@ pub node_more : (input : ToNode) (ports : List Port) → MayComeToNode input por
 node_more (At host what) ports may = end_more what (port_at ports host) may
 node_more Tick ports may = tt
 
-kept_may_at : (what : ToEnd) (o : Option Port) → MayComeAt what o → MayComeAt what (option_map between o)
-kept_may_at what o may = grind arith
-
 -- what isn't kept of an end says nothing of it
 pub kept_may : (input : ToNode) (ports : List Port) → MayComeToNode input ports → MayComeToNode input (map between ports)
 kept_may (At host what) ports may =
-    let P : Option Port → Type 0 = λ o. MayComeAt what o in subst P (sym (kept_at host ports)) (kept_may_at what (port_at ports host) may)
+    let P : Option Port → Type 0 = λ o. MayComeAt what o in subst P (sym (kept_at host ports)) (let h0 = port_at ports host in grind arith)
 kept_may Tick ports may = tt
 
 -- ## What is refused

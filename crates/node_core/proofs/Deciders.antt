@@ -1,6 +1,6 @@
 -- What a node looks at as it decides.
 use Rattle.node_core.proofs.Words.{AreOfHosts, Bool, Desk, DeskOf, Entry, HasOwnLink, IsInStep, IsNodeInOrder, List, Message, Node, None, Option, Port, Some}
-use Rattle.node_core.proofs.Words.{Work, [], ap, arith, desk_shown, eq-eqb, got_at, handling, has_link, init_running, is_up, map, not, option_map}
+use Rattle.node_core.proofs.Words.{Work, [], ap, arith, desk_shown, eq-eqb, got_at, handling, has_link, init_running, map, option_map}
 use Rattle.node_core.proofs.Words.{option_map_or, port_at, refl, slice_get, sym, true, ℕ, ◌==◌, ◌∙◌, ◌∷◌, ◌≡◌, ◌≢◌, ◌≤◌}
 use Rattle.node_deeds.specs.Cores.{handled}
 use Rattle.node_deeds.specs.Hosts.{IsHostAt}
@@ -57,13 +57,9 @@ pub looks_at : {N : Type 0} {n : Node N} {noted start : List Entry} {short : Boo
     → n.store.journal.live ≡ true → n.number ≢ 0 → IsNodeInOrder w.core w.ports
     → Some (desk_shown d) ≡ option_map (λ (q : Port). q.desk) (slice_get w.ports 0) → up ≡ has_link w.ports d.host → LooksAt n d up w
 looks_at {n = n} {w = w} d up u live some order shown linked =
-    let k = u.core (u.power ∙ ap not live) in
     let o = only w.core.node w.ports (order.own (λ none. some (sym u.node ∙ none))) in
-    let desk = desk_is o.port d w.ports o.ports_are shown in
     let host : o.port.desk.host ≡ n.number = o.host ∙ u.node in
-    let own : d.host ≡ n.number = ap (λ (x : DeskOf). x.host) (sym desk) ∙ host in
-    let at : port_at w.ports n.number ≡ Some o.port = ap (λ (l : List Port). port_at l n.number) o.ports_are ∙ found_one n.number o.port host in
-    let is_up : up ≡ is_up o.port.side.shdlc.phase = linked ∙ (grind arith) in
+    let own : d.host ≡ n.number = ap (λ (x : DeskOf). x.host) (sym (desk_is o.port d w.ports o.ports_are shown)) ∙ host in
     grind arith
 
 -- there is an end of it

@@ -1,5 +1,5 @@
 -- One deed, as it is done and as it is noted.
-use Rattle.node_core.proofs.Words.{AreMade, Bool, Brings, Command, Core, CoreStandsFor, End, EndsStandFor, Entry, Err, Give, IsInStep, KeptEnds, List, Message}
+use Rattle.node_core.proofs.Words.{AreMade, Bool, Brings, Command, Core, End, EndsStandFor, Entry, Err, Give, IsInStep, KeptEnds, List, Message}
 use Rattle.node_core.proofs.Words.{Node, None, Ok, Option, Port, Refused, Result, SendRefused, Some, State, Stored, WereMade, Work, Write, [], after_turn, ap}
 use Rattle.node_core.proofs.Words.{append-nil, append_assoc, arith, body_of, commit, commit_writes, end_of_node, false, give_refusal, given_at, has_room_for}
 use Rattle.node_core.proofs.Words.{is_none, is_ok, map, not, noted_of, noting, option_map_or, port_at, refl, subst, sym, takes_at, true, true≢false, turn_at}
@@ -33,10 +33,7 @@ more_noted {before} {now} {short} {was} start old e stays more told kept = by wa
 
 pub host_at : (h : ℕ) (ports : List Port) (p : Port) → port_at ports h ≡ Some p → p.desk.host ≡ h
 host_at h [] p is = cc
-host_at h (q ∷ ports) p is = by (host_at h ports p) (q.desk.host == h) refl
-  where
-    by : (port_at ports h ≡ Some p → p.desk.host ≡ h) → (b : Bool) → (q.desk.host == h) ≡ b → p.desk.host ≡ h
-    by later b e = grind arith
+host_at h (q ∷ ports) p is = let h0 = host_at h ports p in let h1 = q.desk.host == h in grind arith
 
 -- what is noted of a message that an end takes for sending
 pub record IsSent (core : Core) (h : ℕ) (m : Message) (notes : List Entry) : Type 0 where
@@ -66,13 +63,12 @@ pub sent_under_way : {N : Type 0} {n : Node N} {ends : KeptEnds} {noted now star
     → IsInStep (record n { ends = ends }) now short start (turn_at h (Give m) w)
 sent_under_way {n = n} {noted = noted} {now = now} {start = start} {w = w} {at = at} m h u stands takes stays more is =
     let s = sent_noted w.core h m w.ports takes in
-    let at_is : noted ++ entry.Sent at 0 m.0 m.1 ∷ [] ≡ noted ++ entry.Sent (end_of_node w.core h) 0 m.0 m.1 ∷ [] = grind arith in
     record {
       node = u.node;
       core = λ live. (let k = u.core live in record { journal = k.journal; tables = k.tables; command = k.command; init = k.init });
       ends = stands;
       noted_are = λ kept.
-          more_noted start w.entries (entry.Sent (end_of_node w.core h) s.session m.0 m.1) stays (λ k. more k ∙ at_is) u.noted_are kept
+          more_noted start w.entries (entry.Sent (end_of_node w.core h) s.session m.0 m.1) stays (λ k. more k ∙ (grind arith)) u.noted_are kept
           ∙ ap (λ es. start ++ map unnumbered (w.entries ++ es)) (sym s.notes_are);
       power = u.power;
     }
@@ -134,21 +130,12 @@ pub record HasLost {N : Type 0} (writes : N → ℕ → List ℕ → Bool → N 
   pub before : old.journal.live ≡ true
   pub dead : new.journal.live ≡ false
 
--- the writes are those of the definition
-same_writes : {N : Type 0} (n : Node N) (core : Core) (c : Command) → CoreStandsFor n core
-    → commit_writes n.store.journal.state n.store.tables (body_of c) ≡ commit_writes core.journal core.tables (body_of c)
-same_writes n core c k = grind arith
-
-has_power : {N : Type 0} {n : Node N} {noted start : List Entry} {short : Bool} {w : Work} → IsInStep n noted short start w → n.store.journal.live ≡ true
-    → w.cut ≡ false
-has_power u live = u.power ∙ ap not live
-
 pub kept_brings : {N : Type 0} {writes : N → ℕ → List ℕ → Bool → N → Type 0} {n : Node N} {s : Stored N} {noted now start : List Entry} {short was : Bool}
     {w : Work} (c : Command) → HasKept writes n.store s c → IsInStep n noted was start w
     → (short ≡ false → now ≡ start ++ map unnumbered (w.entries ++ entry.Command w.core.node c ∷ []))
     → Brings writes n.store.journal.nv s.journal.nv (IsInStep (record n { store = s }) now short start) (commit c) w
 kept_brings {N} {writes} {n} {s} {now = now} {start = start} {short = short} {w = w} c h u notes =
-    let power = has_power u h.before in
+    let power = u.power ∙ ap not h.before in
     let k = u.core power in
     let ws : List Write = commit_writes w.core.journal w.core.tables (body_of c) in
     let after : Work = keeps c ws (noting (entry.Command w.core.node c ∷ []) w) in
@@ -160,7 +147,7 @@ kept_brings {N} {writes} {n} {s} {now = now} {start = start} {short = short} {w 
       sure = ws;
       torn = [];
       written = ap (λ l. w.writes ++ l) (sym (append-nil ws));
-      made = subst Q (sym power) (refl, subst P (same_writes n w.core c k) h.made);
+      made = subst Q (sym power) (refl, subst P (grind arith) h.made);
       is = grind arith;
     }
 
@@ -169,7 +156,7 @@ pub lost_brings : {N : Type 0} {writes : N → ℕ → List ℕ → Bool → N �
     → (short ≡ false → now ≡ start ++ map unnumbered ((w.entries ++ entry.Command w.core.node c ∷ []) ++ entry.Cut w.core.node ∷ []))
     → Brings writes n.store.journal.nv s.journal.nv (IsInStep (record n { store = s }) now short start) (commit c) w
 lost_brings {N} {writes} {n} {s} {now = now} {start = start} {short = short} {w = w} c h u notes =
-    let power = has_power u h.before in
+    let power = u.power ∙ ap not h.before in
     let k = u.core power in
     let ws : List Write = commit_writes w.core.journal w.core.tables (body_of c) in
     let after : Work = loses_power ws (noting (entry.Command w.core.node c ∷ []) w) in
@@ -180,6 +167,6 @@ lost_brings {N} {writes} {n} {s} {now = now} {start = start} {short = short} {w 
       sure = [];
       torn = ws;
       written = refl;
-      made = (n.store.journal.nv, (refl, refl), subst P (same_writes n w.core c k) h.made);
+      made = (n.store.journal.nv, (refl, refl), subst P (grind arith) h.made);
       is = λ plan foretold. rw foretold.1 refl;
     }

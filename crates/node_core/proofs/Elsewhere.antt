@@ -1,9 +1,8 @@
 -- What the turns of the messages at one end leave of the other ends.
-use Rattle.node_core.proofs.Words.{AllByRecursion, AreAllDifferent, AreFewDue, AreOfHosts, Bool, DeedOf, EndState, FewAreDue, Hold, IfSome, LinkState, List}
-use Rattle.node_core.proofs.Words.{Message, None, Option, PoolState, Port, Seat, SeatsStandFor, Some, Work, [], after_turn, ap, ap₂, arith, changed_if}
-use Rattle.node_core.proofs.Words.{deeds_of, drop, false, handles, have_turns, held_at, holds_back, lack, length, lets_go, map, needs, not, option_map}
-use Rattle.node_core.proofs.Words.{option_map_or, port_at, refl, slice_get, subst, suc, sym, true, with_port, with_ready, zero, ℕ, ◌==◌, ◌∙◌, ◌∷◌, ◌≡◌, ◌≢◌}
-use Rattle.node_core.proofs.Words.{◌≤◌}
+use Rattle.node_core.proofs.Words.{AllByRecursion, AreAllDifferent, AreFewDue, AreOfHosts, Bool, DeedOf, FewAreDue, Hold, LinkState, List, Message, None}
+use Rattle.node_core.proofs.Words.{Option, PoolState, Port, Seat, SeatsStandFor, Some, Work, [], after_turn, ap, ap₂, arith, deeds_of, drop, false, handles}
+use Rattle.node_core.proofs.Words.{have_turns, held_at, holds_back, lack, length, lets_go, map, needs, not, option_map, option_map_or, port_at, refl, slice_get}
+use Rattle.node_core.proofs.Words.{subst, suc, sym, true, with_port, zero, ℕ, ◌==◌, ◌∙◌, ◌∷◌, ◌≡◌, ◌≢◌, ◌≤◌}
 use Rattle.node_ends.specs.Ends.{HaveOwnHosts}
 use Rattle.node_ends.proofs.Changing.{host_is}
 use Rattle.node_core.proofs.Quiet.{Quiet, LinkSeen, quiet_at, link_at, handles_quiet, few_kept}
@@ -39,25 +38,16 @@ hosts_there a b same = sym (link_hosts a) ∙ (ap (map (λ (l : LinkSeen). l.0))
 port_links : (h : ℕ) (f : Port → Port) → ((p : Port) → link_at (f p) ≡ link_at p) → (ports : List Port)
     → map link_at (with_port h f ports) ≡ map link_at ports
 port_links h f same [] = refl
-port_links h f same (p ∷ ports) = ap₂ (λ (l : LinkSeen) ls. l ∷ ls) (one (p.desk.host == h)) (port_links h f same ports)
-  where
-    one : (b : Bool) → link_at (changed_if b f p) ≡ link_at p
-    one b = grind arith
-
-held_phase : (e : EndState) (r : Bool) → (with_ready e r).phase ≡ e.phase
-held_phase e r = grind arith
+port_links h f same (p ∷ ports) = ap₂ (λ (l : LinkSeen) ls. l ∷ ls) (let h0 = p.desk.host == h in grind arith) (port_links h f same ports)
 
 -- an end that is held, or let go
 hold_link : (held : Bool) (p : Port) → link_at (after_turn (Hold held) p) ≡ link_at p
-hold_link held p = ap (λ (s : LinkState). (p.desk.host, p.side.role, s)) (held_phase p.side.shdlc (not held))
+hold_link held p = ap (λ (s : LinkState). (p.desk.host, p.side.role, s)) (let h0 = not held in grind arith)
 
 pub port_hosts : (h : ℕ) (f : Port → Port) → ((p : Port) → (f p).desk.host ≡ p.desk.host) → (ports : List Port)
     → map host_at (with_port h f ports) ≡ map host_at ports
 port_hosts h f same [] = refl
-port_hosts h f same (p ∷ ports) = ap₂ (λ (n : ℕ) ns. n ∷ ns) (one (p.desk.host == h)) (port_hosts h f same ports)
-  where
-    one : (b : Bool) → (changed_if b f p).desk.host ≡ p.desk.host
-    one b = grind arith
+port_hosts h f same (p ∷ ports) = ap₂ (λ (n : ℕ) ns. n ∷ ns) (let h0 = p.desk.host == h in grind arith) (port_hosts h f same ports)
 
 -- the end of another host is as it was
 pub elsewhere : (h k : ℕ) (f : Port → Port) → k ≢ h → ((p : Port) → (f p).desk.host ≡ p.desk.host) → (ports : List Port)
@@ -75,9 +65,6 @@ elsewhere h k f other same (p ∷ ports) = by (p.desk.host == h) (p.desk.host ==
 record Keeps (h : ℕ) (v w : Work) : Type 0 where
   links : map link_at v.ports ≡ map link_at w.ports
   few : (k : ℕ) → k ≢ h → FewAreDue (port_at w.ports k) → FewAreDue (port_at v.ports k)
-
-keeps_on : (h : ℕ) (u v w : Work) → Keeps h u v → Keeps h v w → Keeps h u w
-keeps_on h u v w a b = record { links = a.links ∙ b.links; few = λ k other few. a.few k other (b.few k other few) }
 
 keeps_port : (h : ℕ) (f : Port → Port) → ((p : Port) → link_at (f p) ≡ link_at p) → (v w : Work) → v.ports ≡ with_port h f w.ports → Keeps h v w
 keeps_port h f same v w is = record {
@@ -98,7 +85,7 @@ twice_links : (h : ℕ) (f g : Port → Port) → ((p : Port) → link_at (f p) 
     → (v w : Work) → v.ports ≡ with_port h f (with_port h g w.ports) → Keeps h v w
 twice_links h f g same other v w is =
     let mid : Work = record w { ports = with_port h g w.ports } in
-    keeps_on h v mid w (keeps_port h f same v mid is) (keeps_port h g other mid w refl)
+    let h0 = keeps_port h f same v mid is in let h1 = keeps_port h g other mid w refl in grind arith
 
 keeps_held : (h : ℕ) (short : ℕ × ℕ) (w : Work) → Keeps h (holds_back h short w) w
 keeps_held h short w = by (option_map_or (λ (p : Port). p.desk.holds) (port_at w.ports h) false) refl
@@ -134,7 +121,7 @@ keeps_turns h (m ∷ ms) w =
         stop c q = rw (q, c) refl
     behind false c q later =
         let P : Work → Type 0 = λ v. Keeps h v w in
-        subst P (sym (on c q)) (keeps_on h (have_turns h ms done) done w later (keeps_handled h m (deeds_of w.core w.ports h m) w))
+        subst P (sym (on c q)) (let h0 = have_turns h ms done in let h1 = keeps_handled h m (deeds_of w.core w.ports h m) w in grind arith)
       where
         on : done.cut ≡ false → lack w.ports (needs h (deeds_of w.core w.ports h m)) ≡ None → have_turns h (m ∷ ms) w ≡ have_turns h ms done
         on c q = rw (q, c) refl
@@ -172,16 +159,11 @@ pub of_hosts : (a b : List Port) → map host_at a ≡ map host_at b → AreOfHo
 of_hosts [] b same all = tt
 of_hosts (p ∷ a) [] same all = cc
 of_hosts (p ∷ a) (q ∷ b) same all =
-    let here : p.desk.host ≡ q.desk.host = cc in
     let there : map host_at a ≡ map host_at b = cc in
-    let P : ℕ → Type 0 = λ n. (1 ≤ n) × (n ≤ 7) in
-    (subst P (sym here) all.0, of_hosts a b there all.1)
+    (subst (λ n. (1 ≤ n) × (n ≤ 7)) (sym cc) all.0, of_hosts a b there all.1)
 
 pub few_at : (ports : List Port) (k : ℕ) → AreFewDue ports → FewAreDue (port_at ports k)
-few_at ports k all = by (port_at ports k) refl (found_all _ ports k all)
-  where
-    by : (o : Option Port) → port_at ports k ≡ o → IfSome o (λ (p : Port). FewAreDue (Some p)) → FewAreDue (port_at ports k)
-    by o q few = grind arith
+few_at ports k all = let h0 = port_at ports k in let h1 = found_all _ ports k all in grind arith
 
 pub few_at_all : (ports : List Port) (hosts : List ℕ) → AreFewDue ports → AllByRecursion (λ (k : ℕ). FewAreDue (port_at ports k)) hosts
 few_at_all ports [] all = tt

@@ -1,6 +1,6 @@
 -- Whether an end is that of a CLF or of a UICC: nothing that comes to it, and nothing that its node does, changes that.
 use Rattle.node_core.proofs.Words.{AllByRecursion, Bool, EndState, HaveOwnRoles, IsClf, IsUicc, LinkInput, List, Machine, Named, Option, Port, Role, []}
-use Rattle.node_core.proofs.Words.{after_input, ap, ap₂, arith, between, changed_if, frame_fetched, has_come, has_sent, map, moved, refl, reset_late, sym, true}
+use Rattle.node_core.proofs.Words.{after_input, ap, ap₂, arith, between, changed_if, has_come, has_sent, map, moved, refl, reset_late, sym, true}
 use Rattle.node_core.proofs.Words.{with_port, ℕ, ◌==◌, ◌∙◌, ◌∷◌, ◌≡◌}
 use Rattle.swp_base.specs.declared.link_terms.Role.TheVariants.{Bare as BareName, Clf as ClfName, Uicc as UiccName}
 use Rattle.link_laws.specs.machine.Machine.{put_down}
@@ -32,9 +32,6 @@ moved_role e b s = grind arith
 down_role : (e : Machine) → (put_down true e).role ≡ e.role
 down_role e = grind arith
 
-pub fetched_role : (e : Machine) → (frame_fetched e).role ≡ e.role
-fetched_role e = grind arith
-
 input_kind : (e : Machine) (i : LinkInput) → Alike e (after_input e i)
 input_kind e i = grind arith
 
@@ -47,7 +44,7 @@ pub late_kind : (p : Port) → kind_at (reset_late p) ≡ kind_at p
 late_kind p = grind arith
 
 pub sent_kind : (p : Port) → kind_at (has_sent p) ≡ kind_at p
-sent_kind p = ap (λ (r : Role). (p.desk.host, kind_of r)) (fetched_role p.side)
+sent_kind p = ap (λ (r : Role). (p.desk.host, kind_of r)) (grind arith)
 
 pub all_kinds : (f : Port → Port) → ((p : Port) → kind_at (f p) ≡ kind_at p) → (ports : List Port) → map kind_at (map f ports) ≡ map kind_at ports
 all_kinds f same [] = refl
@@ -55,10 +52,7 @@ all_kinds f same (p ∷ ports) = ap₂ (λ (k : Kind) ks. k ∷ ks) (same p) (al
 
 pub port_kinds : (h : ℕ) (f : Port → Port) → ((p : Port) → kind_at (f p) ≡ kind_at p) → (ports : List Port)
     → map kind_at (with_port h f ports) ≡ map kind_at ports
-port_kinds h f same ports = all_kinds (λ (p : Port). changed_if (p.desk.host == h) f p) (λ p. one p (p.desk.host == h)) ports
-  where
-    one : (p : Port) (b : Bool) → kind_at (changed_if b f p) ≡ kind_at p
-    one p b = grind arith
+port_kinds h f same ports = all_kinds (λ (p : Port). changed_if (p.desk.host == h) f p) (λ p. (let h0 = p.desk.host == h in grind arith)) ports
 
 pub kept_kinds : (ports : List Port) → map kind_at (map between ports) ≡ map kind_at ports
 kept_kinds ports = all_kinds between (λ p. refl) ports

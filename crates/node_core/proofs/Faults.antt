@@ -22,9 +22,5 @@ pub faults_rose : {N : Type 0} (faults : N → ℕ) {s t : Stored N} → faults 
     → Rose (faults s.journal.nv) (faults t.journal.nv) → CountsFaults faults s t
 faults_rose faults count rose = record { count = count; rose = λ dead. rose }
 
--- how it ran tells whether there is power
-pub so_too : (a b : Bool) → ran_so a ≡ ran_so b → a ≡ b
-so_too a b is = grind arith
-
 pub ran_is : {r : Ran} {a b : Bool} → r ≡ ran_so a → r ≡ ran_so b → a ≡ b
-ran_is {r} {a} {b} p q = so_too a b (sym p ∙ q)
+ran_is {r} {a} {b} p q = let h0 = sym p ∙ q in grind arith

@@ -1,5 +1,5 @@
 -- Blocks of askers whose creations are forgotten are free.
-use Rattle.node_core.proofs.Words.{Bool, Creation, Deed, Entry, IsInStep, List, Node, Option, Port, Releases, Response, Some, Work, [], add-one, all_done}
+use Rattle.node_core.proofs.Words.{Bool, Creation, Deed, Entry, IsInStep, List, Node, Port, Releases, Response, Some, Work, [], add-one, all_done}
 use Rattle.node_core.proofs.Words.{answers_owed, ap, append-nil, append_assoc, arith, asked_at, done, false, filter, filter_map, flat_map, flat_map-append}
 use Rattle.node_core.proofs.Words.{flat_map-cons, forgotten, freed_at, is_over_at, length, map, option_map_or, owed, owed_at, refl, slice_get, suc, sym, take}
 use Rattle.node_core.proofs.Words.{true, unless_cut, zero, ℕ, ◌++◌, ◌+◌, ◌∙◌, ◌∷◌, ◌≡◌, ◌≤◌, ◌⊎◌}
@@ -11,7 +11,7 @@ all_freed : (all ports : List Port)
     → map (λ (c : Creation). Releases c.asker) (filter (λ (c : Creation). is_over_at all c.asker) (filter_map asked_at ports))
     ≡ flat_map (freed_at all) ports
 all_freed all [] = refl
-all_freed all (p ∷ ports) = by (asked_at p) refl (all_freed all ports) ∙ sym (flat_map-cons (freed_at all) p ports)
+all_freed all (p ∷ ports) = (let h0 = asked_at p in let h1 = all_freed all ports in grind arith) ∙ sym (flat_map-cons (freed_at all) p ports)
   where
     one : (c : Creation) (b : Bool) → is_over_at all c.asker ≡ b → asked_at p ≡ Some c
         → map (λ (c : Creation). Releases c.asker) (filter (λ (c : Creation). is_over_at all c.asker) (filter_map asked_at ports))
@@ -19,13 +19,6 @@ all_freed all (p ∷ ports) = by (asked_at p) refl (all_freed all ports) ∙ sym
         → map (λ (c : Creation). Releases c.asker) (filter (λ (c : Creation). is_over_at all c.asker) (filter_map asked_at (p ∷ ports)))
         ≡ freed_at all p ++ flat_map (freed_at all) ports
     one c b over q later = grind arith
-
-    by : (o : Option Creation) → asked_at p ≡ o
-        → map (λ (c : Creation). Releases c.asker) (filter (λ (c : Creation). is_over_at all c.asker) (filter_map asked_at ports))
-        ≡ flat_map (freed_at all) ports
-        → map (λ (c : Creation). Releases c.asker) (filter (λ (c : Creation). is_over_at all c.asker) (filter_map asked_at (p ∷ ports)))
-        ≡ freed_at all p ++ flat_map (freed_at all) ports
-    by o q later = grind arith
 
 pub next_freed : (t : Port → List Deed) (i : ℕ) (ports : List Port)
     → flat_map t (take (suc i) ports) ≡ flat_map t (take i ports) ++ option_map_or t (slice_get ports i) []
@@ -94,21 +87,12 @@ one_done k live same under = grind arith
 -- deeds, and those behind them
 pub all_then : (xs ys : List Deed) (w : Work) → (all_done 0 (xs ++ ys) w ≡ unless_cut (all_done 0 ys) (all_done 0 xs w)) ⊎ (w.cut ≡ true)
 all_then [] ys w = grind arith
-all_then (d ∷ xs) ys w = by (done 0 d w).cut refl (all_then xs ys (done 0 d w))
-  where
-    by : (b : Bool) → (done 0 d w).cut ≡ b
-        → (all_done 0 (xs ++ ys) (done 0 d w) ≡ unless_cut (all_done 0 ys) (all_done 0 xs (done 0 d w))) ⊎ ((done 0 d w).cut ≡ true)
-        → (all_done 0 (d ∷ xs ++ ys) w ≡ unless_cut (all_done 0 ys) (all_done 0 (d ∷ xs) w)) ⊎ (w.cut ≡ true)
-    by b q later = grind arith
+all_then (d ∷ xs) ys w = let h0 = (done 0 d w).cut in let h1 = all_then xs ys (done 0 d w) in grind arith
 
 -- where no write fails
 pub all_joined : (xs ys : List Deed) (w : Work) → w.cut ≡ false → (all_done 0 xs w).cut ≡ false
     → all_done 0 ys (all_done 0 xs w) ≡ all_done 0 (xs ++ ys) w
-all_joined xs ys w live on = by (all_then xs ys w)
+all_joined xs ys w live on = let h0 = all_then xs ys w in grind arith
   where
     goes : all_done 0 ys (all_done 0 xs w) ≡ unless_cut (all_done 0 ys) (all_done 0 xs w)
     goes = rw on refl
-
-    by : (all_done 0 (xs ++ ys) w ≡ unless_cut (all_done 0 ys) (all_done 0 xs w)) ⊎ (w.cut ≡ true)
-        → all_done 0 ys (all_done 0 xs w) ≡ all_done 0 (xs ++ ys) w
-    by a = grind arith

@@ -19,11 +19,7 @@ is_noted_now h short w q = rw q refl
 few_on : (h : ℕ) (f : DeskOf → DeskOf) (ports : List Port) → ((d : DeskOf) → (f d).host ≡ d.host) → FewAreDue (port_at ports h)
     → FewAreDue (port_at (with_port h (λ p. record p { desk = f p.desk }) ports) h)
 few_on h f [] same few = tt
-few_on h f (p ∷ ports) same few = by (few_on h f ports same) (p.desk.host == h) refl
-  where
-    by : (FewAreDue (port_at ports h) → FewAreDue (port_at (with_port h (λ p. record p { desk = f p.desk }) ports) h)) → (b : Bool)
-        → (p.desk.host == h) ≡ b → FewAreDue (port_at (with_port h (λ p. record p { desk = f p.desk }) (p ∷ ports)) h)
-    by later b q = grind arith
+few_on h f (p ∷ ports) same few = let h0 = few_on h f ports same in let h1 = p.desk.host == h in grind arith
 
 pub few_held : (h : ℕ) (short : ℕ × ℕ) (w : Work) → FewAreDue (port_at w.ports h) → FewAreDue (port_at (is_noted_held h short w).ports h)
 few_held h short w few = by (option_map_or (λ (p : Port). p.desk.holds) (port_at w.ports h) false) refl

@@ -95,6 +95,5 @@ module _ (h : ℕ) (m : Message) (w : Work) (on : IsOnTask w.core) (own : w.core
     goes = (tt, on);
     ordered = λ n is. ordered_fine p.desk.errors m.0 n (body_in m.1);
     heard = λ code order is.
-        let P : Option (List ℕ) → Type 0 = λ o. IsOnOrder o w.core.init in
-        (refl, answered_fine code order (body_in m.1) w.core.init refl (subst P is on.0));
+        (refl, answered_fine code order (body_in m.1) w.core.init refl (subst (λ o. IsOnOrder o w.core.init) is on.0));
   })

@@ -9,22 +9,15 @@ use Rattle.node_core.proofs.Words.{true≢false, unless_cut, ℕ, ◌&&◌, ◌+
 first_fails : (k n : ℕ) → (nat_le 1 k && nat_le k (suc n)) ≡ false → (k == 1) ≡ true → ⊥
 first_fails k n none is = let e : k ≡ 1 = eqb-true k 1 is in grind (arith, nat_tests)
 
-fails_step : (n : ℕ) (plan : Option Plan) → fails_within (suc n) plan ≡ false → fails_within n (plan_after plan) ≡ false
-fails_step n plan none = grind arith
-
 pub fewer_fail : (n : ℕ) (plan : Option Plan) → fails_within 0 plan ≡ false
 fewer_fail n plan = grind arith
-
-fails_on : (n : ℕ) (plan : Option Plan) → fails_within (suc n) plan ≡ false → (m : ℕ) → fails_within m (plan_after plan) ≡ false
-    → fails_within (suc m) plan ≡ false
-fails_on n plan none m later = grind arith
 
 pub fails_parts : (a b : List Write) (plan : Option Plan) → fails_within (length (a ++ b)) plan ≡ false
     → (fails_within (length a) plan ≡ false) × (fails_within (length b) (plan_behind a plan) ≡ false)
 fails_parts [] b plan none = (fewer_fail 0 plan, none)
 fails_parts (w ∷ a) b plan none =
-    let later = fails_parts a b (plan_after plan) (fails_step (length (a ++ b)) plan none) in
-    (fails_on (length (a ++ b)) plan none (length a) later.0, later.1)
+    let later = fails_parts a b (plan_after plan) (let h0 = length (a ++ b) in grind arith) in
+    ((let h0 = length (a ++ b) in let h1 = length a in grind arith), later.1)
 
 pub behind_append : (a b : List Write) (plan : Option Plan) → plan_behind (a ++ b) plan ≡ plan_behind b (plan_behind a plan)
 behind_append [] b plan = refl
@@ -99,13 +92,12 @@ module _ {N : Type 0} (writes : N → ℕ → List ℕ → Bool → N → Type 0
   pub brings_plain : {old : N} {S : Work → Type 0} {f : Work → Work} {w : Work} → S (f w) → (f w).cut ≡ false → (f w).writes ≡ w.writes
       → ((plan : Option Plan) → f (record w { plan = plan }) ≡ record (f w) { plan = plan }) → Brings writes old old S f w
   brings_plain {old} {S} {f} {w} stands live same is =
-      let P : Bool → Type 0 = λ t. WereMade writes [] [] old t old in
       record {
         after = f w;
         stands = stands;
         sure = [];
         torn = [];
         written = same ∙ sym (append-nil w.writes);
-        made = subst P (sym live) (refl, (refl, refl));
+        made = subst (λ t. WereMade writes [] [] old t old) (sym live) (refl, (refl, refl));
         is = λ plan foretold. is plan ∙ ap (λ t. record (f w) { plan = plan_left t [] plan }) (sym live);
       }

@@ -43,20 +43,14 @@ StaysYounger F = (s : Seen) (h a b : ℕ) → a ≤ b → F s h b → F s h a
 
 -- ## What is done to one end
 
-give_seen : (m : Message) (e : Machine) → seen_of (turn e (Give m)) ≡ seen_of e
-give_seen m e = grind arith
-
-aside_seen : (e : Machine) → seen_of (turn e SetAside) ≡ seen_of e
-aside_seen e = grind arith
-
 turned_so : (F : Fact) (t : Turn) (p : Port) → seen_of (turn p.side t) ≡ seen_of p.side → Of F p → Of F (after_turn t p)
 turned_so F t p same is = let P : Seen → Type 0 = λ s. F s p.desk.host (notice_age p.desk) in subst P (sym same) is
 
 given_so : (F : Fact) (m : Message) (p : Port) → Of F p → Of F (after_turn (Give m) p)
-given_so F m p is = turned_so F (Give m) p (give_seen m p.side) is
+given_so F m p is = turned_so F (Give m) p (grind arith) is
 
 aside_so : (F : Fact) (p : Port) → Of F p → Of F (after_turn SetAside p)
-aside_so F p is = turned_so F SetAside p (aside_seen p.side) is
+aside_so F p is = turned_so F SetAside p (grind arith) is
 
 freed_so : (F : Fact) (p : Port) → Of F p → Of F (after_turn Release p)
 freed_so F p is = turned_so F Release p refl is
@@ -201,10 +195,7 @@ held_due e r = go e.ready r refl
         by false x = rw (q, x) (omega arith)
 
 hold_ready : (n : ℕ) (b : Bool) (p : Port) → Of (Ready n) p → Of (Ready (n + 1)) (after_turn (Hold b) p)
-hold_ready n b p is =
-    let few = is.0 in
-    let more = held_due p.side.shdlc (not b) in
-    (omega (arith, few, more), is.1)
+hold_ready n b p is = (omega (arith, is.0, (held_due p.side.shdlc (not b))), is.1)
 
 hold_rests : (n : ℕ) (ms : List Message) (p : Port) → Of (Waits n ms) p → Of (Rests n) (after_turn (Hold true) p)
 hold_rests n ms p is = (hold_ready n true p is.0, λ some. ap not (held_ready p.side.shdlc false))
@@ -309,13 +300,7 @@ mixed_stays n hosts s k a b less = by (is_among k hosts)
 
 none_among : (g : ℕ) (hosts : List ℕ) → AllByRecursion (λ (k : ℕ). k ≢ g) hosts → is_among g hosts ≡ false
 none_among g [] differ = refl
-none_among g (h ∷ hosts) differ = by (g == h) refl (none_among g hosts differ.1)
-  where
-    by : (b : Bool) → (g == h) ≡ b → is_among g hosts ≡ false → is_among g (h ∷ hosts) ≡ false
-    by b q later = grind arith
-
-mixed_first : (n h : ℕ) (hosts : List ℕ) (p : Port) → (p.desk.host == h) ≡ true → Of (Mixed n (h ∷ hosts)) p → Of (Ready n) p
-mixed_first n h hosts p q is = grind arith
+none_among g (h ∷ hosts) differ = let h0 = g == h in let h1 = none_among g hosts differ.1 in grind arith
 
 turn_begins : (n h : ℕ) (hosts : List ℕ) (ports : List Port) → AreAllDifferent (map host_at ports) → OfAll (Mixed n (h ∷ hosts)) ports
     → OfAll (Either h (Waits n (got_at ports h)) (Mixed n hosts)) ports
@@ -328,13 +313,10 @@ turn_begins n h hosts (p ∷ ports) differ all = by (turn_begins n h hosts ports
     elsewhere_so : (ms : List Message) (q : Port) → (q.desk.host == h) ≡ false → Of (Mixed n (h ∷ hosts)) q → Of (X ms) q
     elsewhere_so ms q is so = grind arith
 
-    differs : (a b : ℕ) → (a ≡ b → ⊥) → (a == b) ≡ false
-    differs a b apart = grind arith
-
     others : (ms : List Message) (qs : List Port) → AllByRecursion (λ (g : ℕ). g ≢ h) (map host_at qs) → OfAll (Mixed n (h ∷ hosts)) qs
         → OfAll (X ms) qs
     others ms [] apart so = tt
-    others ms (q ∷ qs) apart so = (elsewhere_so ms q (differs q.desk.host h apart.0) so.0, others ms qs apart.1 so.1)
+    others ms (q ∷ qs) apart so = (elsewhere_so ms q (grind arith) so.0, others ms qs apart.1 so.1)
 
     here_got : (p.desk.host == h) ≡ true → got_at (p ∷ ports) h ≡ p.side.got
     here_got q = rw q refl
@@ -346,12 +328,11 @@ turn_begins n h hosts (p ∷ ports) differ all = by (turn_begins n h hosts ports
     by later true q =
         let N : ℕ → Type 0 = λ m. AllByRecursion (λ (g : ℕ). g ≢ m) (map host_at ports) in
         let P : Bool → Type 0 = λ t. pick t (Of (Waits n (got_at (p ∷ ports) h)) p) (Of (Mixed n hosts) p) in (
-          subst P (sym q) (mixed_first n h hosts p q all.0, sym (here_got q)),
+          subst P (sym q) ((grind arith), sym (here_got q)),
           others (got_at (p ∷ ports) h) ports (subst N (eqb-true p.desk.host h q) differ.0) all.1,
         )
     by later false q =
-        let L : List Message → Type 0 = λ ms. OfAll (X ms) ports in
-        (elsewhere_so (got_at (p ∷ ports) h) p q all.0, subst L (sym (behind_got q)) later)
+        (elsewhere_so (got_at (p ∷ ports) h) p q all.0, subst (λ ms. OfAll (X ms) ports) (sym (behind_got q)) later)
 
 turn_ends : (n h : ℕ) (hosts : List ℕ) → AllByRecursion (λ (k : ℕ). k ≢ h) hosts → (ports : List Port)
     → OfAll (Either h (Rests n) (Mixed n hosts)) ports → OfAll (Mixed n hosts) ports
@@ -364,8 +345,7 @@ turn_ends n h hosts differ ports all =
     one : (p : Port) (b : Bool) → (p.desk.host == h) ≡ b → Of (Either h (Rests n) (Mixed n hosts)) p → Of (Mixed n hosts) p
     one p true q is =
         let P : Bool → Type 0 = λ t. pick t (Of (Rests n) p) (Of (Mixed n hosts) p) in
-        let R : Bool → Type 0 = λ t. pick t (Of (Ready n) p) (Of (Rests n) p) in
-        subst R (sym (none p q)) (subst P q is)
+        subst (λ t. pick t (Of (Ready n) p) (Of (Rests n) p)) (sym (none p q)) (subst P q is)
     one p false q is = let P : Bool → Type 0 = λ t. pick t (Of (Rests n) p) (Of (Mixed n hosts) p) in subst P q is
 
 goes_rests : (n : ℕ) (hosts : List ℕ) (w : Work) → AreAllDifferent hosts → AreAllDifferent (map host_at w.ports) → OfAll (Mixed n hosts) w.ports
@@ -387,9 +367,8 @@ goes_rests n (h ∷ hosts) w different differ all live = by (goes_rests n hosts 
     by later true q = absurd (true≢false (sym (ap (λ (u : Work). u.cut) (stays_cut (goes_through_ends hosts) v q) ∙ q) ∙ live))
     by later false q =
         let is = goes_on (goes_through_ends hosts) v q in
-        let D : List ℕ → Type 0 = λ ns. AreAllDifferent ns in
         let rest = turns_rest n h (Mixed n hosts) (mixed_stays n hosts) (got_at w.ports h) w (turn_begins n h hosts w.ports differ all) q in
-        subst P (sym is) (later different.1 (subst D (sym (turns_hosts h (got_at w.ports h) w)) differ)
+        subst P (sym is) (later different.1 (subst (λ ns. AreAllDifferent ns) (sym (turns_hosts h (got_at w.ports h) w)) differ)
         (turn_ends n h hosts different.0 v.ports rest) (sym (ap (λ (u : Work). u.cut) is) ∙ live))
 
 all_mixed : (n : ℕ) (hosts : List ℕ) (ports : List Port) → ((g : ℕ) → is_among g (map host_at ports) ≡ true → is_among g hosts ≡ true)
@@ -397,12 +376,8 @@ all_mixed : (n : ℕ) (hosts : List ℕ) (ports : List Port) → ((g : ℕ) → 
 all_mixed n hosts [] sub all = tt
 all_mixed n hosts (p ∷ ports) sub all =
     let here : (p.desk.host == p.desk.host) ≡ true = eq-eqb p.desk.host p.desk.host refl in
-    let first : is_among p.desk.host (map host_at (p ∷ ports)) ≡ true = ap (λ b. b || is_among p.desk.host (map host_at ports)) here in
     let P : Bool → Type 0 = λ t. pick t (Of (Ready n) p) (Of (Rests n) p) in
-    (subst P (sym (sub p.desk.host first)) all.0, all_mixed n hosts ports (λ g q. sub g (later g q (g == p.desk.host))) all.1)
-  where
-    later : (g : ℕ) → is_among g (map host_at ports) ≡ true → (b : Bool) → (b || is_among g (map host_at ports)) ≡ true
-    later g q b = grind arith
+    (subst P (sym (sub p.desk.host (grind arith))) all.0, all_mixed n hosts ports (λ g q. sub g (let h0 = g == p.desk.host in grind arith)) all.1)
 
 -- What a pass leaves at the ends, where no write fails.
 pub passes_rest : (n : ℕ) (w : Work) → AreAllDifferent (map host_at w.ports) → OfAll (Ready n) w.ports → (passes w).cut ≡ false

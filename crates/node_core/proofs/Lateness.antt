@@ -1,11 +1,10 @@
 -- Notices grow older at all ends of a node, and links of late ones are reset.
-use Rattle.node_core.proofs.Words.{AllByRecursion, AreFewDue, AreYoung, Bool, Core, EndsStandFor, Entry, Err, IsInStep, IsReached, KeptEnds, LinkReport, List}
-use Rattle.node_core.proofs.Words.{Node, None, Option, PoolState, Port, Refused, Reset, ResetRefused, Seat, SeatsStandFor, Some, TimePasses, Work, []}
-use Rattle.node_core.proofs.Words.{after_input, all_changed, ap, append-nil, append_assoc, ap₂, arith, at_place, entries_for, false, first_changed, flat_map}
-use Rattle.node_core.proofs.Words.{flat_map-cons, is_late, is_some, kept_number, late_told, length, map, next_changed, next_there, none_changed, noting}
-use Rattle.node_core.proofs.Words.{option_map, option_map_or, own_side, port_at, refl, report, report_told, reset_late, reset_refusal, reset_told, slice_get}
-use Rattle.node_core.proofs.Words.{subst, suc, sym, take, times_out, told, told_at, told_late, true, whole_acked, with_older, zero, ℕ, ◌++◌, ◌||◌, ◌∙◌, ◌∷◌}
-use Rattle.node_core.proofs.Words.{◌≡◌, ◌≤◌}
+use Rattle.node_core.proofs.Words.{AllByRecursion, AreFewDue, AreYoung, Bool, Core, EndsStandFor, Entry, IsInStep, IsReached, KeptEnds, LinkReport, List, Node}
+use Rattle.node_core.proofs.Words.{None, Option, PoolState, Port, Refused, Reset, Seat, SeatsStandFor, Some, TimePasses, Work, [], after_input, all_changed, ap}
+use Rattle.node_core.proofs.Words.{append-nil, append_assoc, ap₂, arith, at_place, entries_for, false, first_changed, flat_map, flat_map-cons, is_late, is_some}
+use Rattle.node_core.proofs.Words.{kept_number, late_told, length, map, next_changed, next_there, none_changed, noting, option_map_or, own_side, port_at, refl}
+use Rattle.node_core.proofs.Words.{report, report_told, reset_late, reset_refusal, slice_get, subst, suc, sym, take, times_out, told, told_late, true}
+use Rattle.node_core.proofs.Words.{whole_acked, with_older, zero, ℕ, ◌++◌, ◌||◌, ◌∙◌, ◌∷◌, ◌≡◌, ◌≤◌}
 use Rattle.swp_base.specs.declared.link_terms.Cause.TheVariants.{Asked}
 use Rattle.link_laws.specs.machine.Machine.{if_up}
 use Rattle.link_end.specs.Reports.{nothing_told}
@@ -114,8 +113,7 @@ pub late_acked : (ends : KeptEnds) (ports : List Port) (i h : ℕ) (p : Port) �
     ≡ kept_number (whole_acked (after_input p.side (Reset None)))
 late_acked ends ports i h p e is late same =
     let all : List Port = at_place i reset_late ports in
-    let differ = hosts_differ ends.pool ends.seats all e.hosts e.each in
-    let found = found_there i all (reset_late p) differ (placed_there i reset_late ports p is) in
+    let found = found_there i all (reset_late p) (hosts_differ ends.pool ends.seats all e.hosts e.each) (placed_there i reset_late ports p is) in
     ap (λ (n : ℕ). option_map_or (λ (q : Port). kept_number (whole_acked q.side)) (port_at all n) 0) (same ∙ sym (late_host p late))
     ∙ (grind arith)
 
@@ -161,9 +159,3 @@ reached_each pool [] [] g = tt
 reached_each pool [] (p ∷ ports) g = absurd g
 reached_each pool (s ∷ seats) [] g = absurd g
 reached_each pool (s ∷ seats) (p ∷ ports) g = (g.0.reached, reached_each pool seats ports g.1)
-
--- one that is refused tells nothing
-pub reset_silent : (core : Core) (ports : List Port) (h : ℕ) (window : Option ℕ) (why : ResetRefused)
-    → Some (Err why) ≡ option_map (λ (p : Port). reset_told p.side window) (port_at ports h)
-    → option_map_or (λ (p : Port). told_at core p (Some (Reset window))) (port_at ports h) [] ≡ []
-reset_silent core ports h window why is = grind arith

@@ -6,10 +6,7 @@ use Rattle.gate_admin.specs.View.{hosts_where}
 
 kept_all : (P : ℕ → Type 0) (test : ℕ → Bool) (xs : List ℕ) → AllByRecursion P xs → AllByRecursion P (filter test xs)
 kept_all P test [] all = tt
-kept_all P test (x ∷ xs) all = by (kept_all P test xs all.1) (test x) refl
-  where
-    by : AllByRecursion P (filter test xs) → (b : Bool) → test x ≡ b → AllByRecursion P (filter test (x ∷ xs))
-    by later b q = grind arith
+kept_all P test (x ∷ xs) all = let h0 = kept_all P test xs all.1 in let h1 = test x in grind arith
 
 kept_different : (test : ℕ → Bool) (xs : List ℕ) → AreAllDifferent xs → AreAllDifferent (filter test xs)
 kept_different test [] differ = tt

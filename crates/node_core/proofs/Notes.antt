@@ -26,14 +26,12 @@ pub noted_by : {V : Type 0} (noted : V → List Entry) (short : V → Bool) {old
     → (short old ≡ true → short new ≡ true) → (short new ≡ false → noted new ≡ noted old ++ e ∷ []) → e ∷ [] ≡ es
     → AreNotes (short old) (short after) (noted old) (noted after) es
 noted_by {V} noted short {old} {new} {after} {e} {es} is stays more same =
-    let P : V → Type 0 = λ v. AreNotes (short old) (short v) (noted old) (noted v) es in
-    subst P (sym is) (notes_are (one_note e stays more) same)
+    subst (λ v. AreNotes (short old) (short v) (noted old) (noted v) es) (sym is) (notes_are (one_note e stays more) same)
 
 pub unnoted_by : {V : Type 0} (noted : V → List Entry) (short : V → Bool) {old after : V} {es : List Entry} → after ≡ old → [] ≡ es
     → AreNotes (short old) (short after) (noted old) (noted after) es
 unnoted_by {V} noted short {old} {after} {es} is same =
-    let P : V → Type 0 = λ v. AreNotes (short old) (short v) (noted old) (noted v) es in
-    subst P (sym is) (notes_are (no_notes (short old) (noted old)) same)
+    subst (λ v. AreNotes (short old) (short v) (noted old) (noted v) es) (sym is) (notes_are (no_notes (short old) (noted old)) same)
 
 still : (was short : Bool) → (was ≡ true → short ≡ true) → short ≡ false → was ≡ false
 still was short stays kept = grind arith
@@ -43,8 +41,7 @@ pub notes_then : {a b c : Bool} {x y z es fs : List Entry} → AreNotes a b x y 
 notes_then {a} {b} {c} {x} {y} {z} {es} {fs} first later = record {
   stays = λ q. later.stays (first.stays q);
   noted = λ kept.
-      let before = first.noted (still b c later.stays kept) in
-      later.noted kept ∙ (ap (λ l. l ++ fs) before ∙ append_assoc x es fs);
+      later.noted kept ∙ (ap (λ l. l ++ fs) (first.noted (still b c later.stays kept)) ∙ append_assoc x es fs);
 }
 
 -- what is noted of a link, one part after another
@@ -69,10 +66,6 @@ both : (h : ℕ) (xs ys : List Noted) {es fs : List Entry} → map unnumbered (e
 both h xs ys {es} {fs} one other =
     ap (map unnumbered) (parts h xs ys) ∙ (map-append unnumbered (entries_for h xs) (entries_for h ys)
     ∙ (ap (λ l. l ++ map unnumbered (entries_for h ys)) one ∙ ap (λ l. es ++ l) other))
-
-down_plain : (h : ℕ) (who : Side) (o : Option Cause)
-    → map unnumbered (entries_for h (map (Down who) (option_to_list o))) ≡ entries_for h (map (Down who) (option_to_list o))
-down_plain h who o = grind arith
 
 up_plain : (h : ℕ) (who : Side) (n : ℕ) (b : Bool) → map unnumbered (entries_for h (if_so b (Up who n))) ≡ entries_for h (if_so b (Up who 0))
 up_plain h who n b = grind arith
@@ -104,7 +97,7 @@ told_plain h who n x acked =
     let v : List Noted = map (GaveUp who) (option_to_list x.gave_up) in
     let k : List Noted = if_so (nat_lt 0 x.acked) (Acked who 0 (kept_number acked)) in
     let g : List Entry = entries_for h (map (Got who 0) x.got) in
-    let numbered = both h d _ (down_plain h who x.ended) (both h (if_so x.began (Up who n)) _ (up_plain h who n x.began)
+    let numbered = both h d _ (grind arith) (both h (if_so x.began (Up who n)) _ (up_plain h who n x.began)
     (both h a _ (active_plain h who x.became_active) (both h v _ (gave_up_plain h who x.gave_up)
     (both h (if_so (nat_lt 0 x.acked) (Acked who n acked)) (map (Got who n) x.got) (acked_plain h who n acked (nat_lt 0 x.acked))
     (got_plain h who n x.got))))) in

@@ -1,9 +1,9 @@
 -- A node stays in order: its turns leave its links and their hosts, and an init that runs waits for the answer to its command.
 use Rattle.std.specs.Option.{option_map}
-use Rattle.node_core.proofs.Words.{AreGranted, Bool, Brings, Core, Deed, Foretells, Init, IsNodeInOrder, IsOnTask, List, Message, None, Option, Plan, Port}
-use Rattle.node_core.proofs.Words.{Some, Work, Write, [], all_done, ap, arith, controller_deeds, deeds_of, done, end_view, false, goes_through_ends, got_at}
+use Rattle.node_core.proofs.Words.{AreGranted, Bool, Brings, Core, Deed, Foretells, Init, IsNodeInOrder, IsOnTask, List, Message, None, Option, Port}
+use Rattle.node_core.proofs.Words.{Some, Work, Write, [], all_done, ap, arith, deeds_of, done, end_view, false, goes_through_ends, got_at}
 use Rattle.node_core.proofs.Words.{handles, has_turn, have_turns, held_at, holds_back, host_deeds, lack, lets_go, map, needs, option_map_or, own_view, passes}
-use Rattle.node_core.proofs.Words.{plan_behind, plan_left, port_at, refl, subst, sym, true, unless_cut, view_of, ℕ, ◌==◌, ◌∙◌, ◌∷◌, ◌≡◌, ◌≢◌}
+use Rattle.node_core.proofs.Words.{plan_behind, port_at, refl, subst, sym, true, unless_cut, ℕ, ◌==◌, ◌∙◌, ◌∷◌, ◌≡◌, ◌≢◌}
 use Rattle.node_core.proofs.Joining.{goes_on}
 use Rattle.node_core.proofs.Allowing.{controller_allowed}
 use Rattle.node_core.proofs.HostAllowing.{host_allowed}
@@ -29,15 +29,6 @@ none_behind : (writes : List Write) → plan_behind writes None ≡ None
 none_behind [] = refl
 none_behind (x ∷ writes) = none_behind writes
 
-done_plan : (h : ℕ) (d : Deed) (w : Work) → w.plan ≡ None → (done h d w).plan ≡ None
-done_plan h d w none = grind arith
-
-done_cut : (h : ℕ) (d : Deed) (w : Work) → w.plan ≡ None → (done h d w).cut ≡ w.cut
-done_cut h d w none = grind arith
-
-pub done_node : (h : ℕ) (d : Deed) (w : Work) → w.plan ≡ None → (done h d w).core.node ≡ w.core.node
-done_node h d w none = grind arith
-
 -- a node that has its power, and in which no write is to fail
 pub record IsSure (w : Work) : Type 0 where
   pub power : w.cut ≡ false
@@ -49,10 +40,7 @@ pub record IsFine (w : Work) : Type 0 where
   pub order : IsNodeInOrder w.core w.ports
 
 pub done_sure : (h : ℕ) (d : Deed) (w : Work) → IsSure w → IsSure (done h d w)
-done_sure h d w s = record { power = done_cut h d w s.plan ∙ s.power; plan = done_plan h d w s.plan }
-
-pub planless : (w : Work) → w.plan ≡ None → record w { plan = None } ≡ w
-planless w none = ap (λ (p : Option Plan). record w { plan = p }) (sym none)
+done_sure h d w s = record { power = (grind arith) ∙ s.power; plan = (grind arith) }
 
 -- what deeds that may be done leave of a node
 pub record Leaves (h : ℕ) (deeds : List Deed) (w : Work) : Type 0 where
@@ -65,18 +53,10 @@ granted_leave h init [] w s granted = record { sure = s; node = refl; task = gra
 granted_leave h init (d ∷ deeds) w s granted =
     let next : Work = done h d w in
     let power = done_sure h d w s in
-    let same : all_done h (d ∷ deeds) w ≡ all_done h deeds next = goes_on (all_done h deeds) next power.power in
-    let G : Work → Type 0 = λ v. AreGranted h init deeds (done h d v) in
-    let l = granted_leave h init deeds next power (subst G (planless w s.plan) granted.1) in
-    let S : Work → Type 0 = λ v. IsSure v in
-    let T : Work → Type 0 = λ v. IsOnTask v.core in
+    let l = granted_leave h init deeds next power (subst (λ v. AreGranted h init deeds (done h d v)) (grind arith) granted.1) in
     grind arith
 
 -- ## Turns
-
-as_controller : (core : Core) (ports : List Port) (h : ℕ) (m : Message) → (core.node == 0) ≡ true
-    → deeds_of core ports h m ≡ controller_deeds (view_of core ports) h m
-as_controller core ports h m q = rw q refl
 
 as_host : (core : Core) (ports : List Port) (h : ℕ) (m : Message) → (core.node == 0) ≡ false
     → deeds_of core ports h m ≡ option_map_or (λ e. host_deeds (own_view core) e m) (option_map end_view (port_at ports h)) []
@@ -86,10 +66,9 @@ at_node : (h : ℕ) (m : Message) (w : Work) → IsOnTask w.core → (b : Bool) 
     → AreGranted h w.core.init (deeds_of w.core w.ports h m) (has_turn h m w)
 at_node h m w on true q =
     let P : List Deed → Type 0 = λ deeds. AreGranted h w.core.init deeds (has_turn h m w) in
-    subst P (sym (as_controller w.core w.ports h m q)) (controller_allowed h m w.core.init w on)
+    subst P (sym (rw q refl)) (controller_allowed h m w.core.init w on)
 at_node h m w on false q =
-    let P : List Deed → Type 0 = λ deeds. AreGranted h w.core.init deeds (has_turn h m w) in
-    subst P (sym (as_host w.core w.ports h m q)) (by (port_at w.ports h))
+    subst (λ deeds. AreGranted h w.core.init deeds (has_turn h m w)) (sym (as_host w.core w.ports h m q)) (by (port_at w.ports h))
   where
     some : w.core.node ≢ 0
     some none = (let e : true ≡ false = sym (ap (λ (n : ℕ). n == 0) none) ∙ q in cc)
@@ -161,8 +140,7 @@ ends_fine [] w f = f
 ends_fine (h ∷ hosts) w f =
     let next : Work = have_turns h (got_at w.ports h) w in
     let one = turns_fine h (got_at w.ports h) w f in
-    let P : Work → Type 0 = λ v. IsFine v in
-    subst P (sym (goes_on (goes_through_ends hosts) next one.sure.power)) (ends_fine hosts next one)
+    subst (λ v. IsFine v) (sym (goes_on (goes_through_ends hosts) next one.sure.power)) (ends_fine hosts next one)
 
 pub passes_fine : (w : Work) → IsFine w → IsFine (passes w)
 passes_fine w f = ends_fine (map host_at w.ports) w f
@@ -174,8 +152,5 @@ pub stays_in_order : {N : Type 0} {writes : N → ℕ → List ℕ → Bool → 
     → ((v : Work) → IsFine v → IsFine (f v)) → (b : Brings writes old new S f w) → b.after.cut ≡ false → w.cut ≡ false → IsNodeInOrder w.core w.ports
     → IsNodeInOrder b.after.core b.after.ports
 stays_in_order {f = f} {w = w} keeps b live power order =
-    let F : Bool → Type 0 = λ t. Foretells None b.sure b.torn t in
-    let after : f (record w { plan = None }) ≡ record b.after { plan = plan_left b.after.cut b.sure None } = b.is None (subst F (sym live) refl) in
     let fine = keeps (record w { plan = None }) (record { sure = record { power = power; plan = refl }; order = order }) in
-    let P : Work → Type 0 = λ v. IsFine v in
-    (subst P after fine).order
+    (subst (λ v. IsFine v) (b.is None (subst (λ t. Foretells None b.sure b.torn t) (sym live) refl)) fine).order

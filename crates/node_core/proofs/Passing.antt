@@ -77,10 +77,7 @@ next_is {i = i} k h is =
 pub next_few : {N : Type 0} {writes : N → ℕ → List ℕ → Bool → N → Type 0} {first n : Node N} {noted start : List Entry} {short : Bool} {i : ℕ} {w : Work}
     (k : PassesOn writes first n noted short start i w) (h : ℕ) → Some h ≡ option_map host_at (slice_get k.now.ports i)
     → FewAreDue (port_at k.now.ports h)
-next_few k h is =
-    let P : List ℕ → Type 0 = λ hosts. AllByRecursion (λ (g : ℕ). FewAreDue (port_at k.now.ports g)) hosts in
-    let all = subst P (next_is k h is) k.few in
-    all.0
+next_few k h is = (subst (λ hosts. AllByRecursion (λ (g : ℕ). FewAreDue (port_at k.now.ports g)) hosts) (next_is k h is) k.few).0
 
 -- the ends after turns that went through
 after_turns : {N : Type 0} {writes : N → ℕ → List ℕ → Bool → N → Type 0} {old new : N} {S : Work → Type 0} {w : Work} (h : ℕ) (ms : List Message)
@@ -103,13 +100,10 @@ pub pass_goes_on : {N : Type 0} {writes : N → ℕ → List ℕ → Bool → N 
 pass_goes_on {N} {writes} {first} {n} {n2} {start = start} {i = i} {w = w} k h is b live power =
     let split = next_is k h is in
     let left : List ℕ = drop (suc i) (map host_at w.ports) in
-    let D : List ℕ → Type 0 = λ hosts. AreAllDifferent hosts in
-    let differ = subst D split (different_left i (map host_at w.ports) k.differ) in
-    let P : List ℕ → Type 0 = λ hosts. AllByRecursion (λ (g : ℕ). FewAreDue (port_at k.now.ports g)) hosts in
-    let few = subst P split k.few in
+    let differ = subst (λ hosts. AreAllDifferent hosts) split (different_left i (map host_at w.ports) k.differ) in
+    let few = subst (λ hosts. AllByRecursion (λ (g : ℕ). FewAreDue (port_at k.now.ports g)) hosts) split k.few in
     let ms = got_at k.now.ports h in
-    let after = after_turns h ms b live in
-    let same : (have_turns h ms (record k.now { plan = None })).ports ≡ b.after.ports = ap (λ (v : Work). v.ports) after in
+    let same : (have_turns h ms (record k.now { plan = None })).ports ≡ b.after.ports = ap (λ (v : Work). v.ports) (after_turns h ms b live) in
     let Q : List Port → Type 0 = λ ports. (g : ℕ) → g ≢ h → FewAreDue (port_at k.now.ports g) → FewAreDue (port_at ports g) in
     record {
       now = b.after;
@@ -134,8 +128,7 @@ pass_rests {N} {writes} {first} {n} {noted} {start} {short} {i} {w} k none live 
     by None q = absurd (true≢false (sym none ∙ ap (λ (o : Option Port). option_map_or rests o false) q))
     by (Some p) q =
         let h = p.desk.host in
-        let D : List ℕ → Type 0 = λ hosts. AreAllDifferent hosts in
-        let at = found_there i k.now.ports p (subst D (sym k.hosts) k.differ) q in
+        let at = found_there i k.now.ports p (subst (λ hosts. AreAllDifferent hosts) (sym k.hosts) k.differ) q in
         let quiet : rests p ≡ true = ap (λ (o : Option Port). option_map_or rests o false) (sym q) ∙ none in
         let got : [] ≡ got_at k.now.ports h =
         sym (none_waits p.side.got (is_held p.side) quiet) ∙ ap (λ (o : Option Port). option_map_or (λ (x : Port). x.side.got) o []) (sym at) in
@@ -175,7 +168,6 @@ pass_over {i = i} k none = ap (drop i) (sym k.hosts) ∙ no_host i k.now.ports n
 pub pass_full : {N : Type 0} {writes : N → ℕ → List ℕ → Bool → N → Type 0} {first n : Node N} {noted start : List Entry} {short : Bool} {i : ℕ} {w : Work}
     (k : PassesOn writes first n noted short start i w) → 7 ≤ i → drop i (map host_at w.ports) ≡ []
 pass_full {n = n} {i = i} {w = w} k past =
-    let many = as_many_hosts n.ends.pool n.ends.seats k.now.ports k.under.ends.each in
     let same = ap (λ (hosts : List ℕ). length hosts) k.hosts in
     let few = k.under.ends.few in
-    drop_all i (map host_at w.ports) (omega (arith, many, same, few, past))
+    drop_all i (map host_at w.ports) (omega (arith, (as_many_hosts n.ends.pool n.ends.seats k.now.ports k.under.ends.each), same, few, past))

@@ -2,7 +2,7 @@
 use Rattle.std.proofs.lemmas.Bool.{not-false, not-true}
 use Rattle.node_core.proofs.Words.{AreMade, Bool, Brings, Foretells, List, Memory, None, WereMade, Work, Write, [], ap, append-nil, arith, fails_within, false}
 use Rattle.node_core.proofs.Words.{inl, inr, length, not, plan_behind, plan_left, subst, sym, true, true≢false, ◌++◌, ◌∙◌, ◌∷◌, ◌≡◌}
-use Rattle.swp_base.specs.InMemory.{WritesAsPlanned, is_next}
+use Rattle.swp_base.specs.InMemory.{WritesAsPlanned}
 use Rattle.journal_laws.specs.Planned.{after_planned}
 use Rattle.journal_laws.proofs.Planned.{plan_of_memory_after, planned_answer, planned_memory}
 use Rattle.node_core.proofs.Joining.{made_append}
@@ -12,9 +12,8 @@ plan_made : (ws : List Write) (m n : Memory) → AreMade WritesAsPlanned ws m tr
 plan_made [] m n made = ap (λ (x : Memory). x.plan) made.1
 plan_made (w ∷ ws) m n (inl failed) = absurd (true≢false failed.0)
 plan_made (w ∷ ws) m n (inr rest) =
-    let later : is_next m.plan ≡ false = not-true (is_next m.plan) (sym rest.1.answer) in
     plan_made ws rest.0 n rest.2
-    ∙ ap (plan_behind ws) (ap (λ (x : Memory). x.plan) rest.1.memory ∙ plan_of_memory_after m w.at w.bytes later)
+    ∙ ap (plan_behind ws) (ap (λ (x : Memory). x.plan) rest.1.memory ∙ plan_of_memory_after m w.at w.bytes (grind arith))
 
 plan_spent : (ws : List Write) (m n : Memory) → AreMade WritesAsPlanned ws m false n → n.plan ≡ None
 plan_spent [] m n made = absurd (true≢false (sym made.0))
@@ -30,11 +29,10 @@ as_planned false sure torn m n made = (
 )
 as_planned true sure torn m n made =
     let first = made.1 in
-    let on = plan_made sure m made.0 first in
     let fails = not-false (fails_within (length torn) made.0.plan) (sym (planned_answer torn made.0 false n made.2)) in (
       (
         not-true (fails_within (length sure) m.plan) (sym (planned_answer sure m true made.0 first)),
-        ap (fails_within (length torn)) (sym on) ∙ fails,
+        ap (fails_within (length torn)) (sym (plan_made sure m made.0 first)) ∙ fails,
       ),
       sym (plan_spent torn made.0 n made.2),
     )
@@ -42,8 +40,7 @@ as_planned true sure torn m n made =
 all_made : (cut : Bool) (sure torn : List Write) (m n : Memory) → WereMade WritesAsPlanned sure torn m cut n
     → AreMade WritesAsPlanned (sure ++ torn) m (not cut) n
 all_made false sure torn m n made =
-    let P : List Write → Type 0 = λ ws. AreMade WritesAsPlanned ws m true n in
-    subst P (sym (append-nil sure) ∙ ap (λ t. sure ++ t) (sym made.0)) made.1
+    subst (λ ws. AreMade WritesAsPlanned ws m true n) (sym (append-nil sure) ∙ ap (λ t. sure ++ t) (sym made.0)) made.1
 all_made true sure torn m n made = made_append WritesAsPlanned sure torn m made.0 n false made.1 made.2
 
 -- What the node did is what the machine does under the plan of its memory, and the memory is that after the writes of the step.

@@ -2,7 +2,7 @@
 -- their links, and the states of these.
 use Rattle.node_core.proofs.Words.{Asks, Bool, Command, Commits, Deed, DeskOf, Drops, Ends, FetchMessage, FewAreDue, Give, GoesOn, Hears, IsAnswered, LinkState}
 use Rattle.node_core.proofs.Words.{List, Message, None, Option, Orders, Port, Release, Releases, Role, SaysOk, Sends, SetAside, SetsErrors, Some, Tells, Work}
-use Rattle.node_core.proofs.Words.{[], after_turn, all_done, ap, ap₂, arith, changed_if, commit, done, false, find, find-map, handles, held_at, length, map}
+use Rattle.node_core.proofs.Words.{[], after_turn, all_done, ap, ap₂, arith, commit, done, false, find, find-map, handles, held_at, length, map}
 use Rattle.node_core.proofs.Words.{not, option_map, option_map_or, port_at, refl, subst, sym, true, with_port, ℕ, ◌+◌, ◌==◌, ◌∙◌, ◌∷◌, ◌≡◌, ◌≤◌}
 
 -- the host of an end, how many control frames wait there, whether it takes fragments, what goes before its link, and the state of that
@@ -32,10 +32,7 @@ aside_quiet p = grind arith
 pub with_port_quiet : (h : ℕ) (f : Port → Port) → ((p : Port) → quiet_at (f p) ≡ quiet_at p) → (ports : List Port)
     → map quiet_at (with_port h f ports) ≡ map quiet_at ports
 with_port_quiet h f same [] = refl
-with_port_quiet h f same (p ∷ ports) = ap₂ (λ (q : Quiet) qs. q ∷ qs) (one (p.desk.host == h)) (with_port_quiet h f same ports)
-  where
-    one : (b : Bool) → quiet_at (changed_if b f p) ≡ quiet_at p
-    one b = grind arith
+with_port_quiet h f same (p ∷ ports) = ap₂ (λ (q : Quiet) qs. q ∷ qs) (let h0 = p.desk.host == h in grind arith) (with_port_quiet h f same ports)
 
 -- ## Deeds
 
@@ -95,14 +92,11 @@ abbrev FewIn : Option Quiet → Type 0
 FewIn None = Unit {0}
 FewIn (Some q) = q.1 ≤ 6
 
-few_in : (o : Option Port) → FewAreDue o → FewIn (option_map quiet_at o)
-few_in o few = grind arith
-
 in_few : (o : Option Port) → FewIn (option_map quiet_at o) → FewAreDue o
 in_few o few = grind arith
 
 pub few_kept : (a b : List Port) (h : ℕ) → map quiet_at a ≡ map quiet_at b → FewAreDue (port_at a h) → FewAreDue (port_at b h)
-few_kept a b h same few = in_few (port_at b h) (subst FewIn (same_at a b h same) (few_in (port_at a h) few))
+few_kept a b h same few = in_few (port_at b h) (subst FewIn (same_at a b h same) (let h0 = port_at a h in grind arith))
 
 held_in : (o : Option Port) → option_map_or (λ (p : Port). not p.side.shdlc.ready) o false
     ≡ option_map_or (λ (q : Quiet). not q.2) (option_map quiet_at o) false

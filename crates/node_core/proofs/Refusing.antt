@@ -7,14 +7,9 @@ use Rattle.node_core.proofs.Words.{◌==◌, ◌∙◌, ◌∷◌, ◌≡◌, �
 use Rattle.node_core.proofs.Elsewhere.{host_at}
 use Rattle.node_core.proofs.Arriving.{come_is}
 use Rattle.node_core.proofs.Ticking.{none_with}
-use Rattle.node_core.proofs.Lateness.{reset_silent}
 use Rattle.node_core.proofs.Stepping.{silent_synced}
 
 -- ## Refusals
-
-refused_side : (p : Port) (window : Option ℕ) (why : ResetRefused) → Err why ≡ reset_told p.side window → p.ended ≡ false
-    → has_come p (Some (Reset window)) ≡ p
-refused_side p window why is going = grind arith
 
 refused_ports : (h : ℕ) (window : Option ℕ) (why : ResetRefused) (ports : List Port) → AreAllDifferent (map host_at ports) → HasNoneEnded ports
     → Some (Err why) ≡ option_map (λ (p : Port). reset_told p.side window) (port_at ports h)
@@ -28,10 +23,9 @@ refused_ports h window why (p ∷ ports) differ none is = by (refused_ports h wi
     by : (Told → with_port h (λ p. has_come p (Some (Reset window))) ports ≡ ports) → (b : Bool) → (p.desk.host == h) ≡ b
         → with_port h (λ p. has_come p (Some (Reset window))) (p ∷ ports) ≡ p ∷ ports
     by later true q =
-        let first : Some (Err why) ≡ Some (reset_told p.side window) = rw q at is in
         let told : Err why ≡ reset_told p.side window = cc in
         let N : ℕ → Type 0 = λ m. AllByRecursion (λ (g : ℕ). g ≢ m) (map host_at ports) in
-        rw q (ap₂ (λ (x : Port) xs. x ∷ xs) (refused_side p window why told none.0.1)
+        rw q (ap₂ (λ (x : Port) xs. x ∷ xs) (grind arith)
         (none_with h (λ p. has_come p (Some (Reset window))) ports (subst N (eqb-true p.desk.host h q) differ.0)))
     by later false q = grind arith
 
@@ -41,7 +35,7 @@ pub refused_stays : (h : ℕ) (window : Option ℕ) (why : ResetRefused) (w : Wo
 refused_stays h window why w differ none is =
     sym (come_is h (Reset window) w differ)
     ∙ ap₂ (λ (es : List Entry) (ports : List Port). record w { ports = ports; entries = es })
-    (ap (λ es. w.entries ++ es) (reset_silent w.core w.ports h window why is) ∙ append-nil w.entries)
+    (ap (λ es. w.entries ++ es) (grind arith) ∙ append-nil w.entries)
     (refused_ports h window why w.ports differ none is)
 
 -- so it was told
@@ -80,6 +74,5 @@ late_few (p ∷ ports) few = (one (is_late (with_older (has_come p (Some Tick)))
     one true z =
         let f = few.0 in
         let t = tick_few p.side in
-        let r = reset_few_due (after_input p.side Tick) None in
-        rw z (omega (arith, f, t, r))
+        rw z (omega (arith, f, t, (reset_few_due (after_input p.side Tick) None)))
     one false z = let f = few.0 in let t = tick_few p.side in rw z (omega (arith, f, t))

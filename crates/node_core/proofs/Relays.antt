@@ -17,20 +17,11 @@ not_held p = record p { desk = record p.desk { holds = false } }
 pub either_first : (h : ℕ) (ports : List Port) → with_port h (after_turn FetchMessage) (with_port h not_held ports)
     ≡ with_port h not_held (with_port h (after_turn FetchMessage) ports)
 either_first h [] = refl
-either_first h (p ∷ ports) = by (p.desk.host == h) refl (either_first h ports)
-  where
-    by : (b : Bool) → (p.desk.host == h) ≡ b → with_port h (after_turn FetchMessage) (with_port h not_held ports)
-        ≡ with_port h not_held (with_port h (after_turn FetchMessage) ports)
-        → with_port h (after_turn FetchMessage) (with_port h not_held (p ∷ ports)) ≡ with_port h not_held (with_port h (after_turn FetchMessage) (p ∷ ports))
-    by b q later = grind arith
+either_first h (p ∷ ports) = let h0 = p.desk.host == h in let h1 = either_first h ports in grind arith
 
 pub got_still : (h : ℕ) (ports : List Port) → got_at (with_port h not_held ports) h ≡ got_at ports h
 got_still h [] = refl
-got_still h (p ∷ ports) = by (p.desk.host == h) refl (got_still h ports)
-  where
-    by : (b : Bool) → (p.desk.host == h) ≡ b → got_at (with_port h not_held ports) h ≡ got_at ports h
-        → got_at (with_port h not_held (p ∷ ports)) h ≡ got_at (p ∷ ports) h
-    by b q later = grind arith
+got_still h (p ∷ ports) = let h0 = p.desk.host == h in let h1 = got_still h ports in grind arith
 
 -- ## Turns
 
@@ -49,9 +40,8 @@ relayed {n = n} {start = start} {notes = notes} {w = w} m h to u stands are kept
   core = λ live. (let k = u.core live in record { journal = k.journal; tables = k.tables; command = k.command; init = k.init });
   ends = stands;
   noted_are = λ whole.
-      let silent = silent_notes w.core FetchMessage w.ports h (λ p. refl) in
       kept whole ∙ ap (λ es. start ++ map unnumbered es)
-      (ap (λ es. es ++ notes) (sym (ap (λ es. w.entries ++ es) silent ∙ append-nil w.entries))
+      (ap (λ es. es ++ notes) (sym (ap (λ es. w.entries ++ es) (silent_notes w.core FetchMessage w.ports h (λ p. refl)) ∙ append-nil w.entries))
       ∙ ap (λ es. (w.entries ++ option_map_or (noted_of w.core FetchMessage) (port_at w.ports h) []) ++ es) (sym are));
   power = u.power;
 }
@@ -62,9 +52,8 @@ pub relayed_sent : {N : Type 0} {n : Node N} {ends : KeptEnds} {noted now start 
     → IsInStep (record n { ends = ends }) now short start (turn_at to (Give m) (turned h w))
 relayed_sent {noted = noted} {start = start} {w = w} {at = at} m h to u stands takes stays more is =
     let s = sent_noted w.core to m (turned h w).ports takes in
-    let at_is : noted ++ entry.Sent at 0 m.0 m.1 ∷ [] ≡ noted ++ entry.Sent (end_of_node w.core to) 0 m.0 m.1 ∷ [] = grind arith in
     relayed m h to u stands s.notes_are
-    (λ kept. more_noted start w.entries (entry.Sent (end_of_node w.core to) s.session m.0 m.1) stays (λ k. more k ∙ at_is) u.noted_are kept)
+    (λ kept. more_noted start w.entries (entry.Sent (end_of_node w.core to) s.session m.0 m.1) stays (λ k. more k ∙ (grind arith)) u.noted_are kept)
 
 pub relayed_nowhere : {N : Type 0} {n : Node N} {ends : KeptEnds} {noted start : List Entry} {was : Bool} {w : Work} (m : Message) (h to : ℕ)
     → IsInStep n noted was start w → EndsStandFor ends (turn_at to (Give m) (turned h w)).ports → false ≡ takes_at m (port_at (turned h w).ports to)

@@ -32,8 +32,7 @@ input_more : (input : NodeInput) → MakeOneMore input → (p : Port) (i : LinkI
 input_more (AtEnd h j) more p i is = grind arith
 input_more TimePasses more p i is =
     let e : Tick ≡ i = cc in
-    let P : LinkInput → Type 0 = λ x. MakesOneMore x in
-    subst P e tick_few
+    subst (λ x. MakesOneMore x) e tick_few
 
 come_all : (input : NodeInput) → MakeOneMore input → (w : Work) → OfAll (Ready 0) w.ports → AllByRecursion (HasCome 1) (all_come input w).ports
 come_all input more w all =
@@ -79,9 +78,6 @@ out_all TimePasses w all = each_twice w.ports all
 
 -- ## Sessions that ended
 
-forgets_one : (ports : List Port) (p : Port) → HasCome 2 p → HasCome 2 (forgets ports p)
-forgets_one ports p has = grind arith
-
 without_one : (p : Port) → HasCome 2 p → Of (Ready 2) (without_notice p)
 without_one p has = grind arith
 
@@ -90,7 +86,7 @@ left_all w all = go w.ports all
   where
     go : (ports : List Port) → AllByRecursion (HasCome 2) ports → OfAll (Ready 2) (map without_notice (map (forgets w.ports) ports))
     go [] all = tt
-    go (p ∷ ports) all = (without_one (forgets w.ports p) (forgets_one w.ports p all.0), go ports all.1)
+    go (p ∷ ports) all = (without_one (forgets w.ports p) (grind arith), go ports all.1)
 
 settled_all : (syncs : List Deed) (w : Work) → AllByRecursion (HasCome 2) w.ports → OfAll (Ready 2) (settles syncs w).ports
 settled_all syncs w all =
@@ -116,17 +112,11 @@ settled_all syncs w all =
 
 come_hosts_all : (input : NodeInput) (ports : List Port) → map host_at (map (λ (p : Port). has_come p (input_at input p)) ports) ≡ map host_at ports
 come_hosts_all input [] = refl
-come_hosts_all input (p ∷ ports) = ap₂ (λ (n : ℕ) ns. n ∷ ns) (one (input_at input p)) (come_hosts_all input ports)
-  where
-    one : (o : Option LinkInput) → (has_come p o).desk.host ≡ p.desk.host
-    one o = grind arith
+come_hosts_all input (p ∷ ports) = ap₂ (λ (n : ℕ) ns. n ∷ ns) (let h0 = input_at input p in grind arith) (come_hosts_all input ports)
 
 late_hosts : (ports : List Port) → map host_at (map reset_late (map with_older ports)) ≡ map host_at ports
 late_hosts [] = refl
-late_hosts (p ∷ ports) = ap₂ (λ (n : ℕ) ns. n ∷ ns) (one (is_late (with_older p)) refl) (late_hosts ports)
-  where
-    one : (b : Bool) → is_late (with_older p) ≡ b → (reset_late (with_older p)).desk.host ≡ p.desk.host
-    one b q = grind arith
+late_hosts (p ∷ ports) = ap₂ (λ (n : ℕ) ns. n ∷ ns) (let h0 = is_late (with_older p) in grind arith) (late_hosts ports)
 
 out_hosts : (input : NodeInput) (w : Work) → map host_at (times_out input w).ports ≡ map host_at w.ports
 out_hosts (AtEnd h i) w = refl

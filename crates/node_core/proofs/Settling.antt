@@ -1,7 +1,7 @@
 -- What is settled behind what came in a step, and what that leaves at the ends.
 use Rattle.node_core.proofs.Words.{AreFewDue, Bool, Brings, Deed, Entry, Foretells, IsInStep, List, Node, None, Option, Plan, Port, Releases, Response, Sends}
 use Rattle.node_core.proofs.Words.{Work, [], after_sessions, all_done, all_owed, answer_of, answers_owed, ap, append-nil, append_assoc, ap₂, arith, done, false}
-use Rattle.node_core.proofs.Words.{flat_map, flat_map-cons, forgets, forgotten, left_over, map, not, plan_left, refl, settles, subst, sym, true, unless_cut}
+use Rattle.node_core.proofs.Words.{flat_map, flat_map-cons, forgets, forgotten, left_over, map, not, refl, settles, subst, sym, true, unless_cut}
 use Rattle.node_core.proofs.Words.{without_notice, ℕ, ◌++◌, ◌∙◌, ◌∷◌, ◌≡◌, ◌≤◌}
 use Rattle.node_core.proofs.Joining.{brings_plain, brings_cut, brings_then, stays_cut, goes_on}
 use Rattle.node_core.proofs.Steps.{brings_after}
@@ -22,36 +22,28 @@ plain_none = record { planned = λ w plan. refl; written = λ w. refl; power = �
 plain_more : (d : Deed) (deeds : List Deed) → IsPlain (done 0 d) → IsPlain (all_done 0 deeds) → IsPlain (all_done 0 (d ∷ deeds))
 plain_more d deeds one later = grind arith
 
-plain_release : (asker : ℕ) → IsPlain (done 0 (Releases asker))
-plain_release asker = record { planned = λ w plan. refl; written = λ w. refl; power = λ w. refl }
-
-plain_send : (to : ℕ) (m : ℕ × List ℕ) → IsPlain (done 0 (Sends to m))
-plain_send to m = record { planned = λ w plan. refl; written = λ w. refl; power = λ w. refl }
-
 pub plain_freed : (askers : List ℕ) → IsPlain (all_done 0 (map Releases askers))
 plain_freed [] = plain_none
-plain_freed (a ∷ askers) = plain_more (Releases a) (map Releases askers) (plain_release a) (plain_freed askers)
+plain_freed (a ∷ askers) = plain_more (Releases a) (map Releases askers) (grind arith) (plain_freed askers)
 
 owed_one : (r : Response) (asker : ℕ) (behind : List Deed) → IsPlain (all_done 0 behind) → IsPlain (all_done 0 (answers_owed r asker ++ behind))
 owed_one r asker behind plain =
     let m : ℕ × List ℕ = (1, answer_of r []) in
-    plain_more (Releases asker) (Sends asker m ∷ behind) (plain_release asker) (plain_more (Sends asker m) behind (plain_send asker m) plain)
+    plain_more (Releases asker) (Sends asker m ∷ behind) (grind arith) (plain_more (Sends asker m) behind (grind arith) plain)
 
 owed_before : (r : Response) (askers : List ℕ) (behind : List Deed) → IsPlain (all_done 0 behind)
     → IsPlain (all_done 0 (flat_map (answers_owed r) askers ++ behind))
 owed_before r [] behind plain = plain
 owed_before r (a ∷ askers) behind plain =
-    let P : List Deed → Type 0 = λ ds. IsPlain (all_done 0 ds) in
-    subst P (sym (ap (λ ds. ds ++ behind) (flat_map-cons (answers_owed r) a askers)
+    subst (λ ds. IsPlain (all_done 0 ds)) (sym (ap (λ ds. ds ++ behind) (flat_map-cons (answers_owed r) a askers)
     ∙ append_assoc (answers_owed r a) (flat_map (answers_owed r) askers) behind))
     (owed_one r a (flat_map (answers_owed r) askers ++ behind) (owed_before r askers behind plain))
 
 pub plain_owed : (r s : Response) (ended late : List ℕ)
     → IsPlain (all_done 0 (flat_map (answers_owed r) ended ++ flat_map (answers_owed s) late))
 plain_owed r s ended late =
-    let P : List Deed → Type 0 = λ ds. IsPlain (all_done 0 ds) in
     owed_before r ended (flat_map (answers_owed s) late)
-    (subst P (append-nil (flat_map (answers_owed s) late)) (owed_before s late [] plain_none))
+    (subst (λ ds. IsPlain (all_done 0 ds)) (append-nil (flat_map (answers_owed s) late)) (owed_before s late [] plain_none))
 
 -- ## Sessions that ended
 
@@ -95,8 +87,7 @@ pub settled_ports : {N : Type 0} {writes : N → ℕ → List ℕ → Bool → N
     (b : Brings writes old new S (settles syncs) w) → b.after.cut ≡ false → map quiet_at b.after.ports ≡ map quiet_at w.ports
 settled_ports {w = w} syncs b live =
     let F : Bool → Type 0 = λ t. Foretells None b.sure b.torn t in
-    let after : settles syncs (record w { plan = None }) ≡ record b.after { plan = plan_left b.after.cut b.sure None } = b.is None (subst F (sym live) refl) in
-    ap (λ (v : Work). map quiet_at v.ports) (sym after) ∙ settled_quiet syncs (record w { plan = None })
+    ap (λ (v : Work). map quiet_at v.ports) (sym (b.is None (subst F (sym live) refl))) ∙ settled_quiet syncs (record w { plan = None })
 
 pub quiet_few : (a b : List Port) → map quiet_at a ≡ map quiet_at b → AreFewDue b → AreFewDue a
 quiet_few [] b same few = tt
@@ -104,8 +95,7 @@ quiet_few (p ∷ a) [] same few = cc
 quiet_few (p ∷ a) (q ∷ b) same few =
     let here : quiet_at p ≡ quiet_at q = cc in
     let there : map quiet_at a ≡ map quiet_at b = cc in
-    let P : Quiet → Type 0 = λ x. x.1 ≤ 6 in
-    (subst P (sym here) few.0, quiet_few a b there few.1)
+    (subst (λ x. x.1 ≤ 6) (sym here) few.0, quiet_few a b there few.1)
 
 -- ## Identifiers
 

@@ -1,7 +1,7 @@
 -- A whole step of a controller.
-use Rattle.node_core.proofs.Words.{ActStart, ActStop, AllByRecursion, AreAllDifferent, AreAtMostDue, AreFewDue, AreOfHosts, AtEnd, Bool, Brings, Core, Deed}
-use Rattle.node_core.proofs.Words.{Entry, IfSome, IsInStep, LinkInput, LinkReport, List, Machine, Node, NodeInput, None, Option, Plan, Port, Reset, Role, Some}
-use Rattle.node_core.proofs.Words.{Start, Stop, Stored, Work, [], act_answer, after_input, all_come, ap, append-nil, arith, due_count, eqb-true, false}
+use Rattle.node_core.proofs.Words.{AllByRecursion, AreAllDifferent, AreAtMostDue, AreFewDue, AreOfHosts, AtEnd, Bool, Brings, Core, Deed}
+use Rattle.node_core.proofs.Words.{Entry, IfSome, IsInStep, LinkInput, LinkReport, List, Machine, Node, NodeInput, None, Option, Plan, Port, Reset, Some}
+use Rattle.node_core.proofs.Words.{Start, Stop, Stored, Work, [], after_input, all_come, ap, append-nil, arith, due_count, eqb-true, false}
 use Rattle.node_core.proofs.Words.{finishes, flat_map, flat_map-cons, has_come, input_at, map, option_map, port_at, refl, report, report_told, steps, subst}
 use Rattle.node_core.proofs.Words.{sym, sync_kept, sync_told, synced, times_out, true, ℕ, ◌++◌, ◌+◌, ◌==◌, ◌∙◌, ◌∷◌, ◌≡◌, ◌≢◌, ◌≤◌}
 use Rattle.node_core.proofs.Elsewhere.{host_at}
@@ -15,11 +15,7 @@ none_synced : (core : Core) (h : ℕ) (i : LinkInput) (ports : List Port) → Al
     → flat_map (synced core (AtEnd h i)) ports ≡ []
 none_synced core h i [] differ = refl
 none_synced core h i (p ∷ ports) differ =
-    flat_map-cons (synced core (AtEnd h i)) p ports ∙ by (p.desk.host == h) refl (none_synced core h i ports differ.1)
-  where
-    by : (b : Bool) → (p.desk.host == h) ≡ b → flat_map (synced core (AtEnd h i)) ports ≡ []
-        → synced core (AtEnd h i) p ++ flat_map (synced core (AtEnd h i)) ports ≡ []
-    by b q later = grind arith
+    flat_map-cons (synced core (AtEnd h i)) p ports ∙ (let h0 = p.desk.host == h in let h1 = none_synced core h i ports differ.1 in grind arith)
 
 told_at_end : (h : ℕ) (i : LinkInput) → Option Port → Option (ℕ × ℕ)
 told_at_end h i o = sync_told h (option_map (λ (p : Port). report_told (report p.side i)) o)
@@ -40,8 +36,7 @@ synced_is core h i (p ∷ ports) differ =
 
     others : (p.desk.host == h) ≡ true → flat_map (synced core (AtEnd h i)) ports ≡ []
     others q =
-        let P : ℕ → Type 0 = λ n. AllByRecursion (λ (g : ℕ). g ≢ n) (map host_at ports) in
-        none_synced core h i ports (subst P (eqb-true p.desk.host h q) differ.0)
+        none_synced core h i ports (subst (λ n. AllByRecursion (λ (g : ℕ). g ≢ n) (map host_at ports)) (eqb-true p.desk.host h q) differ.0)
 
     first : (p.desk.host == h) ≡ true → port_at (p ∷ ports) h ≡ Some p
     first q = rw q refl
@@ -70,22 +65,15 @@ silent_synced core input silent (p ∷ ports) =
 silent_at : (core : Core) (h : ℕ) (i : LinkInput) → ((e : Machine) → (report e i).sync ≡ None) → (p : Port) → synced core (AtEnd h i) p ≡ []
 silent_at core h i none p = grind arith
 
-start_silent : (r : Role) (value : ℕ) → (act_answer r (ActStart value)).sync ≡ None
-start_silent r value = grind arith
-
-stop_silent : (r : Role) → (act_answer r ActStop).sync ≡ None
-stop_silent r = grind arith
-
 pub reset_synced : (core : Core) (h : ℕ) (window : Option ℕ) (ports : List Port) → flat_map (synced core (AtEnd h (Reset window))) ports ≡ []
 reset_synced core h window ports =
     silent_synced core (AtEnd h (Reset window)) (silent_at core h (Reset window) (λ e. refl)) ports
 
 pub start_synced : (core : Core) (h value : ℕ) (ports : List Port) → flat_map (synced core (AtEnd h (Start value))) ports ≡ []
-start_synced core h value ports =
-    silent_synced core (AtEnd h (Start value)) (silent_at core h (Start value) (λ e. start_silent e.role value)) ports
+start_synced core h value ports = silent_synced core (AtEnd h (Start value)) (silent_at core h (Start value) (λ e. (grind arith))) ports
 
 pub stop_synced : (core : Core) (h : ℕ) (ports : List Port) → flat_map (synced core (AtEnd h Stop)) ports ≡ []
-stop_synced core h ports = silent_synced core (AtEnd h Stop) (silent_at core h Stop (λ e. stop_silent e.role)) ports
+stop_synced core h ports = silent_synced core (AtEnd h Stop) (silent_at core h Stop (λ e. (grind arith))) ports
 
 -- ## Hosts
 
@@ -104,9 +92,8 @@ sync_of_host h i ports told hosts is = at (port_at ports h) refl (found_all _ po
     at : (o : Option Port) → port_at ports h ≡ o → IfSome o (λ (p : Port). (1 ≤ p.desk.host) × (p.desk.host ≤ 7)) → P (sync_told h told)
     at None q host = grind arith
     at (Some p) q host =
-        let some : told ≡ Some (report_told (report p.side i)) = is ∙ ap (option_map (λ (p : Port). report_told (report p.side i))) q in
         let H : ℕ → Type 0 = λ n. (1 ≤ n) × (n ≤ 7) in
-        subst (λ (t : Option LinkReport). P (sync_told h t)) (sym some)
+        subst (λ (t : Option LinkReport). P (sync_told h t)) (sym (is ∙ ap (option_map (λ (p : Port). report_told (report p.side i))) q))
         (of (report_told (report p.side i)).sync (report_told (report p.side i)) refl (subst H (doing.host_at h ports p q) host))
 
 -- ## Control frames
@@ -119,12 +106,9 @@ pub come_few : (h : ℕ) (i : LinkInput) → ((e : Machine) → due_count (after
     → AreFewDue (all_come (AtEnd h i) w).ports
 come_few h i more w few = all w.ports few
   where
-    one : (b : Bool) (p : Port) → (p.desk.host == h) ≡ b → due_count p.side ≤ 5 → due_count (has_come p (input_at (AtEnd h i) p)).side ≤ 6
-    one b p q few = grind arith
-
     all : (ports : List Port) → AreAtMostDue 5 ports → AreFewDue (map (λ (p : Port). has_come p (input_at (AtEnd h i) p)) ports)
     all [] few = tt
-    all (p ∷ ports) few = (one (p.desk.host == h) p refl few.0, all ports few.1)
+    all (p ∷ ports) few = ((let h0 = p.desk.host == h in grind arith), all ports few.1)
 
 -- ## Steps
 

@@ -1,10 +1,9 @@
 -- The parts of deeds: what is noted, what is done to an end, and what is kept of it.
 use Rattle.std.specs.Prelude.{slice_index_or}
-use Rattle.node_core.proofs.Words.{AreDoableInTurn, Bool, Brings, Core, DeedOf, DeskOf, End, EndsStandFor, Entry, FetchMessage, Foretells, Handling}
-use Rattle.node_core.proofs.Words.{IsDoableNow, IsInStep, KeptEnds, List, Node, None, Option, Plan, Port, Stored, Turn, Work, [], add-one, after_turn, all_done}
-use Rattle.node_core.proofs.Words.{ap, append-nil, arith, deed_shown, done, drop, drop-cons, drop_all, end_of_node, false, has_turn, length, map, not, noted_of}
-use Rattle.node_core.proofs.Words.{noting, option_map_or, plan_left, port_at, refl, subst, sym, true, turn_at, unnumbered, with_desk, with_port, ℕ, ◌++◌, ◌+◌}
-use Rattle.node_core.proofs.Words.{◌<◌, ◌∙◌, ◌∷◌, ◌≡◌, ◌≤◌}
+use Rattle.node_core.proofs.Words.{AreDoableInTurn, Bool, Brings, Core, DeedOf, DeskOf, End, EndsStandFor, Entry, FetchMessage, Foretells, Handling, IsInStep}
+use Rattle.node_core.proofs.Words.{KeptEnds, List, Node, None, Option, Plan, Port, Stored, Turn, Work, [], add-one, after_turn, all_done, ap, append-nil, arith}
+use Rattle.node_core.proofs.Words.{deed_shown, done, drop, drop-cons, drop_all, end_of_node, false, has_turn, length, map, not, noted_of, noting, option_map_or}
+use Rattle.node_core.proofs.Words.{plan_left, port_at, refl, subst, sym, true, turn_at, unnumbered, with_desk, with_port, ℕ, ◌++◌, ◌+◌, ◌<◌, ◌∙◌, ◌∷◌, ◌≡◌, ◌≤◌}
 use Rattle.trace_model.specs.declared.entry.Entry.TheVariants as entry
 use Rattle.node_deeds.specs.declared.deeds.Deed.{Deed}
 use Rattle.node_deeds.specs.declared.deeds.Deed.TheVariants as kept
@@ -60,8 +59,7 @@ turn_begun {given = given} {ends = ends} {noted = noted} {w = w} h pipe message 
     let first : Work = noting (turn ∷ []) w in
     let begun = plain_noted turn refl u stays (λ kept. more kept ∙ ap (λ (x : End). noted ++ entry.Turn x pipe message ∷ []) at) in
     let fetched = silent_turn {ends = given} h FetchMessage (λ p. refl) begun (give_back first.ports begun.ends) in
-    let second : Work = turn_at h FetchMessage first in
-    desk_changed {ends = ends} h (λ d. record d { holds = false }) fetched (set_holds second.ports fetched.ends)
+    desk_changed {ends = ends} h (λ d. record d { holds = false }) fetched (set_holds (turn_at h FetchMessage first).ports fetched.ends)
 
 -- a deed without a write
 pub plainly : {N : Type 0} (writes : N → ℕ → List ℕ → Bool → N → Type 0) {n n2 : Node N} {noted now start : List Entry} {was short : Bool} {w : Work}
@@ -69,23 +67,18 @@ pub plainly : {N : Type 0} (writes : N → ℕ → List ℕ → Bool → N → T
     → (f w).cut ≡ w.cut → (f w).writes ≡ w.writes → ((plan : Option Plan) → f (record w { plan = plan }) ≡ record (f w) { plan = plan })
     → Brings writes n.store.journal.nv n2.store.journal.nv (IsInStep n2 now short start) f w
 plainly {N} writes {n} {n2} {noted} {now} {start} {was} {short} {w} f u live same after cut written is =
-    let power : w.cut ≡ false = u.power ∙ ap not live in
     let P : N → Type 0 = λ m. Brings writes n.store.journal.nv m (IsInStep n2 now short start) f w in
-    subst P (sym (ap (λ (s : Stored N). s.journal.nv) same)) (brings_plain writes after (cut ∙ power) written is)
+    subst P (sym (ap (λ (s : Stored N). s.journal.nv) same)) (brings_plain writes after (cut ∙ (u.power ∙ ap not live)) written is)
 
 -- the deed of an arm
 pub of_deed : {N : Type 0} {writes : N → ℕ → List ℕ → Bool → N → Type 0} {old new : N} {S : Work → Type 0} {w : Work} (h : ℕ) (a : Handling) (deed d : Deed)
     → deed ≡ d → Brings writes old new S (done h (deed_shown a d)) w → Brings writes old new S (done h (deed_shown a deed)) w
 of_deed h a deed d is b = grind arith
 
--- whether deeds may be done has nothing to do with the plan
-deed_anyway : (a : Handling) (d : Deed) (w : Work) (plan : Option Plan) → IsDoableNow a d (record w { plan = plan }) → IsDoableNow a d w
-deed_anyway a d w plan h = grind arith
-
 deeds_anyway : (h : ℕ) (a : Handling) (deeds : List Deed) (w : Work) (plan : Option Plan) → AreDoableInTurn h a deeds (record w { plan = plan })
     → AreDoableInTurn h a deeds w
 deeds_anyway h a [] w plan all = tt
-deeds_anyway h a (d ∷ deeds) w plan all = (deed_anyway a d w plan all.0, all.1)
+deeds_anyway h a (d ∷ deeds) w plan all = ((grind arith), all.1)
 
 -- those behind one that went through may be done
 pub doable_then : {N : Type 0} {writes : N → ℕ → List ℕ → Bool → N → Type 0} {old new : N} {S : Work → Type 0} {w : Work} (h : ℕ) (a : Handling) (d : Deed)
@@ -134,8 +127,7 @@ pub all_gone : {N : Type 0} {writes : N → ℕ → List ℕ → Bool → N → 
     {all : List DeedOf} {h : ℕ} (k : GoesOn writes first n noted short start [] all h w) → n.store.journal.live ≡ true
     → Brings writes first.store.journal.nv n.store.journal.nv (IsInStep n noted short start) (all_done h all) w
 all_gone {writes = writes} {n = n} {noted = noted} {short = short} {h = h} k live =
-    let power : k.now.cut ≡ false = k.under.power ∙ ap not live in
-    k.onto n noted short (brings_plain writes k.under power refl (λ plan. refl))
+    k.onto n noted short (brings_plain writes k.under (k.under.power ∙ ap not live) refl (λ plan. refl))
 
 -- ## A list of deeds, from a place on
 

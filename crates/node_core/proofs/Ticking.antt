@@ -2,7 +2,7 @@
 use Rattle.node_core.proofs.Words.{AllByRecursion, AreAllDifferent, AreFewDue, AtEnd, EndsStandFor, Entry, FewAreDue, KeptEnds, List, None, Option, Port, Some}
 use Rattle.node_core.proofs.Words.{Tick, TimePasses, Work, [], all_changed, all_come, ap, append-nil, append_assoc, ap₂, arith, at_place, eq-eqb, false}
 use Rattle.node_core.proofs.Words.{first_changed, flat_map, flat_map-cons, has_come, length, map, next_changed, next_there, none_changed, noting, option_map}
-use Rattle.node_core.proofs.Words.{port_at, refl, slice_get, subst, suc, sym, take, told_at, true, with_port, zero, ℕ, ◌++◌, ◌==◌, ◌∙◌, ◌∷◌, ◌≡◌, ◌≢◌, ◌≤◌}
+use Rattle.node_core.proofs.Words.{port_at, refl, slice_get, subst, suc, sym, take, told_at, with_port, zero, ℕ, ◌++◌, ◌==◌, ◌∙◌, ◌∷◌, ◌≡◌, ◌≢◌, ◌≤◌}
 use Rattle.node_ends.proofs.Seated.{as_many}
 use Rattle.node_core.proofs.Elsewhere.{host_at}
 use Rattle.node_core.proofs.Arriving.{come_is}
@@ -14,9 +14,7 @@ differs a b n = grind arith
 
 pub none_with : (h : ℕ) (f : Port → Port) (ports : List Port) → AllByRecursion (λ (g : ℕ). g ≢ h) (map host_at ports) → with_port h f ports ≡ ports
 none_with h f [] differ = refl
-none_with h f (p ∷ ports) differ =
-    let other = differs p.desk.host h (λ e. differ.0 e) in
-    ap₂ (λ (q : Port) qs. q ∷ qs) (rw other refl) (none_with h f ports differ.1)
+none_with h f (p ∷ ports) differ = ap₂ (λ (q : Port) qs. q ∷ qs) (rw (differs p.desk.host h (λ e. differ.0 e)) refl) (none_with h f ports differ.1)
 
 all_there : (P : ℕ → Type 0) (i : ℕ) (ports : List Port) (p : Port) → slice_get ports i ≡ Some p → AllByRecursion P (map host_at ports) → P p.desk.host
 all_there P i [] p is all = cc
@@ -29,8 +27,7 @@ at_is_with i f [] p differ is = cc
 at_is_with zero f (q ∷ ports) p differ is =
     let e : q ≡ p = cc in
     let P : Port → Type 0 = λ x. f q ∷ ports ≡ with_port x.desk.host f (q ∷ ports) in
-    let here : (q.desk.host == q.desk.host) ≡ true = eq-eqb q.desk.host q.desk.host refl in
-    subst P e (ap₂ (λ (x : Port) xs. x ∷ xs) (rw here refl) (sym (none_with q.desk.host f ports differ.0)))
+    subst P e (ap₂ (λ (x : Port) xs. x ∷ xs) (rw (eq-eqb q.desk.host q.desk.host refl) refl) (sym (none_with q.desk.host f ports differ.0)))
 at_is_with (suc i) f (q ∷ ports) p differ is =
     let other = differs q.desk.host p.desk.host (λ e. all_there (λ g. g ≢ q.desk.host) i ports p is differ.0 (sym e)) in
     ap₂ (λ (x : Port) xs. x ∷ xs) (rw other refl) (at_is_with i f ports p differ.1 is)
@@ -40,8 +37,7 @@ pub found_there : (i : ℕ) (ports : List Port) (p : Port) → AreAllDifferent (
 found_there i [] p differ is = cc
 found_there zero (q ∷ ports) p differ is = grind arith
 found_there (suc i) (q ∷ ports) p differ is =
-    let other = differs q.desk.host p.desk.host (λ e. all_there (λ g. g ≢ q.desk.host) i ports p is differ.0 (sym e)) in
-    rw other (found_there i ports p differ.1 is)
+    rw (differs q.desk.host p.desk.host (λ e. all_there (λ g. g ≢ q.desk.host) i ports p is differ.0 (sym e))) (found_there i ports p differ.1 is)
 
 pub few_there : (i : ℕ) (ports : List Port) → AreFewDue ports → FewAreDue (slice_get ports i)
 few_there i [] few = tt
@@ -60,9 +56,7 @@ first_hosts (suc i) f (p ∷ ports) same = ap₂ (λ (n : ℕ) ns. n ∷ ns) (sa
 pub next_told : (t : Port → List Entry) (i : ℕ) (ports : List Port) (p : Port) → slice_get ports i ≡ Some p
     → flat_map t (take (suc i) ports) ≡ flat_map t (take i ports) ++ t p
 next_told t i [] p is = cc
-next_told t zero (q ∷ ports) p is =
-    let e : q ≡ p = cc in
-    flat_map-cons t q [] ∙ (append-nil (t q) ∙ ap t e)
+next_told t zero (q ∷ ports) p is = flat_map-cons t q [] ∙ (append-nil (t q) ∙ ap t cc)
 next_told t (suc i) (q ∷ ports) p is =
     flat_map-cons t q (take (suc i) ports)
     ∙ (ap (λ l. t q ++ l) (next_told t i ports p is)
@@ -136,7 +130,4 @@ either_there o is some none = grind arith
 
 -- there are at most seven ends
 pub many_ports : (ends : KeptEnds) (ports : List Port) → EndsStandFor ends ports → length ports ≤ 7
-many_ports ends ports e =
-    let many = as_many ends.pool ends.seats ports e.each in
-    let few = e.few in
-    omega (arith, many, few)
+many_ports ends ports e = omega (arith, (as_many ends.pool ends.seats ports e.each), e.few)

@@ -77,8 +77,7 @@ pub nothing_ended : (syncs : List Deed) (w : Work) → list_any is_over w.ports 
 nothing_ended syncs w q =
     let a = all_go_on w.ports q in
     let left : map (forgets w.ports) w.ports ≡ w.ports = all_same w.ports a w.ports in
-    let owing : all_owed (map (forgets w.ports) w.ports) ≡ [] = ap all_owed left ∙ none_owed w.ports a in
     let kept : left_over w ≡ w =
     ap₂ (λ c ps. record w { core = c; ports = ps }) (not_over w.core w.ports q) (ap (map without_notice) left ∙ all_noticed w.ports a) in
     let freed : all_done 0 (forgotten w.ports) (left_over w) ≡ w = ap₂ (λ ds v. all_done 0 ds v) (none_forgotten w.ports a) kept in
-    ap₂ (λ ds v. unless_cut (all_done 0 ds) v) owing (ap (all_done 0 syncs) freed) ∙ undone (all_done 0 syncs w)
+    ap₂ (λ ds v. unless_cut (all_done 0 ds) v) (ap all_owed left ∙ none_owed w.ports a) (ap (all_done 0 syncs) freed) ∙ undone (all_done 0 syncs w)

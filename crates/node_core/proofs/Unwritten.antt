@@ -1,15 +1,14 @@
 -- A step behind which the link of a host isn't up commits nothing: all that waits there is dropped.
 use Rattle.std.proofs.lemmas.Bool.{and_right, cond_both, lt-leb, not-false}
-use Rattle.node_core.proofs.Words.{ActEvent, ActStart, ActStop, AllByRecursion, AreMade, AtEnd, BeginsStep, Bool, Brings, Core, Deed, Drops, Entry}
+use Rattle.node_core.proofs.Words.{ActStart, AllByRecursion, AreMade, AtEnd, BeginsStep, Bool, Brings, Core, Deed, Drops, Entry}
 use Rattle.node_core.proofs.Words.{FetchMessage, Foretells, Give, HasOwnLink, HasStepped, IfSome, IsAskedOf, IsTrue, LinkInput, List, Machine, Message, Node}
-use Rattle.node_core.proofs.Words.{None, Option, Plan, Port, Release, Releases, Reset, Sends, Some, Start, Stop, ToEnd, WereMade, Work, Write, [], activated}
-use Rattle.node_core.proofs.Words.{after_input, after_turn, all_come, all_done, all_owed, ap, ap₂, arith, changed_if, deeds_of, done, end_view, fails_within}
-use Rattle.node_core.proofs.Words.{false, flat_map, forgets, forgotten, got_at, handles, has_come, has_turn, have_turns, host_deeds, inl, input_at}
-use Rattle.node_core.proofs.Words.{input_of_end, inr, is_over, is_up, lack, le-leb, left_over, length, map, moved, nat_le, needs, own_view, passes, plan_after}
+use Rattle.node_core.proofs.Words.{None, Option, Plan, Port, Release, Releases, Reset, Sends, Some, Start, Stop, ToEnd, WereMade, Work, Write, []}
+use Rattle.node_core.proofs.Words.{after_input, after_turn, all_come, all_done, all_owed, ap, ap₂, arith, deeds_of, done, fails_within}
+use Rattle.node_core.proofs.Words.{false, flat_map, forgets, forgotten, got_at, handles, has_come, has_turn, have_turns, inl, input_at}
+use Rattle.node_core.proofs.Words.{input_of_end, inr, is_over, is_up, lack, le-leb, left_over, length, map, moved, nat_le, needs, passes, plan_after}
 use Rattle.node_core.proofs.Words.{plan_behind, plan_left, port_at, refl, refusal_at, reset_refusal, reset_refusal_at, settles, steps, subst, suc, sym, synced}
 use Rattle.node_core.proofs.Words.{true, true≢false, unless_cut, with_port, without_notice, ℕ, ◌++◌, ◌+◌, ◌==◌, ◌∙◌, ◌∷◌, ◌≡◌, ◌≢◌, ◌⊎◌}
 use Rattle.shdlc_core.specs.Machine.{stopped}
-use Rattle.shdlc_core.specs.declared.answers.LinkState.TheVariants.{Down}
 use Rattle.node_machine.proofs.Walks.{forgotten_hold, all_owed_hold}
 use Rattle.node_ends.specs.declared.inputs.LinkInput.TheVariants as asks
 use Rattle.node_core.proofs.Stepping.{reset_synced, start_synced, stop_synced}
@@ -18,7 +17,6 @@ use Rattle.node_core.proofs.Elsewhere.{host_at, same_hosts}
 use Rattle.node_core.proofs.Sendables.{found_all}
 use Rattle.node_core.proofs.HavingTurns.{let_cut, let_writes, at_host, no_host}
 use Rattle.node_core.proofs.Settling.{settled_quiet}
-use Rattle.node_core.proofs.Staying.{over_node}
 
 -- ## Links that aren't up
 
@@ -31,10 +29,7 @@ give_phase m p = grind arith
 down_port : (h : ℕ) (f : Port → Port) → ((p : Port) → (f p).side.shdlc.phase ≡ p.side.shdlc.phase) → (ports : List Port) → AreDown ports
     → AreDown (with_port h f ports)
 down_port h f same [] down = tt
-down_port h f same (p ∷ ports) down = (one (p.desk.host == h), down_port h f same ports down.1)
-  where
-    one : (b : Bool) → is_up (changed_if b f p).side.shdlc.phase ≡ false
-    one b = grind arith
+down_port h f same (p ∷ ports) down = ((let h0 = p.desk.host == h in grind arith), down_port h f same ports down.1)
 
 down_at : (ports : List Port) (h : ℕ) (p : Port) → AreDown ports → port_at ports h ≡ Some p → is_up p.side.shdlc.phase ≡ false
 down_at ports h p down at =
@@ -57,12 +52,9 @@ decides_down : (core : Core) (ports : List Port) (h : ℕ) (m : Message) → cor
     → (deeds_of core ports h m ≡ []) ⊎ (deeds_of core ports h m ≡ Drops m.0 ∷ [])
 decides_down core ports h m some down = by (port_at ports h) refl
   where
-    drops : (p : Port) → is_up p.side.shdlc.phase ≡ false → host_deeds (own_view core) (end_view p) m ≡ Drops m.0 ∷ []
-    drops p q = rw q refl
-
     by : (o : Option Port) → port_at ports h ≡ o → (deeds_of core ports h m ≡ []) ⊎ (deeds_of core ports h m ≡ Drops m.0 ∷ [])
     by None at = inl (no_host core ports h m some at)
-    by (Some p) at = inr (at_host core ports h m p some at ∙ drops p (down_at ports h p down at))
+    by (Some p) at = inr (at_host core ports h m p some at ∙ (rw (down_at ports h p down at) refl))
 
 turned : (h : ℕ) (m : Message) (w : Work) → w.cut ≡ false → AreDown w.ports → IsUnwritten (has_turn h m w) w
 turned h m w live down = record {
@@ -131,8 +123,7 @@ all_free [] free w live down = record { written = refl; power = live; core = ref
 all_free (d ∷ deeds) free w live down =
     let u = one_free d w free.0 live down in
     let later = all_free deeds free.1 (done 0 d w) u.power u.down in
-    let P : Work → Type 0 = λ v. IsUnwritten v w in
-    subst P (sym (goes_on (all_done 0 deeds) (done 0 d w) u.power))
+    subst (λ v. IsUnwritten v w) (sym (goes_on (all_done 0 deeds) (done 0 d w) u.power))
     (record { written = later.written ∙ u.written; power = later.power; core = later.core ∙ u.core; down = later.down })
 
 -- ## Whole steps
@@ -157,9 +148,8 @@ settles_unwritten w live down =
     let freed : Work = all_done 0 (forgotten w.ports) (left_over w) in
     let a = all_free (forgotten w.ports) (forgotten_hold (λ d. IsFree d) (λ asker. tt) w.ports) (left_over w) live (left_down w down) in
     let b = all_free owing (all_owed_hold (λ d. IsFree d) (λ asker. tt) (λ to r. tt) (map (forgets w.ports) w.ports)) freed a.power a.down in
-    let P : Work → Type 0 = λ v. IsUnwritten v w in
-    subst P (sym (goes_on (all_done 0 owing) freed a.power))
-    (record { written = b.written ∙ a.written; power = b.power; core = b.core ∙ (a.core ∙ over_node w.core w.ports); down = b.down })
+    subst (λ v. IsUnwritten v w) (sym (goes_on (all_done 0 owing) freed a.power))
+    (record { written = b.written ∙ a.written; power = b.power; core = b.core ∙ (a.core ∙ (grind arith)); down = b.down })
 
 -- the end of a host's own link isn't up behind what came
 come_down : (w : Work) (i : LinkInput) → map host_at w.ports ≡ w.core.node ∷ []
@@ -179,10 +169,7 @@ come_down w i own goes = all w.ports own goes
 
 come_hosts : (h : ℕ) (i : LinkInput) (ports : List Port) → map host_at (map (λ (p : Port). has_come p (input_at (AtEnd h i) p)) ports) ≡ map host_at ports
 come_hosts h i [] = refl
-come_hosts h i (p ∷ ports) = ap₂ (λ (n : ℕ) ns. n ∷ ns) (one (input_at (AtEnd h i) p)) (come_hosts h i ports)
-  where
-    one : (o : Option LinkInput) → (has_come p o).desk.host ≡ p.desk.host
-    one o = grind arith
+come_hosts h i (p ∷ ports) = ap₂ (λ (n : ℕ) ns. n ∷ ns) (let h0 = input_at (AtEnd h i) p in grind arith) (come_hosts h i ports)
 
 -- A step of a host commits nothing, where something comes to its end behind which that isn't up, and no identifier came.
 pub step_unwritten : (w : Work) (i : LinkInput) → w.core.node ≢ 0 → HasOwnLink w.core.node w.ports → w.cut ≡ false
@@ -206,14 +193,11 @@ step_unwritten w i some own live none goes =
 pub reset_down : (e : Machine) (window : Option ℕ) → reset_refusal e ≡ None → is_up (after_input e (Reset window)).shdlc.phase ≡ false
 reset_down e window none = grind arith
 
-activated_down : (e : Machine) (event : ActEvent) → e.shdlc.phase ≡ Down → is_up (activated e event).shdlc.phase ≡ false
-activated_down e event down = grind arith
-
 pub start_down : (e : Machine) (value : ℕ) → is_up (after_input e (Start value)).shdlc.phase ≡ false
-start_down e value = activated_down (moved e true (stopped e.shdlc)) (ActStart value) refl
+start_down e value = let h0 = moved e true (stopped e.shdlc) in let h1 = ActStart value in grind arith
 
 pub stop_down : (e : Machine) → is_up (after_input e Stop).shdlc.phase ≡ false
-stop_down e = activated_down (moved e true (stopped e.shdlc)) ActStop refl
+stop_down e = let h0 = moved e true (stopped e.shdlc) in grind arith
 
 -- the same for the end of a host's own link, and for all
 resets_down : (node : ℕ) (window : Option ℕ) (ports : List Port) → map host_at ports ≡ node ∷ [] → reset_refusal_at (port_at ports node) ≡ None
@@ -325,9 +309,8 @@ host_still writes {n} {n2} {noted2 = noted2} {start = start} {short2 = short2} {
     let node = begins.runs.node in
     let i : LinkInput = input_of_end what in
     let P : ℕ → Type 0 = λ k. Brings writes n.store.journal.nv n2.store.journal.nv (HasStepped n2 noted2 short2 start) (steps (AtEnd k i)) w in
-    let Q : ℕ → Type 0 = λ k. HasStepped n2 noted2 short2 start (steps (AtEnd k i) w) in
     let R : ℕ → Type 0 = λ k. refusal_at what (port_at w.ports k) ≡ None in
     let nonzero : w.core.node ≢ 0 = λ zero. some (sym node ∙ zero) in
     let r = stepped_still writes i (subst P (sym node) whole) nonzero begins.runs.order.own begins.power (still_synced w.core w.core.node what w.ports asked)
     (still_down w.core.node what w.ports asked (begins.runs.order.own nonzero) (subst R (sym node) none)) in
-    (r.0, subst Q node r.1, r.2)
+    (r.0, subst (λ k. HasStepped n2 noted2 short2 start (steps (AtEnd k i) w)) node r.1, r.2)

@@ -90,7 +90,7 @@ pub use Rattle.node_machine.specs.world.World.{beginning, sending}
 pub use Rattle.shdlc_core.specs.Machine.{EndState, with_ready}
 pub use Rattle.shdlc_core.specs.declared.answers.LinkState.{LinkState}
 pub use Rattle.swp_act.specs.declared.ActEvent.{ActEvent}
-pub use Rattle.swp_act.specs.declared.ActEvent.TheVariants.{Start as ActStart, Stop as ActStop}
+pub use Rattle.swp_act.specs.declared.ActEvent.TheVariants.{Start as ActStart}
 pub use Rattle.swp_base.specs.InMemory.{Memory, Plan, plan_after}
 pub use Rattle.swp_base.specs.declared.link_terms.Cause.{Cause}
 pub use Rattle.swp_base.specs.declared.link_terms.Role.{Role as Named}

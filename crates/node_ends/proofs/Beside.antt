@@ -1,6 +1,6 @@
 -- What is kept of an end beside it is changed: it stands for the changed port, and the ends beside it stay.
 use Rattle.node_ends.proofs.Words.{Bool, Desk, DeskOf, End, HoldsEnd, IsReached, IsSoundDesk, Machine, Option, PoolState, Port, Seat, SeatBecomes}
-use Rattle.node_ends.proofs.Words.{SeatStandsFor, Unanswered, Waiting, [], ap, arith, desk_shown, false, forgotten_at, kept_number, min, notice_shown}
+use Rattle.node_ends.proofs.Words.{SeatStandsFor, Unanswered, [], ap, arith, desk_shown, false, forgotten_at, kept_number, min, notice_shown}
 use Rattle.node_ends.proofs.Words.{option_map, refl, row_noticed, subst, sym, whole_acked, with_older, without_notice, ℕ, ◌+◌, ◌||◌, ◌∙◌, ◌≡◌}
 use Rattle.node_deeds.specs.Cores.{IsSoundRow}
 use Rattle.node_ends.specs.Desks.{as_forgotten, grown_older, kept_notice}
@@ -25,9 +25,8 @@ sets {pool} {s} {t} {f} c =
       moves = stays_beside pool s.side t.side (ap (λ (k : End). k.outbox) c.side) (ap (λ (k : End). k.inbox) c.side);
       stands = λ q g. record {
         holds = (let P : End → Type 0 = λ k. HoldsEnd pool k t.waiting (f q).side in
-            let Q : Option Waiting → Type 0 = λ w. HoldsEnd pool s.side w (f q).side in
             let M : Machine → Type 0 = λ m. HoldsEnd pool s.side s.waiting m in
-            subst P (sym c.side) (subst Q (sym c.waiting) (subst M (sym (c.same_side q)) g.holds)));
+            subst P (sym c.side) (subst (λ w. HoldsEnd pool s.side w (f q).side) (sym c.waiting) (subst M (sym (c.same_side q)) g.holds)));
         desk = c.desk q g;
         late = c.late q g;
         ended = c.ended q g;
@@ -71,9 +70,7 @@ begun pool s = grind arith
 
 pub notice_dropped : (pool : PoolState) (s t : Seat)
     → t ≡ record s { desk = record s.desk { notice = kept_notice (s.ended || s.late) s.desk.notice } } → SeatBecomes pool pool s t without_notice
-notice_dropped pool s t is =
-    let P : Seat → Type 0 = λ x. SeatBecomes pool pool s x without_notice in
-    subst P (sym is) (sets ((grind arith)))
+notice_dropped pool s t is = subst (λ x. SeatBecomes pool pool s x without_notice) (sym is) (sets ((grind arith)))
 
 pub creation_forgotten : (pool : PoolState) (s t : Seat) → t ≡ record s { desk = record s.desk { notice = as_forgotten s.desk.notice } }
     → SeatBecomes pool pool s t forgotten_at

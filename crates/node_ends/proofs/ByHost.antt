@@ -60,24 +60,21 @@ module _ {X : Type 0} (read : Port → X) (d : X) where
       let next = next_so_far xs i ports p far eight (omega (arith, own, low)) is (all_found pool seats ports e.hosts e.each) in
       let M : ℕ → Type 0 = λ m. StandSoFar (set xs p.desk.host (read p)) m ports in
       let V : X → Type 0 = λ v. StandSoFar (set xs p.desk.host v) (i + 1) ports in
-      let K : ℕ → Type 0 = λ n. StandSoFar (set xs n x) (i + 1) ports in
       let L : List X → Type 0 = λ l. StandSoFar l (i + 1) ports in
-      subst L (sym set_is) (subst K (sym own) (subst V (sym value) (subst M (sym (add-one i)) next)))
+      subst L (sym set_is) (subst (λ n. StandSoFar (set xs n x) (i + 1) ports) (sym own) (subst V (sym value) (subst M (sym (add-one i)) next)))
 
   -- an end of a link with a host above 7 has no place in the table
   pub skip_so_far : (xs : List X) (i : ℕ) (ports : List Port) (p : Port) → StandSoFar xs i ports → 8 ≤ p.desk.host
       → slice_get ports i ≡ Some p → StandSoFar xs (suc i) ports
   skip_so_far xs i ports p far high is h most =
-      let t : (p.desk.host == h) ≡ false = ne_eqb p.desk.host h (λ e. omega (arith, e, high, most)) in
-      far h most ∙ sym (one_more (read_by_host ports h) i ports p h is ∙ rw t refl)
+      far h most ∙ sym (one_more (read_by_host ports h) i ports p h is ∙ rw (ne_eqb p.desk.host h (λ e. omega (arith, e, high, most))) refl)
 
   pub goes_by : {pool : PoolState} (ports : List Port) (xs ys : List X) (i k : ℕ) (s : Seat) (p : Port) → SeatStandsFor pool s p → slice_get ports i ≡ Some p
       → k ≡ s.desk.host → 8 ≤ k → ys ≡ xs → StandSoFar xs i ports → StandSoFar ys (i + 1) ports
   goes_by ports xs ys i k s p g is host high same far =
-      let own : k ≡ p.desk.host = host ∙ host_is g in
       let M : ℕ → Type 0 = λ m. StandSoFar xs m ports in
       let L : List X → Type 0 = λ l. StandSoFar l (i + 1) ports in
-      subst L (sym same) (subst M (sym (add-one i)) (skip_so_far xs i ports p far (omega (arith, own, high)) is))
+      subst L (sym same) (subst M (sym (add-one i)) (skip_so_far xs i ports p far (omega (arith, (host ∙ host_is g), high)) is))
 
   -- behind the last end all stand there
   pub all_so_far : (xs : List X) (i : ℕ) (ports : List Port) → StandSoFar xs i ports → length ports ≤ i
@@ -99,9 +96,7 @@ module _ {X : Type 0} (read : Port → X) (d : X) where
       none : (l : List Port) → AllByRecursion (λ (p : Port). p.desk.host ≤ 7) l → 7 < h → port_at l h ≡ None
       none [] few high = refl
       none (q ∷ l) few high =
-          let first = few.0 in
-          let t : (q.desk.host == h) ≡ false = ne_eqb q.desk.host h (λ e. omega (arith, e, first, high)) in
-          rw t (none l few.1 high)
+          rw (ne_eqb q.desk.host h (λ e. omega (arith, e, few.0, high))) (none l few.1 high)
 
       by : (7 < h) ⊎ (h ≤ 7) → get_or xs h d ≡ read_by_host ports h
       by (inr most) = table h most

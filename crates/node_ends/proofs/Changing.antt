@@ -64,8 +64,7 @@ module _ {old new : PoolState} {h : ℕ} {f : Port → Port} {s t : Seat} (c : O
       → (u.side.outbox.owner ≡ 2 * k) → (u.side.inbox.joiner.owner ≡ 2 * k + 1) → u.desk.host ≢ h → SeatStandsFor old u p
       → SeatStandsFor new u (changed_if (p.desk.host == h) f p)
   stays j k u p differ own a b other g =
-      let P : Port → Type 0 = λ q. SeatStandsFor new u q in
-      subst P (sym (passed_by h f g other)) (record {
+      subst (λ q. SeatStandsFor new u q) (sym (passed_by h f g other)) (record {
         holds = c.moves.beside u.side u.waiting p.side (apart_places s.side u.side j k own.0 own.1 a b differ) g.holds;
         desk = g.desk;
         late = g.late;
@@ -96,14 +95,11 @@ module _ {old new : PoolState} {h : ℕ} {f : Port → Port} {s t : Seat} (c : O
   change_at k i (u ∷ seats) [] is owners hosts g = absurd g
   change_at k zero (u ∷ seats) (p ∷ ports) is owners hosts g =
       let e : u ≡ s = cc in
-      let P : Seat → Type 0 = λ x. SeatStandsFor old x p in
-      let Q : Port → Type 0 = λ q. SeatStandsFor new t q in
-      let one : SeatStandsFor old s p = subst P e g.0 in
-      let own = owners_at k zero (u ∷ seats) s is owners in
+      let one : SeatStandsFor old s p = subst (λ x. SeatStandsFor old x p) e g.0 in
       let others = subst (λ (x : Seat). AllByRecursion (λ (y : Seat). y.desk.host ≢ x.desk.host) seats) e hosts.0 in
       let rest = subst (λ n. AllByRecursion (λ (y : Seat). y.desk.host ≢ n) seats) c.before others in (
-        subst Q (sym (picked h f one c.before)) (c.stands p one),
-        rest_stays (k + zero) (k + 1) seats ports (omega arith) own owners.2 rest g.1,
+        subst (λ q. SeatStandsFor new t q) (sym (picked h f one c.before)) (c.stands p one),
+        rest_stays (k + zero) (k + 1) seats ports (omega arith) (owners_at k zero (u ∷ seats) s is owners) owners.2 rest g.1,
       )
   change_at k (suc i) (u ∷ seats) (p ∷ ports) is owners hosts g =
       let own = owners_at (k + 1) i seats s is owners.2 in
@@ -202,8 +198,7 @@ pub nowhere : {pool : PoolState} {seats : List Seat} {ports : List Port} (h : �
     → ((i : ℕ) → o ≡ Some i → ⊥) → AreEnds pool seats ports → AreEnds pool seats (with_port h f ports) × (port_at ports h ≡ None)
 nowhere {pool} {seats} {ports} h f None is none e =
     let n = none_at pool h f seats ports (sym is) e.each in
-    let P : List Port → Type 0 = λ l. AreEnds pool seats l in
-    (subst P (sym n.0) e, n.1)
+    (subst (λ l. AreEnds pool seats l) (sym n.0) e, n.1)
 nowhere h f (Some i) is none e = absurd (none i refl)
 
 -- what the ends show stays as it is then
@@ -220,9 +215,7 @@ pub owner_at_place : {pool : PoolState} {seats : List Seat} {ports : List Port} 
     → (placed_in h i place e).seat.side.outbox.owner ≡ 2 * i
 owner_at_place {pool} {seats} h i place e =
     let p = placed_in h i place e in
-    let o = owners_at 0 i seats p.seat p.seat_is e.owners in
-    let q = o.0 in
-    omega (arith, q)
+    omega (arith, ((owners_at 0 i seats p.seat p.seat_is e.owners).0))
 
 -- a call on an end does to it what its node does to the port
 pub record Turned (old new : PoolState) (s t : Seat) (x : Turn) : Type 0 where
@@ -262,9 +255,8 @@ pub lent_at : {pool : PoolState} {seats : List Seat} {ports : List Port} (h i : 
 lent_at {pool} {seats} h i s place is e =
     let p = placed_in h i (sym place) e in
     let same : p.seat ≡ s = sym (is ∙ read_at seats i p.seat s p.seat_is) in
-    let P : Seat → Type 0 = λ x. SeatStandsFor pool x p.port in
     let Q : Seat → Type 0 = λ x. x.desk.host ≡ h in
-    record { port = p.port; port_is = p.port_is; host = subst Q same p.host; stands = subst P same p.stands }
+    record { port = p.port; port_is = p.port_is; host = subst Q same p.host; stands = subst (λ x. SeatStandsFor pool x p.port) same p.stands }
 
 -- its owner for what goes out
 pub owner_lent : {pool : PoolState} {seats : List Seat} {ports : List Port} (h i : ℕ) (s : Seat) → Some i ≡ place_in h seats → s ≡ slice_index_or seats i s

@@ -54,9 +54,8 @@ given_acked m x s h = by (give_refusal m x) refl
 
     whole : whole_among (m.sent ++ x ∷ []) m.shdlc.session.acked ≡ whole_acked m
     whole =
-        let len = ap (λ (xs : List (List ℕ)). length xs) h.is.out in
         let i = h.is.acked in let r = h.is.reached in
-        whole_given m.sent x m.shdlc.session.acked count (omega (arith, len, i, r))
+        whole_given m.sent x m.shdlc.session.acked count (omega (arith, (ap (λ (xs : List (List ℕ)). length xs) h.is.out), i, r))
 
     by : (o : Option Refused) → give_refusal m x ≡ o → whole_acked (turn m (Give x)) ≡ whole_acked m
     by None q = rw q whole

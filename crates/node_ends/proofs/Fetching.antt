@@ -1,7 +1,7 @@
 -- A frame comes to an end, and the message that it brings is fetched.
 use Rattle.std.specs.Prelude.{option_to_list}
 use Rattle.node_ends.proofs.Words.{Accounts, AllByRecursion, Chain, Control, End, EndStandsFor, Err, FetchMessage, HoldsEnd, List, LpduFault, Machine, Message}
-use Rattle.node_ends.proofs.Words.{Moves, None, Ok, Open, Option, PoolState, Result, S, Some, Take, Waiting, [], ap, arith, chain_bytes, chain_of, control_of}
+use Rattle.node_ends.proofs.Words.{Moves, None, Ok, Open, Option, PoolState, Result, Some, Take, Waiting, [], ap, arith, chain_bytes, chain_of, control_of}
 use Rattle.node_ends.proofs.Words.{drop, false, got_by, is_some, length, lpdu_input, messages_waiting, oldest, option_map, refl, report, report_told, subst}
 use Rattle.node_ends.proofs.Words.{sym, true, true≢false, turn, without_got, ℕ, ◌++◌, ◌∙◌, ◌≡◌, ◌≤◌}
 use Rattle.hcp_chain.specs.Holding.{IsOwnOpen, messages_in as messages_of}
@@ -49,14 +49,11 @@ pub fetches : {pool : PoolState} {before after : End} {m : Machine} {o : Option 
     → HoldsEnd pool after (option_map as_waiting o) m
 fetches {pool} {before} {after} {m} {o} f =
     let one = one_came pool before m f.stands in
-    let P : List Message → Type 0 = λ g. EndStandsFor after pool (record m { got = g }) in
-    let A : Option Chain → Type 0 = λ c. Accounts after pool c in
-    let S : List Message → Type 0 = λ l. AllByRecursion (λ (x : Message). length x.1 ≤ 4096) l in
     record {
-      stands = subst P one f.next;
-      accounts = subst A (chain_is o) f.accounts;
+      stands = subst (λ g. EndStandsFor after pool (record m { got = g })) one f.next;
+      accounts = subst (λ c. Accounts after pool c) (chain_is o) f.accounts;
       waits = is_oldest m.got (option_map (λ (x : ℕ × Chain). (x.0, chain_bytes pool x.1)) o) one f.answer ∙ waits_of pool o;
-      short = subst S f.stands.halfway.got
+      short = subst (λ l. AllByRecursion (λ (x : Message). length x.1 ≤ 4096) l) f.stands.halfway.got
           (short_in pool before.inbox.joiner.owner before.inbox.joiner.open.items before.inbox.got f.stands.halfway.receives.lies.holds.own);
     }
 
@@ -79,8 +76,7 @@ pub none_waited : {pool : PoolState} (k : End) (waiting : Option Waiting) (m : M
     → WaitsHeld waiting k → is_some (oldest (got_by m (lpdu_input lpdu))) ≡ true → waiting ≡ None
 none_waited k None m lpdu h held came = refl
 none_waited k (Some w) m lpdu h held came =
-    let none : got_by m (lpdu_input lpdu) ≡ [] = held_gets_none m lpdu (sym h.stands.halfway.link.kept.ready ∙ held) in
-    absurd (true≢false (sym came ∙ ap (λ l. is_some (oldest l)) none))
+    absurd (true≢false (sym came ∙ ap (λ l. is_some (oldest l)) (held_gets_none m lpdu (sym h.stands.halfway.link.kept.ready ∙ held))))
 
 -- ## What is told
 

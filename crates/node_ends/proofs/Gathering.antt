@@ -1,7 +1,7 @@
 -- What a node looks at of its ends before it decides is what is kept of them.
 use Rattle.std.proofs.Common.{◌/◌}
 use Rattle.node_ends.proofs.Words.{AllByRecursion, AreEnds, AreSoundDesks, Bool, Desk, DeskOf, Down, HaveOwnHosts, List, PoolState, Port, Seat, SeatsStandFor}
-use Rattle.node_ends.proofs.Words.{Some, Up, [], ap, ap₂, arith, common_steps, cond, desk_shown, eq-eqb, eqb, get_or, has_link, is_up, length, map, port_at}
+use Rattle.node_ends.proofs.Words.{Some, Up, [], ap, ap₂, arith, common_steps, cond, eq-eqb, eqb, get_or, has_link, is_up, length, map, port_at}
 use Rattle.node_ends.proofs.Words.{refl, suc, sym, take, take_all, true, zero, ℕ, ◌%◌, ◌*◌, ◌++◌, ◌+◌, ◌<◌, ◌==◌, ◌∙◌, ◌∷◌, ◌≡◌, ◌≢◌, ◌≤◌}
 use Rattle.gate_admin.specs.View.{has}
 use Rattle.node_deeds.specs.Shown.{AreSeen, ports_shown, seen_at}
@@ -70,8 +70,7 @@ each_seen pool up all (s ∷ seats) [] mask hosts found g = absurd g
 each_seen pool up all (s ∷ seats) (p ∷ ports) mask hosts found g =
     let linked : has_link all p.desk.host ≡ is_up p.side.shdlc.phase = grind arith in
     let same : has up s.desk.host ≡ is_up p.side.shdlc.phase = grind arith in
-    let one : seen_at p ≡ (desk_shown s.desk, is_up (cond (has up s.desk.host) Up Down)) = grind arith in
-    ap₂ (λ (x : DeskOf × Bool) xs. x ∷ xs) one (each_seen pool up all seats ports mask hosts.1 found.1 g.1)
+    ap₂ (λ (x : DeskOf × Bool) xs. x ∷ xs) (grind arith) (each_seen pool up all seats ports mask hosts.1 found.1 g.1)
 
 pub are_seen : (pool : PoolState) (up : ℕ) (desks : List Desk) (seats : List Seat) (ports : List Port) → desks ≡ map (λ (s : Seat). s.desk) seats
     → ((h : ℕ) → 1 ≤ h → h ≤ 7 → has up h ≡ has_link ports h) → AreOfHosts ports → AreEnds pool seats ports → AreSeen up desks ports

@@ -43,8 +43,7 @@ taken_beside {old} {new} {from} {to} {w = w} h s t other waiting o one two g =
     let same : (c : Chain) → IsLive old c → c.owner ≡ other.inbox.joiner.owner → chain_bytes new c ≡ chain_bytes old c = λ c live is.
     (let queue = lies_apart_by_owner Queued chain_in old to.outbox.owner to.outbox.queue.items c s.halfway.sends.lies.kept.own live
     (λ e. two.to (sym e ∙ is)) in
-    let away = apart_by_owner old c w.chain live f.live (λ e. one.receivers (sym f.owned ∙ (sym e ∙ is))) in
-    (t.leaves.others c live queue away).1) in
+    (t.leaves.others c live queue (apart_by_owner old c w.chain live f.live (λ e. one.receivers (sym f.owned ∙ (sym e ∙ is))))).1) in
     record { stands = both.0; accounts = both.1; waits = g.waits ∙ sym (waits_on old new other waiting g.accounts same); short = g.short }
 
 -- ## From one end to another one
@@ -68,8 +67,7 @@ taken_over {old} {new} {from} {to} {after} {x} {w} h s differ t = record {
       let same : (c : Chain) → IsLive old c → c.owner ≡ to.inbox.joiner.owner → chain_bytes new c ≡ chain_bytes old c = λ c live is.
       (let queue = lies_apart_by_owner Queued chain_in old to.outbox.owner to.outbox.queue.items c g.stands.halfway.sends.lies.kept.own live
       (λ e. g.stands.halfway.differ (sym e ∙ is)) in
-      let away = apart_by_owner old c w.chain live f.live (λ e. differ.receivers (sym f.owned ∙ (sym e ∙ is))) in
-      (t.leaves.others c live queue away).1) in
+      (t.leaves.others c live queue (apart_by_owner old c w.chain live f.live (λ e. differ.receivers (sym f.owned ∙ (sym e ∙ is))))).1) in
       record {
         stands = subst (λ (n : Machine). EndStandsFor after new n) (give_without m x) (t.stands (without_got m) g.stands);
         accounts = passed_taker after h.accounts differ g.stands g.accounts t.inbox t.leaves;

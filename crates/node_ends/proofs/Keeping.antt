@@ -39,8 +39,7 @@ pub takes : {old new : PoolState} {s t u : Seat} {i : LinkInput} {told kept : Li
     → u ≡ record t { ended = is_some kept.ended; acked = acked_since t.acked kept } → SeatBecomes old new s u (λ p. has_come p (Some i))
 takes {old} {new} {s} {t} {u} {i} {told} {kept} k tells same is =
     let P : Seat → Type 0 = λ x. SeatBecomes old new s x (λ p. has_come p (Some i)) in
-    let Q : LinkReport → Type 0 = λ r. P (record t { ended = is_some r.ended; acked = acked_since t.acked r }) in
-    subst P (sym is) (subst Q (sym same) (record {
+    subst P (sym is) (subst (λ r. P (record t { ended = is_some r.ended; acked = acked_since t.acked r })) (sym same) (record {
       host = ap (λ (x : Seat). x.desk.host) k.rest;
       moves = k.moves;
       stands = λ p g. record {

@@ -99,10 +99,9 @@ same_count role k (h ∷ hosts) (s ∷ seats) n = ap suc (same_count role (k + 1
 pub new_ends : (pool : PoolState) (role : Named) (hosts : List ℕ) (seats : List Seat) → IsNew pool (take (2 * length hosts) all_quotas)
     → length hosts ≤ 7 → AreAllDifferent hosts → AddsNew role hosts [] seats → AreEnds pool seats (map (new_port role) hosts)
 new_ends pool role hosts seats new few different adds =
-    let P : List Seat → Type 0 = λ l. AreEnds pool l (map (new_port role) hosts) in
     let made = adds.0 in
     let n : AreNewFrom role 0 hosts made = adds.2 in
-    subst P (sym adds.1) (record {
+    subst (λ l. AreEnds pool l (map (new_port role) hosts)) (sym adds.1) (record {
       each = each_stands pool role 0 hosts made n
           (λ j low high. (is_free pool (length hosts) j new (omega (arith, high)) few, new_unused pool (take (2 * length hosts) all_quotas) (2 * j + 1) new));
       owners = own_owners role 0 hosts made n;
@@ -118,9 +117,8 @@ none_more role hosts before none same = grind arith
 pub one_more : (role : Named) (h : ℕ) (hosts : List ℕ) (before now : List Seat) (s : Seat) → IsNewSeat role (length before) h s
     → AddsNew role hosts (before ++ s ∷ []) now → AddsNew role (h ∷ hosts) before now
 one_more role h hosts before now s n adds =
-    let l : length (before ++ s ∷ []) ≡ length before + 1 = length-append before (s ∷ []) in
     let P : ℕ → Type 0 = λ k. AreNewFrom role k hosts adds.0 in
-    (s ∷ adds.0, adds.1 ∙ append_assoc before (s ∷ []) adds.0, (n, subst P l adds.2))
+    (s ∷ adds.0, adds.1 ∙ append_assoc before (s ∷ []) adds.0, (n, subst P (length-append before (s ∷ [])) adds.2))
 
 -- what follows of a call that went well
 pub on_ok : {P Q : Type 0} (r : Result (Unit {0}) NoMemory) → (P → Q) → OnOk r P → OnOk r Q

@@ -54,11 +54,10 @@ short_on m n same short = let P : List Message → Type 0 = λ l. AllByRecursion
 pub call_holds : (old new : PoolState) (before after : End) (waiting : Option Waiting) (m n : Machine) → HoldsEnd old before waiting m
     → EndLeavesOthers old new before after → EndStandsFor after new (without_got n) → n.got ≡ m.got → HoldsEnd new after waiting n
 call_holds old new before after waiting m n h l stands got =
-    let same = own_bytes waiting h.accounts in
     record {
       stands = stands;
       accounts = account_kept old new before after (without_got m) (chain_of waiting) h.stands l h.accounts;
-      waits = got ∙ (h.waits ∙ sym same);
+      waits = got ∙ (h.waits ∙ sym (own_bytes waiting h.accounts));
       short = short_on m n got h.short;
     }
   where
@@ -89,8 +88,7 @@ given_moves old new k chain a gives keeps = record {
   receiver = refl;
   beside = λ other waiting n differ g.
       let both = given_beside a gives keeps differ g.stands g.accounts in
-      let same : (c : Chain) → IsLive old c → c.owner ≡ other.inbox.joiner.owner → chain_bytes new c ≡ chain_bytes old c = grind arith in
-      record { stands = both.0; accounts = both.1; waits = g.waits ∙ sym (waits_on old new other waiting g.accounts same); short = g.short };
+      record { stands = both.0; accounts = both.1; waits = g.waits ∙ sym (waits_on old new other waiting g.accounts (grind arith)); short = g.short };
 }
 
 pub given_holds : (old new : PoolState) (k : End) (w : Waiting) (m : Machine) → HoldsEnd old k (Some w) m → Gives old new w.chain
@@ -104,7 +102,5 @@ given_holds old new k w m h gives keeps =
 pub few_controls : (pool : PoolState) (k : End) (m : Machine) → EndStandsFor k pool (without_got m) → length m.acts + length m.shdlc.due ≤ 6
     → controls_in k ≤ 6
 few_controls pool k m h few =
-    let acts = ap (λ (l : List Due). length l) h.halfway.acts in
-    let same = length-map k.acts.items due_of in
     let due = ap (λ (l : List ShdlcDue). length l) h.halfway.link.kept.due in
-    omega (arith, acts, same, due, few)
+    omega (arith, (ap (λ (l : List Due). length l) h.halfway.acts), (length-map k.acts.items due_of), due, few)

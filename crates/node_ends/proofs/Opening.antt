@@ -18,5 +18,4 @@ pub written : {pool : PoolState} {new : List Seat} {ports : List Port} {len : �
     → AreEnds pool (take len (new ++ drop (length new) old)) ports
 written {pool} {new} {ports} old is e =
     let rest : List Seat = drop (length new) old in
-    let P : List Seat → Type 0 = λ l. AreEnds pool l ports in
-    subst P (sym (ap (λ n. take n (new ++ rest)) is ∙ take-append_seam new rest)) e
+    subst (λ l. AreEnds pool l ports) (sym (ap (λ n. take n (new ++ rest)) is ∙ take-append_seam new rest)) e

@@ -59,8 +59,7 @@ module _ {pool : PoolState} {seats : List Seat} {ports : List Port} {m : Message
 
   pub first_holds : (d : Seat) (w : Waiting) → (slice_index_or seats i d).waiting ≡ Some w → HoldsEnd pool first.seat.side (Some w) first.port.side
   first_holds d w is =
-      let P : Option Waiting → Type 0 = λ o. HoldsEnd pool first.seat.side o first.port.side in
-      subst P (ap (λ (s : Seat). s.waiting) (sym (first_read d)) ∙ is) first.stands.holds
+      subst (λ o. HoldsEnd pool first.seat.side o first.port.side) (ap (λ (s : Seat). s.waiting) (sym (first_read d)) ∙ is) first.stands.holds
 
   module _ (k j : ℕ) (place2 : place_in k seats ≡ Some j) where
     -- the end at the second one
@@ -104,8 +103,7 @@ module _ {pool : PoolState} {seats : List Seat} {ports : List Port} {m : Message
 
         by : (b : Bool) → (i == j) ≡ b → MayPass pool second.seat.side w.chain
         by true q =
-            let P : Seat → Type 0 = λ s. MayPass pool s.side w.chain in
-            subst P (same_end (eqb-true i j q)) (may_send_back pool first.seat.side _ w.chain h1.stands h1.accounts)
+            subst (λ s. MayPass pool s.side w.chain) (same_end (eqb-true i j q)) (may_send_back pool first.seat.side _ w.chain h1.stands h1.accounts)
         by false q =
             may_pass_on pool first.seat.side second.seat.side _ _ w.chain h1.stands h1.accounts (two_owners (not_same i j q))
             second.stands.holds.stands
@@ -254,13 +252,11 @@ handed {old} {new} {seats} {ports} {m} h i k j place place2 e got c d gone w aft
     let P : Message → Type 0 = λ x. Hands old new s.seat.side after x w.chain in
     let Q : End → Type 0 = λ l. Hands old new l after (w.pipe, chain_bytes old w.chain) w.chain in
     let there : P m = subst P (message_is h i place e got c w is) (subst Q side hands) in
-    let t_is : t ≡ record f.seat { waiting = None } = grind arith in
     relayed {w = w} ports f.seat s.seat t u d place place2 e f.seat_is s.seat_is f.host s.host (ap (λ (x : Seat). x.waiting) (sym read) ∙ is)
-    (may_be_sent h i place e got) t_is refl (record {
+    (may_be_sent h i place e got) (grind arith) refl (record {
       over = over_by holds s.stands.holds there;
       back = λ same.
-          let R : Seat → Type 0 = λ x. Hands old new x.side after m w.chain in
-          back_by holds (subst R (sym same) there);
+          back_by holds (subst (λ x. Hands old new x.side after m w.chain) (sym same) there);
     })
 
 -- ## What is told

@@ -93,8 +93,7 @@ pub still_beyond : {kept shown : KeptEnds} {ports : List Port} (i : ℕ) (f : Po
     → EndsStandFor shown (at_place i f ports)
 still_beyond {kept} {ports = ports} i f past same stands =
     kept_so same stands (λ e.
-    let P : List Port → Type 0 = λ l. EndsStandFor kept l in
-    subst P (sym (beyond kept.pool i f kept.seats ports past e.each).0) e)
+    subst (λ l. EndsStandFor kept l) (sym (beyond kept.pool i f kept.seats ports past e.each).0) e)
 
 pub none_beyond : {kept shown : KeptEnds} {ports : List Port} (i : ℕ) → length kept.seats ≤ i → kept ≡ shown → EndsStandFor shown ports
     → None ≡ slice_get ports i
@@ -124,8 +123,7 @@ pub owner_here : {pool : PoolState} {seats : List Seat} {ports : List Port} (i :
     → AreEnds pool seats ports → s.side.outbox.owner ≡ 2 * i
 owner_here {pool} {seats} {ports} i s inside is e =
     let p = seated pool i seats ports inside e.each in
-    let o = (owners_at 0 i seats p.seat p.seat_is e.owners).0 in
-    let owner : p.seat.side.outbox.owner ≡ 2 * i = omega (arith, o) in
+    let owner : p.seat.side.outbox.owner ≡ 2 * i = omega (arith, ((owners_at 0 i seats p.seat p.seat_is e.owners).0)) in
     ap (λ (x : Seat). x.side.outbox.owner) (is ∙ read_at seats i p.seat s p.seat_is) ∙ owner
 
 -- what becomes of it becomes of its port
@@ -133,8 +131,7 @@ pub becomes_here : {old new : PoolState} {seats : List Seat} {f : Port → Port}
     → s ≡ slice_index_or seats i s → SeatBecomes old new s t f → AreEnds old seats ports → AreEnds new (slice_set seats i t) (at_place i f ports)
 becomes_here {old} {seats = seats} ports i s t inside is b e =
     let p = seated old i seats ports inside e.each in
-    let same : p.seat ≡ s = sym (is ∙ read_at seats i p.seat s p.seat_is) in
-    here_changes b i seats ports (p.seat_is ∙ ap (λ (x : Seat). Some x) same) e
+    here_changes b i seats ports (p.seat_is ∙ ap (λ (x : Seat). Some x) (sym (is ∙ read_at seats i p.seat s p.seat_is))) e
 
 -- ## All ends, one after another
 

@@ -5,7 +5,7 @@ use Rattle.node_ends.proofs.Words.{Release, SetAside, Waiting, all_mapped, ap, a
 use Rattle.node_ends.proofs.Words.{length, length-set, nat_lt, refl, spare, spare_is, spare_of, subst, sym, true, turn, used_of, without_got, ℕ, ◌+◌, ◌-◌, ◌<◌}
 use Rattle.node_ends.proofs.Words.{◌∙◌, ◌≡◌, ◌≢◌, ◌≤◌}
 use Rattle.block_pool.specs.declared.owners.Owner.{Owner}
-use Rattle.block_pool.specs.Slots.{Places, Held}
+use Rattle.block_pool.specs.Slots.{Places}
 use Rattle.block_pool.specs.Owners.{owner_at, with_aside}
 use Rattle.block_pool.specs.Holdings.{IsOwnChain}
 use Rattle.block_pool.proofs.HoldingLemmas.{counted_keeps}
@@ -44,8 +44,7 @@ held_same old new xs is = ap (λ s. held_blocks (record { slots = s; owners = ne
 pub counted_leaves : (old new : PoolState) (k : End) (m : Machine) (used aside : ℕ) → EndStandsFor k old m → Counts old new k.outbox.owner used aside
     → EndLeavesOthers old new k k
 counted_leaves old new k m used aside h c =
-    let i = k.inbox.joiner.owner in
-    let beside = ap (λ (x : Owner). x.used) (elsewhere c i (λ e. h.halfway.differ (sym e))) in
+    let beside = ap (λ (x : Owner). x.used) (elsewhere c k.inbox.joiner.owner (λ e. h.halfway.differ (sym e))) in
     record {
       sender = refl;
       receiver = refl;
@@ -71,10 +70,7 @@ counted_here old owners places k m used aside h c sum low =
     let at = here c kept.has_quota in
     let out_used = ap (λ (x : Owner). x.used) at in
     let out_aside = ap (λ (x : Owner). x.aside) at in
-    let out_quota = ap (λ (x : Owner). x.quota) at in
     let into = elsewhere c i (λ e. before.differ (sym e)) in
-    let in_used = ap (λ (x : Owner). x.used) into in
-    let in_quota = ap (λ (x : Owner). x.quota) into in
     record {
       halfway = record {
         role = before.role;
@@ -89,7 +85,7 @@ counted_here old owners places k m used aside h c sum low =
               sendable = kept.sendable;
               capacity = kept.capacity;
               has_quota = omega (arith, len, kept.has_quota);
-              quota = out_quota ∙ kept.quota;
+              quota = (ap (λ (x : Owner). x.quota) at) ∙ kept.quota;
               used = omega (arith, out_used, out_aside, kept.used, sum);
               within = omega (arith, out_used, low);
             };
@@ -109,8 +105,8 @@ counted_here old owners places k m used aside h c sum low =
               apart = lies.holds.apart;
             };
             has_quota = omega (arith, len, lies.has_quota);
-            quota = in_quota ∙ lies.quota;
-            used = omega (arith, in_used, lies.used);
+            quota = (ap (λ (x : Owner). x.quota) into) ∙ lies.quota;
+            used = omega (arith, (ap (λ (x : Owner). x.used) into), lies.used);
           };
           under = before.receives.under;
           sound = before.receives.sound;
@@ -126,8 +122,7 @@ counted_here old owners places k m used aside h c sum low =
 counted_stands : (old new : PoolState) (k : End) (m : Machine) (used aside : ℕ) → EndStandsFor k old m → Counts old new k.outbox.owner used aside
     → used + aside_of old k.outbox.owner ≡ used_of old k.outbox.owner + aside → used ≤ 128 → EndStandsFor k new (record m { aside = aside })
 counted_stands old new k m used aside h c sum low =
-    let P : List (Option Held) → Type 0 = λ s. EndStandsFor k (record { slots = s; owners = new.owners; places = new.places }) (record m { aside = aside }) in
-    subst P (sym c.slots)
+    subst (λ s. EndStandsFor k (record { slots = s; owners = new.owners; places = new.places }) (record m { aside = aside })) (sym c.slots)
     (counted_here old new.owners new.places k m used aside h (record { slots = refl; owners = c.owners }) sum low)
 
 -- ## A block set aside
@@ -136,24 +131,16 @@ pub set_holds : (old new : PoolState) (k : End) (waiting : Option Waiting) (m : 
     → Counts old new k.outbox.owner (used_of old k.outbox.owner + 1) (aside_of old k.outbox.owner + 1) → HoldsEnd new k waiting (turn m SetAside)
 set_holds old new k waiting m h some c =
     let o = k.outbox.owner in
-    let spare_here = spare_is old k (without_got m) h.stands in
-    let quota = h.stands.halfway.sends.lies.kept.quota in
-    let within = h.stands.halfway.sends.lies.kept.within in
     let next = counted_stands old new k (without_got m) (used_of old o + 1) (aside_of old o + 1) h.stands c (omega arith)
-    (omega (arith, some, quota, within)) in
-    let room : nat_lt 0 (spare m) ≡ true = lt-ltb 0 (spare m) (omega (arith, some, spare_here)) in
-    let is : turn m SetAside ≡ record m { aside = m.aside + 1 } = rw room refl in
+    (omega (arith, some, h.stands.halfway.sends.lies.kept.quota, h.stands.halfway.sends.lies.kept.within)) in
+    let room : nat_lt 0 (spare m) ≡ true = lt-ltb 0 (spare m) (omega (arith, some, (spare_is old k (without_got m) h.stands))) in
     let P : ℕ → Type 0 = λ a. EndStandsFor k new (record (without_got m) { aside = a + 1 }) in
-    let Q : Machine → Type 0 = λ n. HoldsEnd new k waiting n in
-    subst Q (sym is) (call_holds old new k k waiting m (record m { aside = m.aside + 1 }) h
+    subst (λ n. HoldsEnd new k waiting n) (sym (rw room refl)) (call_holds old new k k waiting m (record m { aside = m.aside + 1 }) h
     (counted_leaves old new k (without_got m) (used_of old o + 1) (aside_of old o + 1) h.stands c) (subst P h.stands.halfway.aside next) refl)
 
 pub set_counts : (pool : PoolState) (k : End) (m : Machine) → EndStandsFor k pool (without_got m) → 0 < spare_of pool k.outbox.owner
     → (turn m SetAside).aside ≡ m.aside + 1
-set_counts pool k m h some =
-    let spare_here = spare_is pool k (without_got m) h in
-    let room : nat_lt 0 (spare m) ≡ true = lt-ltb 0 (spare m) (omega (arith, some, spare_here)) in
-    rw room refl
+set_counts pool k m h some = rw (lt-ltb 0 (spare m) (omega (arith, some, (spare_is pool k (without_got m) h)))) refl
 
 -- at most 128 blocks are set aside
 pub few_aside : (pool : PoolState) (k : End) (m : Machine) → EndStandsFor k pool (without_got m) → m.aside ≤ 128
@@ -167,8 +154,7 @@ none_released pool k waiting m none h = grind arith
 pub set_refused : (pool : PoolState) (k : End) (m : Machine) → EndStandsFor k pool (without_got m) → (0 < spare_of pool k.outbox.owner → ⊥)
     → turn m SetAside ≡ m
 set_refused pool k m h none =
-    let spare_here = spare_is pool k (without_got m) h in
-    by (nat_lt 0 (spare m)) refl (λ some. none (omega (arith, some, spare_here)))
+    by (nat_lt 0 (spare m)) refl (λ some. none (omega (arith, some, (spare_is pool k (without_got m) h))))
   where
     by : (b : Bool) → nat_lt 0 (spare m) ≡ b → (0 < spare m → ⊥) → turn m SetAside ≡ m
     by b q no_spare = grind arith

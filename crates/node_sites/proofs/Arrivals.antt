@@ -150,8 +150,7 @@ frame_noted to l lpdu = go l.to_controller
     go [] first = absurd (cc first)
     go (x ∷ xs) first =
         let bytes : Some lpdu ≡ Some (lpdu_of x.frame) = first.0 in
-        let same : lpdu ≡ lpdu_of x.frame = cc in
-        ap₂ (λ e b. note.Took e b ∷ []) (sym (end_is to)) same
+        ap₂ (λ e b. note.Took e b ∷ []) (sym (end_is to)) cc
 
 -- a frame has come, or none is on its way
 pub first_comes : {new : Wires} {before now : List Entry} (to : End) (l : Link) (came : Option Arrived)

@@ -6,7 +6,7 @@ use Rattle.node_sites.proofs.Words.{WiresStandFor, [], ap, append-nil, append_as
 use Rattle.node_sites.proofs.Words.{most_fetches, next_frame, option_map, port_at, put, put_all, puts_entries, refl, seen_from, sent_port, side_of, subst, suc}
 use Rattle.node_sites.proofs.Words.{sym, true, with_port, zero, ℕ, ◌++◌, ◌+◌, ◌-◌, ◌==◌, ◌∙◌, ◌∷◌, ◌≡◌}
 use Rattle.swp_base.specs.declared.control_frames.Control.TheVariants.{Act as ActFrame}
-use Rattle.shdlc_core.specs.Machine.{frame_due, fetched, all_frames}
+use Rattle.shdlc_core.specs.Machine.{frame_due, all_frames}
 use Rattle.link_laws.proofs.places.Joined.{fetched_idle}
 use Rattle.link_laws.specs.machine.Machine.{ActDue, LinkEnd, among, frame_fetched, frames_out, sent_all}
 use Rattle.link_laws.specs.machine.Laws.{after_fetches, fetches}
@@ -38,11 +38,8 @@ none_first (suc n) e q = rw q refl
 -- an end from which no frame can be fetched has sent all
 idle_same : (e : LinkEnd) → SendsOneByOne e → next_frame e ≡ None → frame_fetched e ≡ e
 idle_same e w q =
-    let none : frames_out e ≡ [] = sym w.frames ∙ none_first (most_fetches e) e q in
-    let acts : e.acts ≡ [] = no_acts e none in
-    let due : frame_due e.shdlc ≡ None = (let z : next_frame e ≡ frame_due e.shdlc = rw acts refl in sym z ∙ q) in
-    let now : frame_fetched e ≡ record e { shdlc = fetched e.shdlc } = rw acts refl in
-    now ∙ ap (λ s. record e { shdlc = s }) (fetched_idle e.shdlc due)
+    let acts : e.acts ≡ [] = no_acts e (sym w.frames ∙ none_first (most_fetches e) e q) in
+    (rw acts refl) ∙ ap (λ s. record e { shdlc = s }) (fetched_idle e.shdlc (let z : next_frame e ≡ frame_due e.shdlc = rw acts refl in sym z ∙ q))
 
 pub idle_after : (n : ℕ) (e : LinkEnd) → SendsOneByOne e → next_frame e ≡ None → after_fetches n e ≡ e
 idle_after zero e w q = refl
@@ -116,13 +113,11 @@ pub sending_starts : {runs : List Port → Type 0} {wires : Wires} {at : End} {p
     → runs ports → IsOnly at.link p ports → SendsOneByOne p.side → WiresStandFor wires (seen_from at l)
     → Sending runs wires at ports p l entries entries (most_fetches p.side)
 sending_starts {runs} {at = at} {ports} {p} {l} {entries} r only whole w =
-    let same : ports ≡ with_port at.link (with_side p.side) ports =
-    sym (same_with at.link p (with_side p.side) (λ q. q) ports only refl ∙ with_none at.link ports) in
     record {
       link = l;
       e = p.side;
       notes = [];
-      runs = subst runs same r;
+      runs = subst runs (sym (same_with at.link p (with_side p.side) (λ q. q) ports only refl ∙ with_none at.link ports)) r;
       wires = w;
       link_is = ap (put_all l) whole.frames;
       end_is = whole.rest;
@@ -160,14 +155,12 @@ pub sending_ends : {runs : List Port → Type 0} {wires : Wires} {at : End} {por
     (before : List Entry) (s : Sending runs wires at ports p l before now left) → IsOnly at.link p ports → fetches left s.e ≡ [] → after_fetches left s.e ≡ s.e
     → AllSent runs wires at ports p l before now
 sending_ends {runs} {wires} {at} {ports} {p} {l} before s only none idle =
-    let link : s.link ≡ put_all l (frames_out p.side) = sym (ap (put_all s.link) none) ∙ s.link_is in
-    let last : s.e ≡ sent_all p.side = sym idle ∙ s.end_is in
     let notes : puts_entries (side_of at) l (frames_out p.side) ≡ s.notes =
     s.notes_are ∙ (ap (λ cs. s.notes ++ puts_entries (side_of at) s.link cs) none ∙ append-nil s.notes) in
     let ends : with_port at.link (with_side s.e) ports ≡ with_port at.link sent_port ports =
-    same_with at.link p (with_side s.e) sent_port ports only (ap (λ e. with_side e p) last) in (
+    same_with at.link p (with_side s.e) sent_port ports only (ap (λ e. with_side e p) (sym idle ∙ s.end_is)) in (
       subst runs ends s.runs,
-      rw link at s.wires,
+      rw (sym (ap (put_all s.link) none) ∙ s.link_is) at s.wires,
       s.noted ∙ ap (λ ns. before ++ entries_for at.link ns) (sym notes),
     )
 
@@ -218,14 +211,12 @@ pub sending_stops : {Runs : List Port → Type 0} {wires : Wires} {at : End} {po
     (Again : List Port → Type 0) (before : List Entry) (s : Sending Runs wires at ports p l before now left) → IsOnly at.link p ports → SendsOneByOne s.e
     → next_frame s.e ≡ None → Again (with_port at.link has_sent (with_port at.link (with_side s.e) ports)) → AllSent Again wires at ports p l before now
 sending_stops {at = at} {ports} {left = left} Again before s only whole none runs =
-    let same : with_port at.link has_sent (with_port at.link (with_side s.e) ports) ≡ with_port at.link (with_side s.e) ports =
-    with_twice at.link s.e ports ∙ ap (λ e. with_port at.link (with_side e) ports) (idle_same s.e whole none) in
     sending_ends {runs = Again} before
     (record {
       link = s.link;
       e = s.e;
       notes = s.notes;
-      runs = subst Again same runs;
+      runs = subst Again (with_twice at.link s.e ports ∙ ap (λ e. with_port at.link (with_side e) ports) (idle_same s.e whole none)) runs;
       wires = s.wires;
       link_is = s.link_is;
       end_is = s.end_is;

@@ -44,11 +44,9 @@ pub aged_is : {k : Wires} {l : Link} {near far : Buffer Flying} {mid now : List 
     (record { controller = record k.controller { wire = near }; host = record k.host { wire = far }; resets = k.resets }) (aged l)
     × (now ≡ before ++ entries_for host (aged_entries Controller l.to_controller ++ aged_entries Host l.to_host))
 aged_is {l = l} {mid = mid} {now = now} host before to is w first second =
-    let later : now ≡ mid ++ entries_for host (aged_entries Host l.to_host) = rw is at second.1 in
-    let near : List Entry = entries_for host (aged_entries Controller l.to_controller) in
     let far : List Entry = entries_for host (aged_entries Host l.to_host) in (
       record { here = with_wire w.here first.0; there = with_wire w.there second.0; count = w.count },
-      later ∙ ap (λ es. es ++ far) first.1 ∙ append_assoc before near far
+      (rw is at second.1) ∙ ap (λ es. es ++ far) first.1 ∙ append_assoc before (entries_for host (aged_entries Controller l.to_controller)) far
           ∙ ap (λ es. before ++ es) (sym (entries-append host (aged_entries Controller l.to_controller) (aged_entries Host l.to_host))),
     )
 

@@ -173,11 +173,10 @@ pub goes_so : {n n2 : Node Memory} {noted start : List Entry} {short : Bool} {w 
 goes_so {n} {n2} {w = w} {f = f} live regardless begins b is =
     let made : List Write = b.sure ++ b.torn in
     let same : bare (f w) ≡ bare (record b.after { plan = (node_memory n2).plan }) = regardless w ∙ ap bare (planned_step b begins.plan) in
-    let R : Work → Type 0 = λ v. RunsAs n2 v.core v.ports in
     record {
       power = ap (λ (v : Work). v.cut) same ∙ (b.stands.power ∙ ap not (sym is));
       memory = rw (← ap (λ (v : Work). v.writes) same ∙ (b.written ∙ ap (λ (ws : List Write). ws ++ made) begins.writes)) at (planned_writes b);
-      runs = λ up. subst R (sym same) (b.stands.runs (b.stands.power ∙ ap not (sym is ∙ up)));
+      runs = λ up. subst (λ v. RunsAs n2 v.core v.ports) (sym same) (b.stands.runs (b.stands.power ∙ ap not (sym is ∙ up)));
     }
 
 -- what was noted of the step
@@ -221,12 +220,10 @@ pub gives_so : {n n2 : Node Memory} {noted start : List Entry} {short : Bool} {w
     → HasStepped n2 noted short start (all_done h deeds (bare w)) → HasGone n n2 (all_done h deeds w) true
 gives_so {n} {n2} {w = w} h deeds b store writes stepped =
     let same : bare (all_done h deeds w) ≡ bare (all_done h deeds (bare w)) = all_regardless h deeds w in
-    let live : n2.store.journal.live ≡ true = ap (λ (s : Stored Memory). s.journal.live) store ∙ b.runs.live in
-    let power : (all_done h deeds (bare w)).cut ≡ false = stepped.power ∙ ap not live in
-    let R : Work → Type 0 = λ v. RunsAs n2 v.core v.ports in
+    let power : (all_done h deeds (bare w)).cut ≡ false = stepped.power ∙ ap not (ap (λ (s : Stored Memory). s.journal.live) store ∙ b.runs.live) in
     let W : List Write → Type 0 = λ ws. node_memory n2 ≡ after_planned ws (node_memory n) in
     record {
       power = ap (λ (v : Work). v.cut) same ∙ power;
       memory = subst W (sym (writes ∙ b.writes)) (ap (λ (s : Stored Memory). s.journal.nv) store);
-      runs = λ up. subst R (sym same) (stepped.runs power);
+      runs = λ up. subst (λ v. RunsAs n2 v.core v.ports) (sym same) (stepped.runs power);
     }

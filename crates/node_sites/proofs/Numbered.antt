@@ -97,13 +97,12 @@ module _ (session : ℕ → ℕ) where
       → AllByRecursion (IsFine h) (told who n r count)
   fine_told h who n r count q few =
       let P : Noted → Type 0 = IsFine h in
-      let a : List Noted = map (Down who) (option_to_list r.ended) in
       let b : List Noted = if_so r.began (Up who n) in
       let c : List Noted = if_so r.became_active (Active who) in
       let d : List Noted = map (GaveUp who) (option_to_list r.gave_up) in
       let e : List Noted = if_so (nat_lt 0 r.acked) (Acked who n count) in
       let g : List Noted = map (Got who n) r.got in
-      all_append P a (b ++ (c ++ (d ++ (e ++ g)))) (fine_down h who r.ended)
+      all_append P (map (Down who) (option_to_list r.ended)) (b ++ (c ++ (d ++ (e ++ g)))) (fine_down h who r.ended)
       (all_append P b (c ++ (d ++ (e ++ g))) (fine_if h r.began (Up who n) q)
       (all_append P c (d ++ (e ++ g)) (fine_if h r.became_active (Active who) tt)
       (all_append P d (e ++ g) (fine_tries h who r.gave_up)

@@ -49,7 +49,6 @@ found_there i h sites s p different found =
     let P : List Site → Type 0 = λ xs. AllByRecursion (λ (x : Site). site_at sites x.host ≡ Some x) xs in
     let own : site_at sites p.site.host ≡ Some p.site =
     of_these (λ (x : Site). site_at sites x.host ≡ Some x) p.front p.site p.back (subst P p.is (each_found (λ (x : Site). x.host) sites different)) in
-    let same : Some p.site ≡ Some s = sym own ∙ (ap (site_at sites) p.host ∙ found) in
     cc
 
 pub hosts_as_it_comes : (h : ℕ) (comes : Comes) (sites : List Site) → hosts_in (as_it_comes_to h comes sites) ≡ hosts_in sites
@@ -59,10 +58,7 @@ hosts_as_it_comes h comes (s ∷ sites) = ap (λ hs. s.host ∷ hs) (hosts_as_it
 -- what comes to another end leaves a link
 others_left : (h : ℕ) (comes : Comes) (sites : List Site) → AllByRecursion (λ k. (k == h) ≡ false) (hosts_in sites) → as_it_comes_to h comes sites ≡ sites
 others_left h comes [] a = refl
-others_left h comes (s ∷ sites) a =
-    let q : (s.host == h) ≡ false = a.0 in
-    let one : as_it_comes s.link (comes_to h comes s.host) ≡ s.link = rw q refl in
-    ap₂ (λ (l : Link) xs. record s { link = l } ∷ xs) one (others_left h comes sites a.1)
+others_left h comes (s ∷ sites) a = ap₂ (λ (l : Link) xs. record s { link = l } ∷ xs) (rw a.0 refl) (others_left h comes sites a.1)
 
 map-parts : (f : Site → Site) (front : List Site) (s : Site) (back : List Site) → map f (front ++ s ∷ back) ≡ map f front ++ f s ∷ map f back
 map-parts f [] s back = refl
@@ -78,10 +74,7 @@ hosts-parts (x ∷ front) s back = ap (λ hs. x.host ∷ hs) (hosts-parts front 
 
 others_kept : (h : ℕ) (f : Site → Site) (sites : List Site) → AllByRecursion (λ k. (k == h) ≡ false) (hosts_in sites) → with_site h f sites ≡ sites
 others_kept h f [] a = refl
-others_kept h f (s ∷ sites) a =
-    let q : (s.host == h) ≡ false = a.0 in
-    let one : changed_if (s.host == h) f s ≡ s = rw q refl in
-    ap₂ (λ (x : Site) xs. x ∷ xs) one (others_kept h f sites a.1)
+others_kept h f (s ∷ sites) a = ap₂ (λ (x : Site) xs. x ∷ xs) (rw a.0 refl) (others_kept h f sites a.1)
 
 -- what is kept of the host to whose link something comes
 pub comes_there : (i h : ℕ) (comes : Comes) (ks : List HostSite) (sites : List Site) (s : Site) (new : HostSite) (p : StandsAt i h sites)
@@ -95,13 +88,11 @@ comes_there i h comes ks sites s new p different is a now =
     subst AreDifferent (ap hosts_in parts ∙ (hosts-parts p.front s p.back ∙ ap (λ n. hosts_in p.front ++ n ∷ hosts_in p.back) host)) different in
     let front : as_it_comes_to h comes p.front ≡ p.front = others_left h comes p.front (others_before (hosts_in p.front) h (hosts_in p.back) names) in
     let back : as_it_comes_to h comes p.back ≡ p.back = others_left h comes p.back (others_behind (hosts_in p.front) h (hosts_in p.back) names) in
-    let there : (s.host == h) ≡ true = ap (λ n. n == h) host ∙ same_number h in
-    let one : f s ≡ record s { link = as_it_comes s.link comes } = rw there refl in
+    let one : f s ≡ record s { link = as_it_comes s.link comes } = rw (ap (λ n. n == h) host ∙ same_number h) refl in
     let all : as_it_comes_to h comes sites ≡ p.front ++ record s { link = as_it_comes s.link comes } ∷ p.back =
     ap (as_it_comes_to h comes) parts ∙ (map-parts f p.front s p.back ∙ (ap (λ xs. xs ++ f s ∷ map f p.back) front
     ∙ (ap (λ x. p.front ++ x ∷ map f p.back) one ∙ ap (λ xs. p.front ++ record s { link = as_it_comes s.link comes } ∷ xs) back))) in
-    let before : SitesAre ks (p.front ++ s ∷ p.back) = subst (SitesAre ks) parts a in
-    rw all (written_there ks p.front s (record s { link = as_it_comes s.link comes }) p.back i new p.place before now)
+    rw all (written_there ks p.front s (record s { link = as_it_comes s.link comes }) p.back i new p.place (subst (SitesAre ks) parts a) now)
 
 -- what is kept of the one that is changed
 pub changed_there : (i h : ℕ) (f : Site → Site) (ks : List HostSite) (sites : List Site) (s : Site) (new : HostSite) (p : StandsAt i h sites)
@@ -114,13 +105,10 @@ changed_there i h f ks sites s new p different is a now =
     subst AreDifferent (ap hosts_in parts ∙ (hosts-parts p.front s p.back ∙ ap (λ n. hosts_in p.front ++ n ∷ hosts_in p.back) host)) different in
     let front : with_site h f p.front ≡ p.front = others_kept h f p.front (others_before (hosts_in p.front) h (hosts_in p.back) names) in
     let back : with_site h f p.back ≡ p.back = others_kept h f p.back (others_behind (hosts_in p.front) h (hosts_in p.back) names) in
-    let there : (s.host == h) ≡ true = ap (λ n. n == h) host ∙ same_number h in
-    let one : g s ≡ f s = rw there refl in
     let all : with_site h f sites ≡ p.front ++ f s ∷ p.back =
     ap (with_site h f) parts ∙ (map-parts g p.front s p.back ∙ (ap (λ xs. xs ++ g s ∷ map g p.back) front
-    ∙ (ap (λ x. p.front ++ x ∷ map g p.back) one ∙ ap (λ xs. p.front ++ f s ∷ xs) back))) in
-    let before : SitesAre ks (p.front ++ s ∷ p.back) = subst (SitesAre ks) parts a in
-    rw all (written_there ks p.front s (f s) p.back i new p.place before now)
+    ∙ (ap (λ x. p.front ++ x ∷ map g p.back) (rw (ap (λ n. n == h) host ∙ same_number h) refl) ∙ ap (λ xs. p.front ++ f s ∷ xs) back))) in
+    rw all (written_there ks p.front s (f s) p.back i new p.place (subst (SitesAre ks) parts a) now)
 
 -- what is kept of it while nothing comes
 pub stays_there : (i h : ℕ) (ks : List HostSite) (sites : List Site) (s : Site) (new : HostSite) (p : StandsAt i h sites) → p.site ≡ s
@@ -221,11 +209,10 @@ pub was_cut : (k new : Power) (ks : List HostSite) (w : NodeWorld) (before now :
     → IsNodePlace k w.memory w.controller (λ h. (link_to w.sites h).controller) → new ≡ Off (memory_kept k)
     → SitesAre ks (map with_bare_link w.sites) → now ≡ before ++ note.Cut 0 ∷ [] → WorldBecomes new ks before now (controller_cut w, note.Cut 0 ∷ [])
 was_cut k new ks w before now place off sites noted =
-    let near : ℕ → NumberedEnd = λ h. (link_to w.sites h).controller in
     let N : Power → Type 0 = λ a. IsNodePlace a w.memory None (λ h. (link_to (map left_alone w.sites) h).controller) in
     record {
       world = record {
-        controller = subst N (sym off) (kept_is k w.memory w.controller near place);
+        controller = subst N (sym off) (kept_is k w.memory w.controller (λ h. (link_to w.sites h).controller) place);
         sites = all_left ks w.sites sites;
       };
       noted = noted;
@@ -270,10 +257,9 @@ pub boot_lost : (new : Power) (ks : List HostSite) (w : NodeWorld) (before now :
     → now ≡ before ++ note.Cut 0 ∷ [] → WorldBecomes new ks before now (boots w 0)
 boot_lost new ks w before now left off booted sites noted =
     let b = subst (EndsBoot 0 (hosts_in w.sites) w.memory) off booted in
-    let D : NodeWorld × List Entry → Type 0 = λ x. WorldBecomes new ks before now x in
     let near : ℕ → NumberedEnd = λ h. (link_to (map left_alone w.sites) h).controller in
     let N : Power → Type 0 = λ a. IsNodePlace a (after_planned (boot_writes w.memory.content) w.memory) None near in
-    subst D (sym (boot_stops w b.0))
+    subst (λ x. WorldBecomes new ks before now x) (sym (boot_stops w b.0))
     (record { world = record { controller = subst N (sym off) b.1; sites = all_left ks w.sites sites }; noted = noted })
 
 pub boot_runs : (new : Power) (ks : List HostSite) (w : NodeWorld) (before now : List Entry) (n : Node Memory) (count : ℕ) → new ≡ On n
@@ -285,11 +271,10 @@ boot_runs new ks w before now n count on not_on may timely booted sites counts n
     let b = subst (EndsBoot 0 (hosts_in w.sites) w.memory) on booted in
     let r : Running = found 0 (hosts_in w.sites) w.memory.content in
     let sides = new_sides w w.sites not_on timely (each_found (λ (x : Site). x.host) w.sites may.orderly.different) in
-    let D : NodeWorld × List Entry → Type 0 = λ x. WorldBecomes new ks before now x in
     let N : Power → Type 0 = λ a. IsNodePlace a (after_planned (boot_writes w.memory.content) w.memory) (Some r) near in
     let ports = kept_alike (map (new_port named.Clf) (hosts_in w.sites)) (map (λ (d : Desk). port_for (near d.host) d) (map new_desk (hosts_in w.sites)))
     (new_ends near (hosts_in w.sites) sides) b.2 in
-    subst D (sym (boot_goes w b.0))
+    subst (λ x. WorldBecomes new ks before now x) (sym (boot_goes w b.0))
     (record {
       world = record { controller = subst N (sym on) (b.1, ports, none_sent near (hosts_in w.sites) sides); sites = sites };
       noted = noted ∙ ap (λ x. before ++ note.Booted 0 x ∷ []) (counts r.core (map (new_port named.Clf) (hosts_in w.sites)) b.2);

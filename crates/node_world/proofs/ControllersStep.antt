@@ -49,7 +49,6 @@ the_only h p (x ∷ ports) d f = go (x.desk.host == h) refl (the_only h p ports 
 
     go : (b : Bool) → (x.desk.host == h) ≡ b → (port_at ports h ≡ Some p → IsOnly h p ports) → IsOnly h p (x ∷ ports)
     go true e later =
-        let found : Some x ≡ Some p = rw e at f in
         let is : x ≡ p = cc in
         (λ q. is, others ports (eqb-true x.desk.host h e) d.0)
     go false e later = (λ q. absurd (let z : true ≡ false = sym q ∙ e in cc), later (rw e at f))
@@ -62,8 +61,7 @@ sent_everywhere (h ∷ hosts) [] d q = absurd (cc q)
 sent_everywhere (h ∷ hosts) (p ∷ ports) d q =
     let host : p.desk.host ≡ h = cc in
     let rest : hosts_of_ends ports ≡ hosts = cc in
-    let there : (p.desk.host == h) ≡ true = ap (λ n. n == h) host ∙ same_number h in
-    let first : changed_if (p.desk.host == h) sent_port p ≡ sent_port p = rw there refl in
+    let first : changed_if (p.desk.host == h) sent_port p ≡ sent_port p = rw (ap (λ n. n == h) host ∙ same_number h) refl in
     let now : with_port h sent_port (p ∷ ports) ≡ sent_port p ∷ ports = ap₂ (λ (x : Port) xs. x ∷ xs) first (none ports (rw (← rest) at d.0)) in
     let others : AllByRecursion (λ k. (k == p.desk.host) ≡ false) hosts = rw (← host) at d.0 in
     ap (sent_to hosts) now ∙ (past hosts (sent_port p) ports others ∙ ap (λ xs. sent_port p ∷ xs) (sent_everywhere hosts ports d.1 rest))
@@ -126,16 +124,13 @@ module _ (v : Work) (starts out : Site → Link) (so : Site → Ending → Link)
       one : frames_emitted v.ports (record s { link = a.0.link }) ≡ frames_noted Controller s.host (out s) v
       one =
           let e : EndSteps v s (starts s) (out s) (so s) = a.0 in
-          let due : due_at v.ports s.host ≡ frames_out e.port.side = ap (λ o. option_map_or (λ (p : Port). frames_out p.side) o []) e.here in
-          let ending : ending_of v ≡ GoesOut = ap (λ (b : Bool). cond b CutOff GoesOut) on in
-          ap (λ cs. entries_for s.host (puts_entries Controller e.link cs)) due
+          ap (λ cs. entries_for s.host (puts_entries Controller e.link cs)) (ap (λ o. option_map_or (λ (p : Port). frames_out p.side) o []) e.here)
           ∙ (ap (entries_for s.host) (puts_alike Controller (frames_out e.port.side) e.link (out s) e.alike)
           ∙ sym (grind arith))
 
   pub none_told : (sites : List Site) → v.cut ≡ true → flat_map (λ (s : Site). frames_noted Controller s.host (out s) v) sites ≡ []
   none_told [] off = refl
   none_told (s ∷ sites) off =
-      let ending : ending_of v ≡ CutOff = ap (λ (b : Bool). cond b CutOff GoesOut) off in
       let one : frames_noted Controller s.host (out s) v ≡ [] = grind arith in
       ap (λ xs. xs ++ flat_map (λ (s : Site). frames_noted Controller s.host (out s) v) sites) one ∙ none_told sites off
 
@@ -192,8 +187,7 @@ module _ (v : Work) (starts out : Site → Link) (so : Site → Ending → Link)
       one =
           let e : EndSteps v s (starts s) (out s) (so s) = a.0 in
           let m : Link = with_controller e.link (sent_all e.port.side) in
-          let same : SameWires (with_bare_wires e.link) (with_bare_wires m) =
-          record { to_controller = refl; to_host = refl; resets = refl; controller = (refl, refl); host = (refl, refl) } in
+          let same : SameWires (with_bare_wires e.link) (with_bare_wires m) = grind arith in
           let gone : SameWires (with_bare_wires e.link) (cut m) = same_twice same (silent_same m (new_link_end (renewed m.controller.side.role))) in
           rw e.goes_off (placed k s (with_bare_wires e.link) (cut m) (ended_far m (is_up m.controller.side.shdlc.phase)) (same_stand gone b.0.wires) b.0)
 
@@ -266,8 +260,7 @@ module _ (w : NodeWorld) (v : Work) (starts out : Site → Link) (so : Site → 
       let place : Place (On r.node) = (r.memory ∙ memory, ports, none_left near_ends v.ports sides (all_one_by_one runs)) in
       let told : List Entry = flat_map (λ (s : Site). frames_noted Controller s.host (out s) v) w.sites in
       let World : Bool → NodeWorld = λ b. record { memory = m; controller = cond b None (Some left); sites = sites_so (cond b CutOff GoesOut) } in
-      let Is : Bool → Type 0 = λ b. WorldBecomes k ks before now (World b, v.entries ++ told) in
-      subst Is (sym on)
+      subst (λ b. WorldBecomes k ks before now (World b, v.entries ++ told)) (sym on)
       (record {
         world = record { controller = subst Place (sym r.on) place; sites = out_stands v starts out so ks w.sites all_steps r.sites };
         noted = r.noted ∙ (ap (λ es. (before ++ v.entries) ++ es) (told_alike v starts out so w.sites all_steps on) ∙ append_assoc before v.entries told);
@@ -276,14 +269,12 @@ module _ (w : NodeWorld) (v : Work) (starts out : Site → Link) (so : Site → 
   pub went_off : (k : Power) (ks : List HostSite) (n : Node Memory) (before now : List Entry) → v.cut ≡ true
       → node_memory n ≡ after_planned v.writes w.memory → WentOffWith k ks n v mid_hosts before now → WorldBecomes k ks before now behind_step
   went_off k ks n before now off memory r =
-      let near_ends : ℕ → NumberedEnd = λ h. (link_to (sites_so CutOff) h).controller in
       let left : Running = record { core = v.core; desks = map (λ (p : Port). p.desk) v.ports } in
       let m : Memory = after_planned v.writes w.memory in
-      let Place : Power → Type 0 = λ a. IsNodePlace a m None near_ends in
+      let Place : Power → Type 0 = λ a. IsNodePlace a m None (λ h. (link_to (sites_so CutOff) h).controller) in
       let told : List Entry = flat_map (λ (s : Site). frames_noted Controller s.host (out s) v) w.sites in
       let World : Bool → NodeWorld = λ b. record { memory = m; controller = cond b None (Some left); sites = sites_so (cond b CutOff GoesOut) } in
-      let Is : Bool → Type 0 = λ b. WorldBecomes k ks before now (World b, v.entries ++ told) in
-      subst Is (sym off)
+      subst (λ b. WorldBecomes k ks before now (World b, v.entries ++ told)) (sym off)
       (record {
         world = record { controller = subst Place (sym r.off) memory; sites = off_stands v starts out so ks w.sites all_steps r.sites };
         noted = r.noted ∙ ap (λ es. before ++ es) (sym (ap (λ es. v.entries ++ es) (none_told v starts out so w.sites off) ∙ append-nil v.entries));
@@ -313,11 +304,6 @@ pub ends_fresh : (near : ℕ → NumberedEnd) (desks : List Desk)
 ends_fresh near [] = tt
 ends_fresh near (d ∷ desks) = ((refl, refl), ends_fresh near desks)
 
--- no more messages are counted behind what comes to them
-few_one : (input : NodeInput) (d : Desk) (a b : NumberedEnd) → a.side ≡ b.side → StaysCounted a.side (input_at input (port_for a d))
-    → StaysCounted b.side (input_at input (port_for b d))
-few_one input d a b q few = grind arith
-
 late_of : (o : Option LinkInput) (d : Desk) (a b : NumberedEnd) → a.side ≡ b.side → StaysCounted (has_come (port_for a d) o).side (Some (Reset None))
     → StaysCounted (has_come (port_for b d) o).side (Some (Reset None))
 late_of o d a b q few = grind arith
@@ -340,7 +326,7 @@ few_ends input near far desks q few = record { come = come desks few.come; late 
   where
     come : (ds : List Desk) → FewCome input near ds → FewCome input far ds
     come [] a = tt
-    come (d ∷ ds) a = (few_one input d (near d.host) (far d.host) (q d.host) a.0, come ds a.1)
+    come (d ∷ ds) a = ((let h0 = near d.host in let h1 = far d.host in let h2 = q d.host in grind arith), come ds a.1)
 
     late : (ds : List Desk) → FewLate input near ds → FewLate input far ds
     late [] a = tt
@@ -409,9 +395,8 @@ module _ (w : NodeWorld) (r : Running) (h : ℕ) (comes : Comes) (i : LinkInput)
       → AreNumbered (λ k. get_or sessions k 0) Then.entries
   numbered sessions a few =
       let session : ℕ → ℕ = λ k. get_or sessions k 0 in
-      let counted : CountsFew (AtEnd h i) (map (λ (d : Desk). port_for (plain d.host) d) r.desks) = rw runs at few in
       let all = each_found (λ (x : Site). x.host) w.sites may.orderly.different in
-      (stepped session (AtEnd h i) Start (few_ends (AtEnd h i) plain near r.desks same_near counted)
+      (stepped session (AtEnd h i) Start (few_ends (AtEnd h i) plain near r.desks same_near (rw runs at few))
       (work_numbers session r w.memory.plan near (entries_for h (arrival Controller (link_to w.sites h) comes))
       (arrival_numbered session h Controller (link_to w.sites h) comes)
       (numbers_of sessions r.desks w.sites node.ends all (each_number sessions w.sites a)))).entries

@@ -7,7 +7,7 @@ use Rattle.node_world.proofs.Words.{taken_of, true, unwrap_or, zero, ℕ, ◌+�
 use Rattle.link_laws.specs.machine.Machine.Role.{Bare}
 use Rattle.link_laws.specs.messages.Links.{new_link}
 use Rattle.node_world.specs.Bounds.{AckWithin}
-use Rattle.node_world.proofs.FewInWorlds.{Nearly, whole_within, input_nearly, reset_nearly}
+use Rattle.node_world.proofs.FewInWorlds.{Nearly, whole_within, input_nearly}
 
 -- ## Lines
 
@@ -35,10 +35,7 @@ new_few n = record { resets = omega arith; controller = omega arith; host = omeg
 -- the link to any host
 pub few_to : (n h : ℕ) (sites : List Site) → FewOnEach n sites → FewOn n (link_to sites h)
 few_to n h [] a = new_few n
-few_to n h (x ∷ sites) a = go (x.host == h) refl (few_to n h sites a.1)
-  where
-    go : (b : Bool) → (x.host == h) ≡ b → FewOn n (link_to sites h) → FewOn n (link_to (x ∷ sites) h)
-    go b r later = grind arith
+few_to n h (x ∷ sites) a = let h0 = x.host == h in let h1 = few_to n h sites a.1 in grind arith
 
 -- ## Ends of a node
 
@@ -61,9 +58,7 @@ counted : (n : ℕ) (e : LinkEnd) (i : LinkInput) → n ≤ 300000000 → IsFrom
 counted n e i q o few a =
     let f : LinkEnd = after_input e i in
     let near : Nearly 7 e f = input_nearly e i o in
-    let acked = near.acked in
-    let whole = whole_within f.sent f.shdlc.session.acked (sendable_still 7 e f near a) in
-    omega (arith, q, few, acked, whole)
+    omega (arith, q, few, near.acked, (whole_within f.sent f.shdlc.session.acked (sendable_still 7 e f near a)))
 
 -- also where a late notice resets its link then
 counted_late : (n : ℕ) (e : LinkEnd) (i : LinkInput) → n ≤ 300000000 → IsFromOutside i → AcksWithin n e → AreSendable e.sent
@@ -72,15 +67,9 @@ counted_late n e i q o few a =
     let f : LinkEnd = after_input e i in
     let near : Nearly 7 e f = input_nearly e i o in
     let g : LinkEnd = after_input f (Reset None) in
-    let then : Nearly 0 f g = reset_nearly f None in
-    let acked = near.acked in
-    let later = then.acked in
+    let then : Nearly 0 f g = grind arith in
     let whole = whole_within g.sent g.shdlc.session.acked (sendable_still 0 f g then (sendable_still 7 e f near a)) in
-    omega (arith, q, few, acked, later, whole)
-
--- an end to which nothing comes, where a late notice would reset its link
-counted_idle : (n : ℕ) (e : LinkEnd) → n ≤ 300000000 → AcksWithin n e → AreSendable e.sent → StaysCounted e (Some (Reset None))
-counted_idle n e q few a = counted n e (Reset None) q tt few a
+    omega (arith, q, few, near.acked, then.acked, whole)
 
 -- something comes from outside to one end of a node
 pub counts_few_at_end : (n h : ℕ) (i : LinkInput) (ports : List Port) → n ≤ 300000000 → IsFromOutside i → AckWithin n ports
@@ -94,7 +83,7 @@ counts_few_at_end n h i ports q o few a = record { come = come ports few a; late
     one_late : (p : Port) → AcksWithin n p.side → AreSendable p.side.sent → (b : Bool) → (p.desk.host == h) ≡ b
         → StaysCounted (has_come p (input_at (AtEnd h i) p)).side (Some (Reset None))
     one_late p few a true r = rw r (counted_late n p.side i q o few a)
-    one_late p few a false r = rw r (counted_idle n p.side q few a)
+    one_late p few a false r = rw r (counted n p.side (Reset None) q tt few a)
 
     come : (ports : List Port) → AckWithin n ports → AllByRecursion (λ (p : Port). AreSendable p.side.sent) ports
         → AllByRecursion (λ (p : Port). StaysCounted p.side (input_at (AtEnd h i) p)) ports

@@ -4,7 +4,7 @@ use Rattle.node_world.proofs.Words.{AllByRecursion, AreDifferent, AreMute, AsksR
 use Rattle.node_world.proofs.Words.{GoesOut, HasEnds, Host, IsOrderly, Link, LinkEnd, LinkInput, List, NextFrame, NoInput, NodeWorld, None, NumberedEnd, OnWire}
 use Rattle.node_world.proofs.Words.{Option, Port, Reset, Running, SameWires, Site, Some, Start, Starts, Step, Stop, Stops, Take, Tick, Turn, Wires}
 use Rattle.node_world.proofs.Words.{WiresStandFor, Work, [], after_input, ap, ap₂, arith, arrival, as_it_comes, at_host, becomes, begins_with, between}
-use Rattle.node_world.proofs.Words.{comes_to, cond, controller_work, cut, ended_by, ending_of, entries_for, eqb-true, exchanged, false, frames_out}
+use Rattle.node_world.proofs.Words.{comes_to, cond, controller_work, cut, ended_by, entries_for, eqb-true, exchanged, false, frames_out}
 use Rattle.node_world.proofs.Words.{happens_at_controller, has_input, host_opened, host_tick, host_work, hosts_in, hosts_of_ends, input_of, is_due, is_late_at}
 use Rattle.node_world.proofs.Words.{is_some, is_up, is_waiting, link_after_controller, link_is, link_to, map, near_end_in, near_tick, new_link_end, number_of}
 use Rattle.node_world.proofs.Words.{option_map_or, port_at, port_for, put, put_all, refl, renewed, same_number, sent_all, sent_port, silent, site_at, steps}
@@ -39,9 +39,6 @@ same_stand {k} s w =
       count = w.count ∙ sym s.resets;
     }
 
-pub no_change : (l : Link) → SameWires l l
-no_change l = record { to_controller = refl; to_host = refl; resets = refl; controller = (refl, refl); host = (refl, refl) }
-
 pub same_exchanged : {l m : Link} → SameWires l m → SameWires (exchanged l) (exchanged m)
 same_exchanged s = record { to_controller = s.to_host; to_host = s.to_controller; resets = s.resets; controller = s.host; host = s.controller }
 
@@ -50,9 +47,6 @@ ended_same l b = grind arith
 
 pub silent_same : (l : Link) (e : LinkEnd) → SameWires (with_bare_wires l) (silent l e)
 silent_same l e = grind arith
-
-pub emptied_same : {l m : Link} → SameWires l m → SameWires (with_bare_wires l) (with_bare_wires m)
-emptied_same s = record { to_controller = refl; to_host = refl; resets = s.resets; controller = s.controller; host = s.host }
 
 pub same_twice : {l m n : Link} → SameWires l m → SameWires m n → SameWires l n
 same_twice s t = grind arith
@@ -82,8 +76,7 @@ goes_on l NextFrame o turns q c = go o l.to_controller q c
         let is : f ≡ i = cc in
         let b : Bool = is_some (ended_by l.controller.side f) in
         let m : Link = with_ended (record l { to_controller = xs }) b in
-        let P : LinkInput → Type 0 = λ j. GoesOn k NextFrame turns (turned (after_input l.controller.side j) turns) in
-        subst P is
+        subst (λ j. GoesOn k NextFrame turns (turned (after_input l.controller.side j) turns)) is
         (record {
           link = record m { controller = record m.controller { took = took_with l.controller.took x } };
           wires = taken b;
@@ -116,9 +109,8 @@ goes_on l Stops (Some i) turns q c =
     let e : LinkEnd = deactivated l.controller.side in
     subst P is (record { link = silent l e; wires = silent_same l e; out = refl; cut = refl; far = ended_far l (is_up l.controller.side.shdlc.phase) })
 goes_on l NoInput o turns q c =
-    let none : None ≡ o = q in
     let P : Option LinkInput → Type 0 = λ j. GoesOn l NoInput turns (turned (after_coming l.controller.side j) turns) in
-    subst P none (record { link = l; wires = no_change l; out = refl; cut = refl; far = refl })
+    subst P q (record { link = l; wires = (grind arith); out = refl; cut = refl; far = refl })
 
 -- a link whose near end lost its power in a step: both wires are empty
 pub cut_same : {l : Link} {comes : Comes} {turns : List Turn} {e : LinkEnd} (g : GoesOn l comes turns e)
@@ -126,7 +118,7 @@ pub cut_same : {l : Link} {comes : Comes} {turns : List Turn} {e : LinkEnd} (g :
 cut_same {l} {comes} {turns} {e} g =
     let m : Link = with_controller g.link (sent_all e) in
     let same : SameWires g.link m = record { to_controller = refl; to_host = refl; resets = refl; controller = (refl, refl); host = (refl, refl) } in
-    rw g.cut (same_twice (emptied_same (same_twice g.wires same)) (silent_same m (new_link_end (renewed m.controller.side.role))))
+    rw g.cut (same_twice (let h0 = same_twice g.wires same in grind arith) (silent_same m (new_link_end (renewed m.controller.side.role))))
 
 -- What a step of a node is on each of its links.
 
@@ -141,8 +133,7 @@ end_goes : (h : ℕ) (who : Side) (l : Link) (comes : Comes) (o : Option LinkInp
     → Goes h who l comes o v → EndGoes h l comes v
 end_goes h who l comes o v q c a =
     let e : LinkEnd = after_coming (near_end_in l comes).side o in
-    let turns : turns_at v h ≡ a.port.turns = ap (λ x. option_map_or (λ (p : Port). p.turns) x []) a.here in
-    let side : a.port.side ≡ turned e (turns_at v h) = a.is ∙ ap (turned e) (sym turns) in
+    let side : a.port.side ≡ turned e (turns_at v h) = a.is ∙ ap (turned e) (sym (ap (λ x. option_map_or (λ (p : Port). p.turns) x []) a.here)) in
     record { port = a.port; here = a.here; session = a.session; goes = rw (← side) at (goes_on l comes o (turns_at v h) q c) }
 
 -- ## The controller
@@ -153,10 +144,9 @@ pub controller_ends : (w : NodeWorld) (r : Running) (k : ℕ) (comes : Comes) (i
 controller_ends w r k comes i h s orderly node found q =
     let first = opened w r k comes h s orderly node found in
     let o : ℕ → Option LinkInput = λ n. cond (n == k) (Some i) None in
-    let host : first.port.desk.host ≡ h = eqb-true first.port.desk.host h (at_host _ h first.port first.here) in
     end_goes h Controller s.link (comes_to k comes h) (o h) (controller_work w r k comes (steps (AtEnd k i)))
     (given w r k comes h s orderly node found i q (h == k) refl) (is_so w r k comes h s orderly node found i (h == k))
-    (stepped h Controller s.link (comes_to k comes h) (o h) k i _ first (ap o host))
+    (stepped h Controller s.link (comes_to k comes h) (o h) k i _ first (ap o (eqb-true first.port.desk.host h (at_host _ h first.port first.here))))
 
 -- ## A host
 
@@ -166,9 +156,8 @@ host_ends s r comes host node i q =
     let first = host_opened s r comes host node in
     let here : first.port.desk.host ≡ s.host = eqb-true first.port.desk.host s.host (at_host _ s.host first.port first.here) in
     let o : ℕ → Option LinkInput = λ n. cond (n == s.host) (Some i) None in
-    let same : o s.host ≡ Some i = ap (λ b. cond b (Some i) None) (same_number s.host) in
     end_goes s.host Host (exchanged s.link) comes (Some i) (host_work s r comes (steps (AtEnd s.host i))) q (is_step comes i)
-    (stepped s.host Host (exchanged s.link) comes (Some i) s.host i _ first (ap o here ∙ same))
+    (stepped s.host Host (exchanged s.link) comes (Some i) s.host i _ first (ap o here ∙ (ap (λ b. cond b (Some i) None) (same_number s.host))))
 
 -- a host does something of its own
 pub host_begins : (s : Site) (r : Running) (host : (s.host == 0) ≡ false) (node : HasEnds s.host (s.host ∷ []) r) (deeds : List Deed) → AreMute deeds
@@ -195,8 +184,6 @@ pub out_behind : {k : Wires} {l : Link} {comes : Comes} {v : Work} {h : ℕ} (g 
     → WiresStandFor k (put_all g.goes.link (frames_out g.port.side))
     → IsBehind k l (happens_at_controller l (Step comes (turns_at v h) GoesOut)) g.port.side
 out_behind {k} {l} g w =
-    let m : Link = g.goes.link in
-    let cs : List Control = frames_out g.port.side in
     rw g.goes.out (record {
       wires = record {
         here = record { emitted_is = w.here.emitted_is; took_is = w.here.took_is; wire_is = w.here.wire_is };
@@ -204,7 +191,7 @@ out_behind {k} {l} g w =
         count = w.count;
       };
       near = refl;
-      far = ap (λ (x : NumberedEnd). x.side) (all_far m cs ∙ g.goes.far);
+      far = ap (λ (x : NumberedEnd). x.side) (all_far g.goes.link (frames_out g.port.side) ∙ g.goes.far);
     })
 
 -- ## Lists
@@ -252,7 +239,6 @@ all_sides v sites f keeps hosts different each =
         → (link_to (map f sites) p.desk.host).controller.side ≡ sent_all p.side
     one s found p host own =
         let g : SentAt v s f = each s found in
-        let same : Some g.port ≡ Some p = sym g.here ∙ (ap (port_at v.ports) (sym host) ∙ own) in
         let is : g.port ≡ p = cc in
         let there : site_at (map f sites) s.host ≡ Some (f s) = site_map f keeps sites s.host s found in
         ap (λ h. (link_to (map f sites) h).controller.side) host
@@ -282,10 +268,7 @@ module _ (w : NodeWorld) (r : Running) (k : ℕ) (comes : Comes) (i : LinkInput)
   pub site_behind : {kept : Wires} (s : Site) (found : site_at w.sites s.host ≡ Some s) → After.cut ≡ false
       → (g : EndGoes s.host s.link (comes_to k comes s.host) After) → WiresStandFor kept (put_all g.goes.link (frames_out g.port.side))
       → IsBehind kept s.link (link_after_controller k comes After s).link g.port.side
-  site_behind {kept} s found on g wires =
-      let happens : Ending → Link = λ e. happens_at_controller s.link (Step (comes_to k comes s.host) (turns_at After s.host) e) in
-      let ending : ending_of After ≡ GoesOut = ap (λ (b : Bool). cond b CutOff GoesOut) on in
-      rw ending (out_behind g wires)
+  site_behind {kept} s found on g wires = rw (ap (λ (b : Bool). cond b CutOff GoesOut) on) (out_behind g wires)
 
   abbrev near : ℕ → NumberedEnd
   near h = near_end_in (link_to w.sites h) (comes_to k comes h)
@@ -318,9 +301,8 @@ pub record TicksOn (l : Link) (late : Bool) (turns : List Turn) (e : LinkEnd) : 
 pub ticks_on : (l : Link) (late : Bool) (turns : List Turn) → (late ≡ true → is_waiting l.controller.side.shdlc ≡ false)
     → TicksOn l late turns (turned (after_ticking late l.controller.side) turns)
 ticks_on l true turns ready =
-    let waits : is_waiting l.controller.side.shdlc ≡ false = ready refl in
     let so : Ending → Link = λ e. has_input l (Reset None) turns e in
-    let is : (e : Ending) → ticked_so l true turns e ≡ so e = λ e. rw waits refl in
+    let is : (e : Ending) → ticked_so l true turns e ≡ so e = λ e. rw (ready refl) refl in
     let b : Bool = is_some (ended_by l.controller.side (Reset None)) in
     record { link = with_ended l b; wires = ended_same l b; out = is GoesOut; cut = is CutOff; far = ended_far l b }
 ticks_on l false turns ready =
@@ -341,27 +323,23 @@ up_ready late l up q = grind arith
 tick_goes : (h : ℕ) (who : Side) (l : Link) (late : Bool) (v : Work) → IfLate late l.controller.side → Ticked h who l late v → EndTicks h l late v
 tick_goes h who l true v up a =
     let e : LinkEnd = after_input l.controller.side (Reset None) in
-    let turns : turns_at v h ≡ a.port.turns = ap (λ x. option_map_or (λ (p : Port). p.turns) x []) a.here in
-    let side : a.port.side ≡ turned e (turns_at v h) = a.is ∙ ap (turned e) (sym turns) in
-    let P : LinkEnd → Type 0 = λ x. TicksOn l true (turns_at v h) x in
+    let side : a.port.side ≡ turned e (turns_at v h) = a.is ∙ ap (turned e) (sym (ap (λ x. option_map_or (λ (p : Port). p.turns) x []) a.here)) in
     record {
       port = a.port;
       here = a.here;
       session = a.session;
       late_is = ap (λ x. option_map_or (λ (p : Port). p.late) x false) a.here ∙ a.late_is;
-      goes = subst P (sym side) (ticks_on l true (turns_at v h) (up_ready true l up));
+      goes = subst (λ x. TicksOn l true (turns_at v h) x) (sym side) (ticks_on l true (turns_at v h) (up_ready true l up));
     }
 tick_goes h who l false v up a =
     let e : LinkEnd = after_input l.controller.side Tick in
-    let turns : turns_at v h ≡ a.port.turns = ap (λ x. option_map_or (λ (p : Port). p.turns) x []) a.here in
-    let side : a.port.side ≡ turned e (turns_at v h) = a.is ∙ ap (turned e) (sym turns) in
-    let P : LinkEnd → Type 0 = λ x. TicksOn l false (turns_at v h) x in
+    let side : a.port.side ≡ turned e (turns_at v h) = a.is ∙ ap (turned e) (sym (ap (λ x. option_map_or (λ (p : Port). p.turns) x []) a.here)) in
     record {
       port = a.port;
       here = a.here;
       session = a.session;
       late_is = ap (λ x. option_map_or (λ (p : Port). p.late) x false) a.here ∙ a.late_is;
-      goes = subst P (sym side) (ticks_on l false (turns_at v h) (up_ready false l up));
+      goes = subst (λ x. TicksOn l false (turns_at v h) x) (sym side) (ticks_on l false (turns_at v h) (up_ready false l up));
     }
 
 -- ## The controller and a host

@@ -9,7 +9,7 @@ use Rattle.node_world.proofs.Words.{by_host, by_host_tick, by_loss, by_memory, b
 use Rattle.node_world.proofs.Words.{controller_does, controller_ticks, controller_work, counts, drop, end_c, end_h, ended_by, ending_of, exchanged, false}
 use Rattle.node_world.proofs.Words.{frame_lost, frames_out, has_input, host_cut, host_does, host_tick, host_ticks, host_work, hosts_tick, inl, is_late_at}
 use Rattle.node_world.proofs.Words.{is_rset, is_some, is_up, is_waiting, length, link_after_controller, loses_power_at, map, memory_at, near_tick, not, put}
-use Rattle.node_world.proofs.Words.{put_all, refl, sending, sent_all, silent, site_lost, site_ticked, steps, suc, take, ticked_so, ticks_at_controller}
+use Rattle.node_world.proofs.Words.{put_all, refl, sending, silent, site_lost, site_ticked, steps, suc, take, ticked_so, ticks_at_controller}
 use Rattle.node_world.proofs.Words.{took_with, true, turned, turns_at, with_ended, with_memory, with_node, with_site, world_step, world_ticks, zero, ℕ, ◌&&◌}
 use Rattle.node_world.proofs.Words.{◌*◌, ◌++◌, ◌+◌, ◌-◌, ◌==◌, ◌∙◌, ◌∷◌, ◌≡◌, ◌≤◌, ◌⊎◌}
 use Rattle.swp_base.specs.declared.control_frames.Control.TheVariants.{Act as ActFrame}
@@ -52,32 +52,20 @@ same_nearly more e f acked sent = record { acked = omega (arith, acked); sent = 
 stopped_nearly : (more : ℕ) (e : LinkEnd) (event : ActEvent) → Nearly more e (activated (moved e true (stopped e.shdlc)) event)
 stopped_nearly more e event = grind arith
 
-took_nearly : (e : LinkEnd) (c : Control) → Nearly 7 e (took e c)
-took_nearly e c = grind arith
-
-tick_nearly : (e : LinkEnd) → Nearly 0 e (had_tick e)
-tick_nearly e = grind arith
-
-pub reset_nearly : (e : LinkEnd) (window : Option ℕ) → Nearly 0 e (after_input e (Reset window))
-reset_nearly e window = grind arith
-
 nearly_more : (e f : LinkEnd) → Nearly 0 e f → Nearly 7 e f
 nearly_more e f n = record { acked = let a = n.acked in omega (arith, a); sent = n.sent }
 
-fetched_near : (e : LinkEnd) → Nearly 0 e (frame_fetched e)
-fetched_near e = grind arith
-
 -- whatever comes to an end from outside
 pub input_nearly : (e : LinkEnd) (i : LinkInput) → IsFromOutside i → Nearly 7 e (after_input e i)
-input_nearly e (Take c) o = took_nearly e c
+input_nearly e (Take c) o = grind arith
 input_nearly e TakeUnknown o = same_nearly 7 e (after_input e TakeUnknown) (omega arith) refl
 input_nearly e (TakeBroken fault) o = same_nearly 7 e e (omega arith) refl
-input_nearly e Tick o = nearly_more e (had_tick e) (tick_nearly e)
-input_nearly e (Reset window) o = nearly_more e (after_input e (Reset window)) (reset_nearly e window)
+input_nearly e Tick o = nearly_more e (had_tick e) (grind arith)
+input_nearly e (Reset window) o = nearly_more e (after_input e (Reset window)) (grind arith)
 input_nearly e (Start value) o = stopped_nearly 7 e (ActStart value)
 input_nearly e Stop o = stopped_nearly 7 e ActStop
 input_nearly e (FromNode t) o = absurd o
-input_nearly e Fetch o = nearly_more e (frame_fetched e) (fetched_near e)
+input_nearly e Fetch o = nearly_more e (frame_fetched e) (grind arith)
 
 -- ## What a node does to an end
 
@@ -89,9 +77,6 @@ turned_acked [] e = refl
 turned_acked (t ∷ ts) e = turned_acked ts (turn e t) ∙ turn_acked e t
 
 -- ## All its frames
-
-pub all_sent_acked : (e : LinkEnd) → (sent_all e).shdlc.session.acked ≡ e.shdlc.session.acked
-all_sent_acked e = fetched_acked most_frames e.shdlc
 
 -- A step of an end puts at most twelve RSETs on its link, and acknowledges at most seven fragments at that end.
 
@@ -118,23 +103,17 @@ among_few : (n : ℕ) (acts : List ActDue) (fs : List Control) → rsets (among 
 among_few n [] fs = rsets_few fs
 among_few n (a ∷ acts) fs =
     let k : ℕ = a.behind - n in
-    let rest : List Control = among a.behind acts (drop k fs) in
-    let all = rsets_append (take k fs) (ActFrame a.frame false ∷ rest) in
-    let front = rsets_few (take k fs) in
     let back = among_few a.behind acts (drop k fs) in
     let whole = take_and_drop k fs in
-    omega (arith, all, front, back, whole)
+    omega (arith, (rsets_append (take k fs) (ActFrame a.frame false ∷ (among a.behind acts (drop k fs)))), (rsets_few (take k fs)), back, whole)
 
 frames_few : (n : ℕ) (e : EndState) → length (frames_of n e) ≤ n
 frames_few zero e = omega arith
-frames_few (suc n) e = go (frame_due e) (frames_few n (fetched e))
+frames_few (suc n) e = let h0 = frame_due e in let h1 = frames_few n (fetched e) in grind arith
   where
     by : Option Control → List Control → List Control
     by None later = []
     by (Some c) later = c ∷ later
-
-    go : (o : Option Control) → length (frames_of n (fetched e)) ≤ n → length (by o (frames_of n (fetched e))) ≤ suc n
-    go o q = grind arith
 
 out_few : (e : LinkEnd) → rsets (frames_out e) ≤ 12
 out_few e =
@@ -169,7 +148,7 @@ finished_steps : (l : Link) (e : LinkEnd) (ending : Ending) → Steps e.shdlc.se
 finished_steps l e GoesOut =
     record {
       resets = let z = puts_more (frames_out e) l in let o = out_few e in omega (arith, z, o);
-      near = let z = all_sent_acked e in omega (arith, z);
+      near = let z = (fetched_acked most_frames e.shdlc) in omega (arith, z);
       far = puts_host (frames_out e) l;
     }
 finished_steps l e CutOff = grind arith
@@ -183,10 +162,9 @@ input_steps : (l : Link) (i : LinkInput) (ts : List Turn) (ending : Ending) → 
 input_steps l i ts ending o =
     let e : LinkEnd = turned (after_input l.controller.side i) ts in
     let b : Bool = is_some (ended_by l.controller.side i) in
-    let z = turned_acked ts (after_input l.controller.side i) in
     let n = (input_nearly l.controller.side i o).acked in
     behind_steps e.shdlc.session.acked (l.controller.side.shdlc.session.acked + 7) l (with_ended l b) (has_input l i ts ending) (ended_resets l b)
-    (ended_host l b) (omega (arith, z, n)) (finished_steps (with_ended l b) e ending)
+    (ended_host l b) (omega (arith, (turned_acked ts (after_input l.controller.side i)), n)) (finished_steps (with_ended l b) e ending)
 
 taken_steps : (l : Link) (x : OnWire) (xs : List OnWire) (ts : List Turn) (ending : Ending)
     → Steps (l.controller.side.shdlc.session.acked + 7) l (has_taken l x xs ts ending)
@@ -207,10 +185,9 @@ restarted_steps l i ts ending o =
     let e : LinkEnd = turned (after_input l.controller.side i) ts in
     let b : Bool = is_up l.controller.side.shdlc.phase in
     let k : Link = silent l (after_input l.controller.side i) in
-    let z = turned_acked ts (after_input l.controller.side i) in
     let n = (input_nearly l.controller.side i o).acked in
     behind_steps e.shdlc.session.acked (l.controller.side.shdlc.session.acked + 7) l k (has_restarted l (after_input l.controller.side i) ts ending)
-    (ended_resets l b) (ended_host l b) (omega (arith, z, n)) (finished_steps k e ending)
+    (ended_resets l b) (ended_host l b) (omega (arith, (turned_acked ts (after_input l.controller.side i)), n)) (finished_steps k e ending)
 
 steps_near : (l : Link) (comes : Comes) (ts : List Turn) (ending : Ending)
     → Steps (l.controller.side.shdlc.session.acked + 7) l (steps_at_controller l comes ts ending)
@@ -383,8 +360,7 @@ few_behind_world_tick n w a =
     let old : NodeWorld = (all_aged w).0 in
     let near : NodeWorld = (controller_ticks old).0 in
     let b : FewOnEach (n + 1) near.sites = few_behind_tick n old (few_behind_ages n w a) in
-    let c : FewOnEach (n + 1 + 1) (hosts_tick near.sites).0 = few_behind_hosts_tick (n + 1) near.sites b in
-    longer (n + 1 + 1) (n + 2) (world_ticks w).0 (omega arith) c
+    longer (n + 1 + 1) (n + 2) (world_ticks w).0 (omega arith) (few_behind_hosts_tick (n + 1) near.sites b)
 
 -- ## Whatever happens
 

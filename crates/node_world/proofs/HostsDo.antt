@@ -1,5 +1,5 @@
 -- A host of the world behind a step of it: what is kept stands for the host as the definition leaves it.
-use Rattle.node_world.proofs.Words.{AllByRecursion, Bool, Control, Core, CutOff, Desk, End, EndDoes, Ending, EndsBoot, Entry, GoesOut, HasBecome, Host}
+use Rattle.node_world.proofs.Words.{AllByRecursion, Bool, Core, CutOff, Desk, End, EndDoes, Ending, EndsBoot, Entry, GoesOut, HasBecome, Host}
 use Rattle.node_world.proofs.Words.{HostSite, IsNodePlace, IsOnly, IsToSend, Link, LinkEnd, List, Lose, Loss, MayTick, Memory, NoInput, Node, None, NumberedEnd}
 use Rattle.node_world.proofs.Words.{Off, On, Option, Port, Power, Running, RunsAs, SameWires, SendsOneByOne, Site, SiteIs, Some, Tick, Turn, Uicc, Wires}
 use Rattle.node_world.proofs.Words.{WiresStandFor, Work, [], after_input, after_planned, all_one_by_one, ap, append-nil, append_assoc, ap₂, arith, at, at_host}
@@ -43,12 +43,8 @@ ends_next : (h : ℕ) (p : Port) (near_end : NumberedEnd) (ports : List Port) �
     → map between (with_port h sent_port ports)
     ≡ map between (map (λ (d : Desk). port_for near_end d) (map (λ (x : Port). x.desk) ports))
 ends_next h p near_end ports q f side =
-    let there : (p.desk.host == h) ≡ true = at_host ports h p f in
-    let sent : changed_if (p.desk.host == h) sent_port p ≡ sent_port p = rw there refl in
-    let one : map between (with_port h sent_port (p ∷ [])) ≡ map between (map (λ (d : Desk). port_for near_end d) (p.desk ∷ [])) =
-    ap (λ (x : Port). between x ∷ []) sent
-    ∙ ap (λ (e : LinkEnd). record { desk = p.desk; side = e; session = 0; late = false; ended = false; turns = [] } ∷ []) (sym side) in
-    rw (one_port h p ports q f) one
+    let sent : changed_if (p.desk.host == h) sent_port p ≡ sent_port p = rw (at_host ports h p f) refl in
+    rw (one_port h p ports q f) (grind arith)
 
 -- ## It runs on
 
@@ -71,18 +67,14 @@ module _ (s : Site) (step : List Turn → Ending → Link) (k : Work) (e : EndDo
   pub host_runs_on : {before now : List Entry} → k.cut ≡ false → old.host ≡ s.host → hosts_of_ends k.ports ≡ s.host ∷ []
       → next_frame (sent_all e.port.side) ≡ None → RunsOn old new n k e.port e.link before now → SiteIs new (host_behind s step k)
   host_runs_on on was hosts none r =
-      let m : Link = e.link in
-      let l : Link = becomes m e.port.side in
-      let is : host_behind s step k ≡ goes_to l (Some left) =
-      ap (λ (b : Bool). goes_to (step_so b) (cond b None (Some left))) on ∙ ap (λ (x : Link). goes_to x (Some left)) e.out in
-      let near_end : NumberedEnd = l.controller in
+      let near_end : NumberedEnd = (becomes e.link e.port.side).controller in
       let ports : RunsAs r.node k.core (map (λ (d : Desk). port_for near_end d) left.desks) =
       kept_alike (with_port old.host sent_port k.ports) (map (λ (d : Desk). port_for near_end d) left.desks)
       (ap (λ h. map between (with_port h sent_port k.ports)) was ∙ ends_next s.host e.port near_end k.ports hosts e.here refl) r.runs in
       let Place : Power → Type 0 = λ a. IsNodePlace a (after_planned k.writes s.memory) (Some left) (λ h. near_end) in
       let place : Place (On r.node) = (r.memory ∙ memory, ports, all_sent left.desks (sent_all e.port.side) none) in
       let w = r.wires in
-      rw is (record {
+      rw (ap (λ (b : Bool). goes_to (step_so b) (cond b None (Some left))) on ∙ ap (λ (x : Link). goes_to x (Some left)) e.out) (record {
         host = host;
         wires = record {
           here = w.here;
@@ -96,8 +88,7 @@ module _ (s : Site) (step : List Turn → Ending → Link) (k : Work) (e : EndDo
   cut_so : SameWires (with_bare_wires e.link) (step_so true)
   cut_so =
       let m : Link = with_controller e.link (sent_all e.port.side) in
-      let same : SameWires (with_bare_wires m) (with_bare_wires e.link) =
-      record { to_controller = refl; to_host = refl; resets = refl; controller = (refl, refl); host = (refl, refl) } in
+      let same : SameWires (with_bare_wires m) (with_bare_wires e.link) = grind arith in
       let silent = silent_same m (new_link_end (renewed m.controller.side.role)) in
       rw e.cut (record {
         to_controller = silent.to_controller;
@@ -124,9 +115,6 @@ only_one h p ports q f = let P : List Port → Type 0 = λ ps. IsOnly h p ps in 
 frames_on : (h : ℕ) (l : Link) (k : Work) (p : Port) → k.cut ≡ false → port_at k.ports h ≡ Some p
     → frames_noted Host h l k ≡ entries_for h (puts_entries Host l (frames_out p.side))
 frames_on h l k p on here = grind arith
-
-frames_off : (h : ℕ) (l : Link) (k : Work) (p : Port) → k.cut ≡ true → port_at k.ports h ≡ Some p → frames_noted Host h l k ≡ []
-frames_off h l k p off here = grind arith
 
 module _ (mid : HostSite) (live : Bool) (noted : List Entry) (short : Bool) (before : List Entry) (s : Site) (step : List Turn → Ending → Link) (l : Link)
     (w : Work) (is : IsToSend mid live noted short before s step l w) where
@@ -160,15 +148,13 @@ module _ (mid : HostSite) (live : Bool) (noted : List Entry) (short : Bool) (bef
         site = host_went_off s step w is.here mid new is.node is.memory (same ∙ is.host) power r;
         noted = r.noted
             ∙ ap (λ es. before ++ es)
-            (sym (append-nil w.entries) ∙ ap (λ es. w.entries ++ es) (sym (frames_off s.host l w is.here.port power is.here.here)));
+            (sym (append-nil w.entries) ∙ ap (λ es. w.entries ++ es) (sym (grind arith)));
       }
 
 -- A tick at a host that doesn't run: nothing is sent, and nothing is noted.
 
 pub becomes_same : (m : Link) (e : LinkEnd) → frames_out e ≡ [] → SameWires m (becomes m e)
-becomes_same m e q =
-    let put : List Control → Link = λ cs. let k : Link = put_all m cs in record k { controller = record k.controller { side = sent_all e } } in
-    rw q (record { to_controller = refl; to_host = refl; resets = refl; controller = (refl, refl); host = (refl, refl) })
+becomes_same m e q = rw q (record { to_controller = refl; to_host = refl; resets = refl; controller = (refl, refl); host = (refl, refl) })
 
 -- an end that wasn't activated sends nothing at a tick
 quiet : (e : LinkEnd) → e ≡ new_link_end (Uicc new_uicc) → frames_out (after_input e Tick) ≡ []
@@ -181,13 +167,11 @@ still_wires l q =
 
 pub tick_off : (k : HostSite) (s : Site) (entries : List Entry) → SiteIs k s → s.node ≡ None → MayTick s → HasBecome k entries entries (host_ticks s)
 tick_off k s entries is off may =
-    let side : s.link.host.side ≡ new_link_end (Uicc new_uicc) = rw off at may.off in
-    let after : Link = exchanged (ticks_at_controller (exchanged s.link) [] GoesOut) in
-    let none : host_ticks s ≡ (record s { link = after }, []) = rw off refl in
+    let none : host_ticks s ≡ (record s { link = (exchanged (ticks_at_controller (exchanged s.link) [] GoesOut)) }, []) = rw off refl in
     rw none (record {
       site = record {
         host = is.host;
-        wires = same_stand (same_exchanged (still_wires (exchanged s.link) side)) is.wires;
+        wires = same_stand (same_exchanged (still_wires (exchanged s.link) (rw off at may.off))) is.wires;
         place = rw (← off) at (same_place k.power (rw off at is.place));
       };
       noted = sym (append-nil entries);
@@ -247,13 +231,10 @@ runs_now k new s n count before {now} on is side other booted counts noted =
     let r : Running = found s.host (s.host ∷ []) s.memory.content in
     let role : role_at s.host ≡ named.Uicc = rw other refl in
     let R : Named → Type 0 = λ x. RunsAs n r.core (map (new_port x) (s.host ∷ [])) in
-    let runs : R named.Uicc = subst R role b.2 in
-    let C : Site × List Entry → Type 0 = λ x. HasBecome (record k { power = new }) before now x in
-    let N : Power → Type 0 = λ a. IsNodePlace a (after_planned (boot_writes s.memory.content) s.memory) (Some r) (λ h. s.link.host) in
-    subst C (sym (boot_goes s b.0))
+    subst (λ x. HasBecome (record k { power = new }) before now x) (sym (boot_goes s b.0))
     (record {
       site = grind arith;
-      noted = noted ∙ ap₂ (λ h x. before ++ note.Booted h x ∷ []) is.host (counts r.core (map (new_port named.Uicc) (s.host ∷ [])) runs);
+      noted = noted ∙ ap₂ (λ h x. before ++ note.Booted h x ∷ []) is.host (counts r.core (map (new_port named.Uicc) (s.host ∷ [])) (grind arith));
     })
 
 pub lost_power : (k : HostSite) (new : Power) (s : Site) (left : Memory) (wires : Wires) (before : List Entry) {now : List Entry} → new ≡ Off left
@@ -262,16 +243,13 @@ pub lost_power : (k : HostSite) (new : Power) (s : Site) (left : Memory) (wires 
     → HasBecome (record { host = k.host; wires = wires; power = new }) before now (host_boots s)
 lost_power k new s left wires before {now} off is booted empty noted =
     let b = subst (EndsBoot s.host (s.host ∷ []) s.memory) off booted in
-    let C : Site × List Entry → Type 0 = λ x. HasBecome (record { host = k.host; wires = wires; power = new }) before now x in
     let gone : Site = host_cut (record s { memory = after_planned (boot_writes s.memory.content) s.memory }) in
-    let N : Power → Type 0 = λ a. IsNodePlace a gone.memory None (λ h. gone.link.host) in
-    let g = goes_on (exchanged s.link) NoInput None [] refl tt in
-    subst C (sym (boot_stops s b.0))
+    subst (λ x. HasBecome (record { host = k.host; wires = wires; power = new }) before now x) (sym (boot_stops s b.0))
     (record {
       site = record {
         host = is.host;
-        wires = same_stand (same_exchanged (cut_same g)) empty;
-        place = subst N (sym off) b.1;
+        wires = same_stand (same_exchanged (cut_same (goes_on (exchanged s.link) NoInput None [] refl tt))) empty;
+        place = subst (λ a. IsNodePlace a gone.memory None (λ h. gone.link.host)) (sym off) b.1;
       };
       noted = noted ∙ ap (λ h. before ++ note.Cut h ∷ []) is.host;
     })

@@ -31,7 +31,6 @@ use Rattle.node_machine.proofs.world.Cases.{after_tick}
 use Rattle.node_world.proofs.EndsGo.{same_stand, same_exchanged, EndGoes, host_ends, host_begins, EndTicks, host_end_ticks}
 pub use Rattle.node_core.proofs.SeenAsNode.{never_refused as done_always}
 pub use Rattle.node_laws.proofs.readings.Sites.{near_end_side as near_side}
-pub use Rattle.node_laws.proofs.telling.Events.{sending_mute}
 
 same_ports : (a b : NumberedEnd) (desks : List Desk) → a.side ≡ b.side
     → map between (map (λ (d : Desk). port_for a d) desks) ≡ map between (map (λ (d : Desk). port_for b d) desks)
@@ -119,14 +118,11 @@ puts_behind : (l : Link) (w : List OnWire) (took : ℕ) (cs : List Control)
     → puts_entries Host (record l { to_controller = w; controller = record l.controller { took = took } }) cs ≡ puts_entries Host l cs
 puts_behind l w took [] = refl
 puts_behind l w took (c ∷ cs) =
-    ap (λ m. put_entries Host l c ++ puts_entries Host m cs) (swapped (is_rset c) refl)
+    ap (λ m. put_entries Host l c ++ puts_entries Host m cs) (let h0 = is_rset c in grind arith)
     ∙ ap (λ es. put_entries Host l c ++ es) (puts_behind (put l c) w took cs)
   where
     taken : Link → Link
     taken m = record m { to_controller = w; controller = record m.controller { took = took } }
-
-    swapped : (b : Bool) → is_rset c ≡ b → put (taken l) c ≡ taken (put l c)
-    swapped b q = grind arith
 
 puts_coming : (l : Link) (comes : Comes) (cs : List Control) → puts_entries Host (as_it_comes l comes) cs ≡ puts_entries Host (wires_for l comes) cs
 puts_coming l NextFrame cs = go l.to_controller
@@ -216,15 +212,12 @@ module _ (s : Site) (r : Running) (is : IsHostOf s) (runs : s.node ≡ Some r) w
       → HostDoes s tick_at_end (exchanged s.link) (exchanged s.link) (host_tick s r)
   ticks young few =
       let g : EndTicks s.host (exchanged s.link) false (host_tick s r) = host_end_ticks s r is.number node young in
-      let k : Keeps s.host (s.host ∷ []) (host_tick s r) = tick_keeps s.host (s.host ∷ []) (Start NoInput) (keeps NoInput) in
-      let n : Numbers (Session NoInput) (host_tick s r) =
-      stepped (Session NoInput) TimePasses (Start NoInput) (tick_few (Near NoInput) r.desks few) (numbers NoInput) in
       record {
         here = record { port = g.port; here = g.here; link = g.goes.link; out = g.goes.out; cut = g.goes.cut };
         wires = g.goes.wires;
         same = λ cs. refl;
-        ends = k.ends;
-        numbered = n.entries;
+        ends = (tick_keeps s.host (s.host ∷ []) (Start NoInput) (keeps NoInput)).ends;
+        numbered = (stepped (Session NoInput) TimePasses (Start NoInput) (tick_few (Near NoInput) r.desks few) (numbers NoInput)).entries;
       }
 
 -- its node has done it
@@ -234,9 +227,7 @@ module _ (mid : HostSite) (was n : Node Memory) (live : Bool) where
       → mid.host ≡ s.host → WiresStandFor mid.wires (exchanged bare) → sessions ≡ replicate 8 (max mid.wires.host.emitted mid.wires.host.took)
       → IsNotedSo noted sessions before w.entries → IsToSend mid live noted.entries.items noted.short before s step l w
   midway s {bare = bare} {l} {w} d memory gone on host wires numbers noted =
-      let A : ℕ → Type 0 = λ k. AreNumbered (always k) w.entries in
       let B : List ℕ → Type 0 = λ ks. AreNumbered (session_at ks) w.entries in
-      let number : number_of bare.controller ≡ max mid.wires.host.emitted mid.wires.host.took = grind arith in
       record {
         node = n;
         on = on;
@@ -250,7 +241,7 @@ module _ (mid : HostSite) (was n : Node Memory) (live : Bool) where
         bare = bare;
         bare_wires = wires;
         same = d.same (frames_out d.here.port.side);
-        noted_are = noted_behind noted (subst B (sym numbers) (subst A number d.numbered));
+        noted_are = noted_behind noted (subst B (sym numbers) (subst (λ k. AreNumbered (always k) w.entries) (grind arith) d.numbered));
       }
 
 -- What comes to an end of the world, once it is off its wire: when it may come to a node, and why it is refused.
@@ -352,9 +343,6 @@ unchanged_as {k} entries is q =
 
 -- ## What happens
 
-pub stepped_off : (s : Site) (comes : Comes) (f : Work → Work) → s.node ≡ None → host_stepped s comes f ≡ (s, [])
-stepped_off s comes f off = rw off refl
-
 -- the link of a host behind a step in which this comes to its end
 abbrev pub goes_by : Site → Comes → List Turn → Ending → Link
 goes_by s comes turns ending = happens_at_controller (exchanged s.link) (Step comes turns ending)
@@ -398,8 +386,7 @@ pub record OwnEnd (s : Site) (h : ℕ) (ports : List Port) : Type 0 where
 pub own_end : (k : ℕ) (s : Site) (r : Running) → IsHostOf s → k ≡ s.host → s.node ≡ Some r
     → OwnEnd s k (map (λ (d : Desk). port_for s.link.host d) r.desks)
 own_end k s r host same on =
-    let ends : HasEnds s.host (s.host ∷ []) r = subst (IfItRuns s.host (s.host ∷ [])) on host.ends in
-    let first = host_opened s r NoInput host.number ends in
+    let first = host_opened s r NoInput host.number (subst (IfItRuns s.host (s.host ∷ [])) on host.ends) in
     let H : ℕ → Type 0 = λ h. port_at (map (λ (d : Desk). port_for s.link.host d) r.desks) h ≡ Some first.port in
     record { port = first.port; here = subst H (sym same) first.here; side = first.is }
 
@@ -418,13 +405,12 @@ module _ (k : HostSite) (s : Site) (n : Node Memory) (is : SiteIs k s) (host : I
       let r : Running = here.running in
       let Q : Power → Option Running → Type 0 = λ a o. IsNodePlace a s.memory o (λ h. s.link.host) in
       let place : Q (On n) (Some r) = subst (Q (On n)) here.runs (subst (λ a. Q a s.node) on is.place) in
-      let node : HasEnds s.host (s.host ∷ []) r = subst (IfItRuns s.host (s.host ∷ [])) here.runs host.ends in
       record {
         running = r;
         on_is = here.runs;
         runs = place.1;
         end = own_end k.host s r host is.host here.runs;
-        number = sym place.1.node ∙ node.number;
+        number = sym place.1.node ∙ (subst (IfItRuns s.host (s.host ∷ [])) here.runs host.ends).number;
       }
 
   pub is_some_host : 1 ≤ n.number
@@ -528,13 +514,12 @@ module _ (k mid : HostSite) (s : Site) (was n : Node Memory) (live : Bool) (befo
   heard comes i counts q gone noted first wires =
       let b : BeginsOver was (start comes) = begins_so comes in
       let G : ℕ → Type 0 = λ h. HasGone was n (steps (AtEnd h i) (start comes)) live in
-      let N : ℕ → Type 0 = λ h. IsNotedSo now sessions before (steps (AtEnd h i) (start comes)).entries in
       record {
         step = goes_by s comes;
         l = wires_for (exchanged s.link) comes;
         w = host_work s here.running comes (steps (AtEnd s.host i));
         midway = middle (hears s here.running host here.runs comes i q (counts here.running i here.runs q)) (subst G is.host (gone (start comes) b)) wires
-            (subst N is.host (noted (start comes) b first));
+            (subst (λ h. IsNotedSo now sessions before (steps (AtEnd h i) (start comes)).entries) is.host (noted (start comes) b first));
         is = hears_on s here.running comes i here.runs q;
       }
 
@@ -548,14 +533,13 @@ module _ (k mid : HostSite) (s : Site) (was n : Node Memory) (live : Bool) (befo
   began deeds mute gone noted first wires =
       let b : BeginsOver was (start NoInput) = begins_so NoInput in
       let G : ℕ → Type 0 = λ h. HasGone was n (begins_with h (deeds h) (start NoInput)) live in
-      let N : ℕ → Type 0 = λ h. IsNotedSo now sessions before (begins_with h (deeds h) (start NoInput)).entries in
       let number : was.number ≡ s.host = (runs_here k s was is host on).number in
       record {
         step = goes_by s NoInput;
         l = exchanged s.link;
         w = host_work s here.running NoInput (begins_with s.host (deeds s.host));
         midway = middle (begins s here.running host here.runs (deeds s.host) mute) (subst G number (gone (start NoInput) b)) wires
-            (subst N number (noted (start NoInput) b first));
+            (subst (λ h. IsNotedSo now sessions before (begins_with h (deeds h) (start NoInput)).entries) number (noted (start NoInput) b first));
         is = stepped_on s here.running NoInput (begins_with s.host (deeds s.host)) here.runs;
       }
 

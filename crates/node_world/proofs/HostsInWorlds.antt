@@ -14,14 +14,13 @@ use Rattle.node_world.proofs.Words.{refusal_in, sending, sending_refused, side_o
 use Rattle.node_world.proofs.Words.{with_memory, with_node, with_site, world_step, ℕ, ◌++◌, ◌+◌, ◌<◌, ◌==◌, ◌^◌, ◌∙◌, ◌∷◌, ◌≡◌, ◌≢◌, ◌≤◌}
 use Rattle.trace_model.specs.declared.entry.Entry.TheVariants as entry
 use Rattle.node_machine.specs.Node.{found as found_at}
-use Rattle.node_machine.proofs.world.Cases.{after_host_step}
 use Rattle.node_laws.proofs.telling.Events.{site_host}
 use Rattle.node_sites.specs.GivenMessages.{given_messages}
 use Rattle.trace_model.specs.declared.line.Line.TheVariants as line
 use Rattle.node_sites.specs.declared.nodes.Asked.TheVariants.{Send, Init}
 use Rattle.node_world.specs.Controllers.{FewAreCountedAt}
 use Rattle.node_world.proofs.HostsDo.{boot_goes, boot_stops}
-use Rattle.node_world.proofs.HostsHear.{worked, stepped_off, stepped_on, hears_none}
+use Rattle.node_world.proofs.HostsHear.{worked, stepped_on, hears_none}
 use Rattle.node_world.proofs.CountsStay.{counts_few_at_end, resets_fit, acks_of_ports, counts_few_in_tick, few_to}
 use Rattle.node_world.proofs.SitesKept.{others_before, of_these, read_there, written_there}
 use Rattle.node_world.proofs.LinesGo.{one_step, is_there}
@@ -59,16 +58,14 @@ module _ (w : NodeWorld) (h : ℕ) (s : Site) (found : site_at w.sites h ≡ Som
       go None q =
           let A : Site × List Entry → Type 0 = λ after. ChangesSite w h s after (host_does w h comes f) in
           let B : NodeWorld × List Entry → Type 0 = λ now. ChangesSite w h s (s, []) now in
-          let none : host_does w h comes f ≡ (w, []) = rw (found, q) refl in
-          subst A (sym (stepped_off s comes f q)) (subst B (sym none) stays)
+          subst A (sym (grind arith)) (subst B (sym (rw (found, q) refl)) stays)
       go (Some r) q =
           let k : Work = host_work s r comes f in
           let A : Site × List Entry → Type 0 = λ after. ChangesSite w h s after (host_does w h comes f) in
           let B : NodeWorld × List Entry → Type 0 = λ now. ChangesSite w h s (worked s comes k) now in
           let E : ℕ → List Entry = λ n. k.entries ++ frames_noted Host n (wires_for (exchanged s.link) comes) k in
-          let does : host_does w h comes f ≡ after_host_step w h comes s k = rw (found, q) refl in
           subst A (sym (stepped_on s r comes f q))
-          (subst B (sym does) (record { change = after_host comes k; world = refl; site = refl; entries = ap E (sym host) }))
+          (subst B (sym (rw (found, q) refl)) (record { change = after_host comes k; world = refl; site = refl; entries = ap E (sym host) }))
 
   -- something comes to its end
   pub hears_in_world : (comes : Comes) → ChangesSite w h s (host_hears s comes) (comes_at w (end_h h) comes)
@@ -81,15 +78,13 @@ module _ (w : NodeWorld) (h : ℕ) (s : Site) (found : site_at w.sites h ≡ Som
       go None q =
           let A : Site × List Entry → Type 0 = λ after. ChangesSite w h s after (comes_at w (end_h h) comes) in
           let B : NodeWorld × List Entry → Type 0 = λ now. ChangesSite w h s (s, []) now in
-          let none : comes_at w (end_h h) comes ≡ (w, []) = rw (link, q) refl in
-          subst A (sym (hears_none s comes q)) (subst B (sym none) stays)
+          subst A (sym (hears_none s comes q)) (subst B (sym (rw (link, q) refl)) stays)
       go (Some i) q =
           let f : ℕ → Work → Work = λ n. steps (AtEnd n i) in
           let A : Site × List Entry → Type 0 = λ after. ChangesSite w h s after (comes_at w (end_h h) comes) in
           let B : NodeWorld × List Entry → Type 0 = λ now. ChangesSite w h s (host_stepped s comes (f s.host)) now in
-          let there : comes_at w (end_h h) comes ≡ host_does w h comes (f h) = rw (link, q) refl in
           let here : host_hears s comes ≡ host_stepped s comes (f s.host) = rw q refl in
-          subst A (sym here) (subst B (sym (there ∙ ap (λ n. host_does w h comes (f n)) (sym host))) (does_in_world comes (f s.host)))
+          subst A (sym here) (subst B (sym ((rw (link, q) refl) ∙ ap (λ n. host_does w h comes (f n)) (sym host))) (does_in_world comes (f s.host)))
 
 -- ## Power, memories and losses
 
@@ -120,9 +115,8 @@ module _ (w : NodeWorld) (h : ℕ) (s : Site) (found : site_at w.sites h ≡ Som
       → ChangesSite w h s (record s { memory = record s.memory { plan = Some plan } }, [])
       (with_memory h (record (memory_at w h) { plan = Some plan }) w, [])
   armed_in_world plan =
-      let m : Memory = record (memory_at w h) { plan = Some plan } in
       record {
-        change = λ x. record x { memory = m };
+        change = λ x. record x { memory = (record (memory_at w h) { plan = Some plan }) };
         world = rw number refl;
         site = ap (λ (x : Memory). record s { memory = record x { plan = Some plan } }) memory_is;
         entries = refl;
@@ -139,11 +133,10 @@ module _ (w : NodeWorld) (h : ℕ) (s : Site) (found : site_at w.sites h ≡ Som
       (loses_power_at h (boot_written w h), entry.Cut h ∷ [])
   boot_lost =
       let v : NodeWorld = record w { sites = with_site h (λ x. record x { memory = M }) w.sites } in
-      let cut : loses_power_at h v ≡ record v { sites = with_site h host_cut v.sites } = rw number refl in
       record {
         change = λ x. host_cut (record x { memory = M });
         world = ap (loses_power_at h) written
-            ∙ (cut ∙ ap (λ xs. record w { sites = xs }) (with_twice h host_cut (λ x. record x { memory = M }) (λ x. refl) w.sites));
+            ∙ ((rw number refl) ∙ ap (λ xs. record w { sites = xs }) (with_twice h host_cut (λ x. record x { memory = M }) (λ x. refl) w.sites));
         site = ap (λ (x : Memory). host_cut (record s { memory = after_planned (boot_writes x.content) x })) memory_is;
         entries = ap (λ n. entry.Cut n ∷ []) (sym its_host);
       }
@@ -211,7 +204,6 @@ pub loses_in_world : (w : NodeWorld) (e : End) (why : Loss) (s : Site) (found : 
 loses_in_world w e why s found far =
     let lost : Site → Site = λ x. record x { link = happens x.link (at e (Lose why)); node = counts why e.link x.node } in
     let link : link_to w.sites e.link ≡ s.link = link_is w.sites e.link s found in
-    let host : s.host ≡ e.link = site_host w.sites e.link s found in
     let is : frame_lost w e why ≡ (
       record w { sites = with_site e.link lost w.sites },
       entries_for e.link (first_lost Host why (link_to w.sites e.link).to_host),
@@ -223,7 +215,7 @@ loses_in_world w e why s found far =
     (record {
       change = lost;
       world = refl;
-      site = ap (λ n. record s { link = happens s.link (at e (Lose why)); node = counts why n s.node }) (sym host)
+      site = ap (λ n. record s { link = happens s.link (at e (Lose why)); node = counts why n s.node }) (sym (site_host w.sites e.link s found))
           ∙ sym (ap (λ b. record s { link = happens s.link (at e (Lose why)); node = cond b (counts why s.host s.node) s.node }) far);
       entries = ap (λ (l : Link). entries_for e.link (first_lost Host why l.to_host)) link ∙ ap (entries_for e.link) (sym side);
     })
@@ -375,10 +367,7 @@ nowhere sites h there none = let z : None ≡ Some there.0 = sym none ∙ there.
 -- no host has this number
 pub none_changed : (h : ℕ) (f : Site → Site) (sites : List Site) → site_at sites h ≡ None → with_site h f sites ≡ sites
 none_changed h f [] q = refl
-none_changed h f (x ∷ sites) q = go (x.host == h) refl (none_changed h f sites)
-  where
-    go : (b : Bool) → (x.host == h) ≡ b → (site_at sites h ≡ None → with_site h f sites ≡ sites) → with_site h f (x ∷ sites) ≡ x ∷ sites
-    go b e later = grind arith
+none_changed h f (x ∷ sites) q = let h0 = x.host == h in let h1 = none_changed h f sites in grind arith
 
 pub runs_so : (o : Option Running) → o ≢ None → (r : Running) × (o ≡ Some r)
 runs_so o n = grind arith
@@ -425,8 +414,7 @@ asked_mute asked h = grind arith
 pub steps_there : (w : NodeWorld) (h : ℕ) (s : Site) → site_at w.sites h ≡ Some s → s.host ≡ h → (comes : Comes) (f : ℕ → Work → Work)
     → ChangesSite w h s (host_stepped s comes (f s.host)) (host_does w h comes (f h))
 steps_there w h s found host comes f =
-    let C : ℕ → Type 0 = λ n. ChangesSite w h s (host_stepped s comes (f s.host)) (host_does w h comes (f n)) in
-    subst C host (does_in_world w h s found comes (f s.host))
+    subst (λ n. ChangesSite w h s (host_stepped s comes (f s.host)) (host_does w h comes (f n))) host (does_in_world w h s found comes (f s.host))
 
 pub stays_so : (w : NodeWorld) (i h : ℕ) (a : StandsAt i h w.sites) → IsOrderly w → ChangesSite w h a.site (a.site, []) (w, [])
 stays_so w i h a o =
@@ -481,19 +469,13 @@ split_at (x ∷ xs) h s q = go (x.host == h) refl (split_at xs h s)
   where
     go : (b : Bool) → (x.host == h) ≡ b → (site_at xs h ≡ Some s → Split xs s) → Split (x ∷ xs) s
     go true e later =
-        let z : Some x ≡ Some s = rw e at q in
-        let one : x ≡ s = cc in
-        record { front = []; back = xs; is = ap (λ y. y ∷ xs) one }
+        record { front = []; back = xs; is = ap (λ y. y ∷ xs) cc }
     go false e later = let r = later (rw e at q) in record { front = x ∷ r.front; back = r.back; is = ap (λ ys. x ∷ ys) r.is }
 
 near_in : (front : List Site) (s t : Site) (back : List Site) (h : ℕ) → LeavesNear s t
     → (link_to (front ++ t ∷ back) h).controller ≡ (link_to (front ++ s ∷ back) h).controller
 near_in [] s t back h a = grind arith
-near_in (x ∷ front) s t back h a = go (x.host == h) refl (near_in front s t back h a)
-  where
-    go : (b : Bool) → (x.host == h) ≡ b → (link_to (front ++ t ∷ back) h).controller ≡ (link_to (front ++ s ∷ back) h).controller
-        → (link_to (x ∷ (front ++ t ∷ back)) h).controller ≡ (link_to (x ∷ (front ++ s ∷ back)) h).controller
-    go b e later = grind arith
+near_in (x ∷ front) s t back h a = let h0 = x.host == h in let h1 = near_in front s t back h a in grind arith
 
 abbrev near_of : List Site → ℕ → NumberedEnd
 near_of sites h = (link_to sites h).controller
@@ -519,10 +501,8 @@ module _ (w : NodeWorld) (h : ℕ) (s : Site) (found : site_at w.sites h ≡ Som
       → WorldBecomes k new before later now
   host_becomes k ks new before later world b =
       let Q : Memory → Option Running → (ℕ → NumberedEnd) → Type 0 = λ m node near. IsNodePlace k m node near in
-      let memory : now.0.memory ≡ w.memory = ap (λ (v : NodeWorld). v.memory) c.world in
       let node : now.0.controller ≡ w.controller = ap (λ (v : NodeWorld). v.controller) c.world in
       let one = subst (λ near. Q w.memory w.controller near) (sym all_left) world.controller in
-      let two = subst (λ n. Q w.memory n (near_of now.0.sites)) (sym node) one in
       grind arith
 
   pub host_becomes_unless : {Why : Type 0} (k : Power) (ks new : List HostSite) (before later : List Entry) (cause : Option Why)
@@ -609,12 +589,7 @@ near_ends sites h = (link_to sites h).controller
 
 near_kept : (h : ℕ) (why : Loss) (sites : List Site) (k : ℕ) → (link_to (with_site h (lost_on why) sites) k).controller ≡ (link_to sites k).controller
 near_kept h why [] k = refl
-near_kept h why (s ∷ sites) k = go (s.host == h) (s.host == k) refl refl (near_kept h why sites k)
-  where
-    go : (b c : Bool) → (s.host == h) ≡ b → (s.host == k) ≡ c
-        → (link_to (with_site h (lost_on why) sites) k).controller ≡ (link_to sites k).controller
-        → (link_to (with_site h (lost_on why) (s ∷ sites)) k).controller ≡ (link_to (s ∷ sites) k).controller
-    go b c p q later = grind arith
+near_kept h why (s ∷ sites) k = let h0 = s.host == h in let h1 = s.host == k in let h2 = near_kept h why sites k in grind arith
 
 all_near : (h : ℕ) (why : Loss) (sites : List Site) → near_ends (with_site h (lost_on why) sites) ≡ near_ends sites
 all_near h why sites = λ i k. near_kept h why sites k i
@@ -637,12 +612,11 @@ pub lost_to_controller : (k : Power) (ks : List HostSite) (w : NodeWorld) (i : �
     → now ≡ before ++ entries_for e.link (first_lost (side_of e) why (frames_to a.site.link e))
     → WorldBecomes k (slice_set ks i new) before now (frame_lost w e why)
 lost_to_controller k ks w i e a new why before now o near all site place noted =
-    let found = site_stands w i e.link a o in
     let W : End → Type 0 = λ x. SiteIs new (record a.site { link = happens a.site.link (at x (Lose why)) })
     → now ≡ before ++ entries_for x.link (first_lost (side_of x) why (frames_to a.site.link x))
     → WorldBecomes k (slice_set ks i new) before now (frame_lost w x why) in
     subst W (controller_end_is e near)
-    (λ is told. lost_there k (slice_set ks i new) w e.link a.site why before now found place
+    (λ is told. lost_there k (slice_set ks i new) w e.link a.site why before now (site_stands w i e.link a o) place
     (changed_there i e.link (lost_on why) ks w.sites a.site new a o.different refl all is) told) site noted
 
 -- A line at which a host alone does something leaves the controller as it is.
@@ -666,10 +640,9 @@ module _ (k : Power) (ks new : List HostSite) (noted : List Entry) (header : Hea
       go None sites =
           let s : Site = there.0 in
           let after : NodeWorld × List Entry = host_does w e.link NoInput f in
-          let b : SitesBecome new [] after.1 after = grind arith in
           subst StillIs (sym is)
           (host_becomes w e.link s there.1 may.goes_on.orderly (host_stepped s NoInput f) after (does_in_world w e.link s there.1 NoInput f)
-          (stepped_leaves s NoInput f) k ks new [] after.1 world b).world
+          (stepped_leaves s NoInput f) k ks new [] after.1 world (grind arith)).world
 
   -- a host sends a message
   pub send_played : (said : Line) (e : End) (pid : _) (message : _) → said ≡ line.Send e pid message → MayPlay header said w

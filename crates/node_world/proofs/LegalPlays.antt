@@ -74,17 +74,11 @@ module _ (header : Header) where
   asked : MayBegin header → (plays : List Play) (before : List Line)
       → lines_asking (fold (λ (ls : List Line) (p : Play). ls ++ lines_of_play header ls p) before plays) ≤ lines_asking before + lines_said plays
   asked begun [] before = omega arith
-  asked begun (Said l ∷ plays) before =
-      let rest = asked begun plays (before ++ l ∷ []) in
-      let sum = asking-append before (l ∷ []) in
-      let one = asking_few (l ∷ []) in
-      omega (arith, rest, sum, one)
+  asked begun (Said l ∷ plays) before = omega (arith, (asked begun plays (before ++ l ∷ [])), (asking-append before (l ∷ [])), (asking_few (l ∷ [])))
   asked begun (Round ∷ plays) before =
       let lines : List Line = round_behind header before in
-      let rest = asked begun plays (before ++ lines) in
-      let sum = asking-append before lines in
       let none = rounds_ask_none lines (round_known header begun (hosts_stay_behind header) before) in
-      omega (arith, rest, sum, none)
+      omega (arith, (asked begun plays (before ++ lines)), (asking-append before lines), none)
 
   -- no more lines ask for something than are said
   pub said_ask_few : MayBegin header → (plays : List Play) → lines_said plays ≤ 20000 → AskFew header plays
@@ -94,9 +88,7 @@ module _ (header : Header) where
   pub still_ask_few : (plays later : List Play) (lines : List Line) → lines_played header later ≡ lines_played header plays ++ lines
       → AllByRecursion AsksNone lines → AskFew header plays → AskFew header later
   still_ask_few plays later lines is are few =
-      let sum = ap lines_asking is ∙ asking-append (lines_played header plays) lines in
-      let none = none_asked lines are in
-      omega (arith, sum, none, few)
+      omega (arith, (ap lines_asking is ∙ asking-append (lines_played header plays) lines), (none_asked lines are), few)
 
   -- ## Histories
 
@@ -176,9 +168,8 @@ module _ (k n : ℕ) where
     by_node : (eqb m n ≡ true) ⊎ (eqb m n ≡ false) → AreThere k (book_after n (book_in t n) (entry.Booted m j)) (last_after n (last_in t n) (entry.Booted m j))
     by_node (inl is) =
         let here = finds j (ap (λ x. entry.Booted x j) (eqb-true m n is)) in
-        let most = found_most j t keeps here in
         let least = found_least j t here in
-        rw is (record { all = omega (arith, length-take j (commands_in t n), most, least); more = λ o. absurd o })
+        rw is (record { all = omega (arith, length-take j (commands_in t n), (found_most j t keeps here), least); more = λ o. absurd o })
     by_node (inr other) = rw other keeps
   after_one t (entry.Cut m) keeps finds = grind arith
   after_one t _ keeps finds = keeps

@@ -25,11 +25,7 @@ within {header} {said} {w} may = record { goes_on = may.goes_on; few = longer 25
 
 none_there : (h : ℕ) (sites : List Site) → site_at sites h ≡ None → AllByRecursion (λ k. (k == h) ≡ false) (hosts_in sites)
 none_there h [] q = tt
-none_there h (x ∷ sites) q = go (x.host == h) refl (none_there h sites)
-  where
-    go : (b : Bool) → (x.host == h) ≡ b → (site_at sites h ≡ None → AllByRecursion (λ k. (k == h) ≡ false) (hosts_in sites))
-        → AllByRecursion (λ k. (k == h) ≡ false) (hosts_in (x ∷ sites))
-    go b e later = grind arith
+none_there h (x ∷ sites) q = let h0 = x.host == h in let h1 = none_there h sites in grind arith
 
 -- a host of the header is there
 pub is_there : {header : Header} {said : Line} {w : NodeWorld} (h : ℕ) → MayPlay header said w → Contains header.hosts.items h → IsThere h w
@@ -39,8 +35,7 @@ is_there {header} {said} {w} h may known = go (site_at w.sites h) refl
     go (Some s) q = (s, q)
     go None q =
         let P : ℕ → Type 0 = λ k. (k == h) ≡ false in
-        let hosts : Contains (hosts_in w.sites) h = subst (λ xs. Contains xs h) (sym may.hosts_are) known in
-        let off = All-contains P (hosts_in w.sites) h (All-from_recursion P (hosts_in w.sites) (none_there h w.sites q)) hosts in
+        let off = All-contains P (hosts_in w.sites) h (All-from_recursion P (hosts_in w.sites) (none_there h w.sites q)) (grind arith) in
         absurd (true≢false (sym (eq-eqb h h refl) ∙ off))
 
 -- ## What becomes of it
@@ -137,9 +132,7 @@ any_found h (x ∷ sites) q = go (x.host == h) refl (any_found h sites)
     go false e later = let r = later (rw e at q) in (r.0, rw e r.1)
 
 pub node_known : (w : NodeWorld) (hosts : List ℕ) (n : ℕ) → hosts_in w.sites ≡ hosts → IsNodeOf hosts n → (n == 0) ≡ false → IsThere n w
-node_known w hosts n same known off =
-    let q : IsTrue (list_any (λ k. k == n) hosts) = rw off at known in
-    any_found n w.sites (subst (λ hs. IsTrue (list_any (λ k. k == n) hs)) (sym same) q)
+node_known w hosts n same known off = any_found n w.sites (subst (λ hs. IsTrue (list_any (λ k. k == n) hs)) (sym same) (rw off at known))
 
 -- ## The first cause
 

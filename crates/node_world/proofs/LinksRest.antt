@@ -1,9 +1,9 @@
 -- Whether the links of a world are at rest, as it is read of its nodes and wires one by one.
 use Rattle.std.specs.List.{list_all}
-use Rattle.node_world.proofs.Words.{AllByRecursion, AreTimely, Bool, Clf, Core, Desk, HasEnds, HostSite, IfItRuns, IsNodePlace, List, MayGoOn, Memory, Node}
+use Rattle.node_world.proofs.Words.{AllByRecursion, AreTimely, Bool, Core, Desk, HasEnds, HostSite, IfItRuns, IsNodePlace, List, MayGoOn, Memory, Node}
 use Rattle.node_world.proofs.Words.{NodeWorld, None, NumberedEnd, Off, On, OnWire, Option, Port, Power, Running, RunsAs, Site, SiteIs, SitesAre, Some, [], ap}
 use Rattle.node_world.proofs.Words.{append-nil, append_assoc, ap₂, arith, false, get_or, hosts_in, is_clear, length, length-append, link_is, link_to, map}
-use Rattle.node_world.proofs.Words.{new_clf, new_link_end, port_for, refl, site_at, subst, sym, true, ℕ, ◌&&◌, ◌++◌, ◌+◌, ◌<◌, ◌∙◌, ◌∷◌, ◌≡◌, ◌≤◌}
+use Rattle.node_world.proofs.Words.{port_for, refl, site_at, subst, sym, true, ℕ, ◌&&◌, ◌++◌, ◌+◌, ◌<◌, ◌∙◌, ◌∷◌, ◌≡◌, ◌≤◌}
 use Rattle.link_laws.specs.machine.AtRest.{end_rests}
 use Rattle.link_laws.specs.messages.Rest.{link_rests}
 use Rattle.node_machine.specs.world.Rounds.{sites_rest}
@@ -79,9 +79,7 @@ module _ (w : NodeWorld) (may : MayGoOn w) where
       go : (sites : List Site) → AllByRecursion (λ (s : Site). site_at w.sites s.host ≡ Some s) sites → true ≡ list_all near_rests sites
       go [] a = refl
       go (s ∷ sites) a =
-          let new : s.link.controller.side ≡ new_link_end (Clf new_clf) = rw off at (timely s.host s a.0).controller in
-          let rests : end_rests s.link.controller.side ≡ true = ap end_rests new in
-          rw rests (go sites a.1)
+          rw (ap end_rests (rw off at (timely s.host s a.0).controller)) (go sites a.1)
 
   -- hosts may be looked at
   looked_at : AreTimely w → (sites : List Site) → AllByRecursion (λ (s : Site). site_at w.sites s.host ≡ Some s) sites
@@ -157,10 +155,7 @@ none_looked_at sites = record { front = []; back = sites; is = refl; place = ref
 
 all_with : (f : Site → Bool) (xs ys : List Site) → list_all f (xs ++ ys) ≡ (list_all f xs && list_all f ys)
 all_with f [] ys = refl
-all_with f (x ∷ xs) ys = ap (λ b. f x && b) (all_with f xs ys) ∙ go (f x)
-  where
-    go : (b : Bool) → (b && (list_all f xs && list_all f ys)) ≡ ((b && list_all f xs) && list_all f ys)
-    go b = grind arith
+all_with f (x ∷ xs) ys = ap (λ b. f x && b) (all_with f xs ys) ∙ (let h0 = f x in grind arith)
 
 last_of : (Q : Site → Type 0) (front : List Site) (s : Site) (back : List Site) → AllByRecursion Q (front ++ s ∷ back) → Q s
 last_of Q [] s back a = a.0

@@ -6,7 +6,7 @@ use Rattle.node_world.proofs.Words.{Last, Line, LineOutcome, List, Loses, Loss, 
 use Rattle.node_world.proofs.Words.{Option, Port, Resets, Running, Side, Site, SiteKeeps, Some, Starts, State, Step, Takes, Ticks, WasRefused, Work, WouldFind}
 use Rattle.node_world.proofs.Words.{[], after_host, after_planned, all_aged, all_happen, ap, arith, beginning, begins_with, book_in, boot_found, boot_writes}
 use Rattle.node_world.proofs.Words.{boot_written, boots, by_boot, by_coming, by_controller, by_controller_tick, by_host, by_host_tick, by_loss, by_memory}
-use Rattle.node_world.proofs.Words.{by_power, by_running, can_happen, cases_Bool, changed_if, close, comes_at, commands_in, cond, controller_does}
+use Rattle.node_world.proofs.Words.{by_power, by_running, can_happen, cases_Bool, close, comes_at, commands_in, cond, controller_does}
 use Rattle.node_world.proofs.Words.{controller_ticks, controller_work, count_of, counts, current, end_c, end_h, eq-eqb, eqb, eqb-true, fails_within, false}
 use Rattle.node_world.proofs.Words.{found, frame_lost, goes_on, happens, host_cut, host_does, host_tick, host_work, hosts_tick, inl, inr, is_some, last_in}
 use Rattle.node_world.proofs.Words.{length, length-take, line_step, link_after_controller, links_of, loses_power_at, map, memory_at, min, ne_eqb, near_tick}
@@ -134,14 +134,10 @@ module _ (n : ℕ) (hosts : List ℕ) (t : List Entry) (m : Memory) (would : Wou
 
 pub planned_reads : (writes : List Write) (m : Memory) → (after_planned writes m).failing_read ≡ m.failing_read
 planned_reads [] m = refl
-planned_reads (w ∷ writes) m = go (is_next m.plan) (planned_reads writes (memory_after m w.at w.bytes))
+planned_reads (w ∷ writes) m = let h0 = is_next m.plan in let h1 = planned_reads writes (memory_after m w.at w.bytes) in grind arith
   where
     one : (b : Bool) → is_next m.plan ≡ b → (memory_after m w.at w.bytes).failing_read ≡ m.failing_read
     one b q = grind arith
-
-    go : (b : Bool) → (after_planned writes (memory_after m w.at w.bytes)).failing_read ≡ (memory_after m w.at w.bytes).failing_read
-        → (cond b (memory_after m w.at w.bytes) (after_planned writes (memory_after m w.at w.bytes))).failing_read ≡ m.failing_read
-    go b later = grind arith
 
 -- ## Sites
 
@@ -155,10 +151,7 @@ each f same (s ∷ sites) a = (same s ∙ a.0, each f same sites a.1)
 one_of : (h : ℕ) (f : Site → Site) → ((s : Site) → s.memory.failing_read ≡ None → (f s).memory.failing_read ≡ None) → (sites : List Site) → AreFine sites
     → AreFine (with_site h f sites)
 one_of h f keeps [] a = tt
-one_of h f keeps (s ∷ sites) a = (go (s.host == h), one_of h f keeps sites a.1)
-  where
-    go : (b : Bool) → (changed_if b f s).memory.failing_read ≡ None
-    go b = grind arith
+one_of h f keeps (s ∷ sites) a = ((let h0 = s.host == h in grind arith), one_of h f keeps sites a.1)
 
 pub reads_at_first : (hosts : List ℕ) → ReadsGoThrough (new_world hosts)
 reads_at_first hosts = record { controller = refl; hosts = go hosts }
@@ -315,10 +308,9 @@ module _ (hosts : List ℕ) (are : AreHosts hosts) where
             (boot_lost 0 hosts t w.memory all.controller.would fails) (tt, tt) (refl, tt) (λ s. refl) (λ s x. x) in
             rw fails (some_of t _ (entry.Cut 0 ∷ []) g)
         go (inr none) =
-            let running : Running = found 0 hosts w.memory.content in
             let keeps = runs_as_found 0 hosts t w.memory all.controller.would none in
             let g = controller_goes hosts are t w (as_found 0 hosts t w.memory all.controller.would ∷ [])
-            (after_planned (boot_writes w.memory.content) w.memory) (Some running) (λ s. s) all keeps
+            (after_planned (boot_writes w.memory.content) w.memory) (Some (found 0 hosts w.memory.content)) (λ s. s) all keeps
             (told_as_found 0 hosts t w.memory all.controller.would, tt) (refl, tt) (λ s. refl) (λ s x. x) in
             let now : KeepSome hosts (record {
               memory = after_planned (boot_writes w.memory.content) w.memory;
@@ -403,11 +395,7 @@ module _ (hosts : List ℕ) (are : AreHosts hosts) where
     -- no host has this number
     none_found : (sites : List Site) (n : ℕ) → site_at sites n ≡ None → AllByRecursion (λ k. eqb k n ≡ false) (hosts_in sites)
     none_found [] n e = tt
-    none_found (s ∷ sites) n e = go (cases_Bool (eqb s.host n)) (none_found sites n)
-      where
-        go : (eqb s.host n ≡ true) ⊎ (eqb s.host n ≡ false) → (site_at sites n ≡ None → AllByRecursion (λ k. eqb k n ≡ false) (hosts_in sites))
-            → AllByRecursion (λ k. eqb k n ≡ false) (hosts_in (s ∷ sites))
-        go a later = grind arith
+    none_found (s ∷ sites) n e = let h0 = cases_Bool (eqb s.host n) in let h1 = none_found sites n in grind arith
 
     -- nothing is read of a node that isn't there
     nobody_boots : (n : ℕ) → eqb n 0 ≡ false → site_at w.sites n ≡ None → KeepSome hosts (boots w n).0

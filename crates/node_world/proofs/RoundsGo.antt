@@ -57,13 +57,10 @@ there_still h v w q there = found_still h v.sites w.sites there.0 q there.1
 
 pub few_on_way : (to : End) (h : ℕ) (ks : List HostSite) (sites : List Site) → SitesAre ks sites → length (frames_to (link_to sites h) to) ≤ 64
 few_on_way to h [] [] a = grind arith
-few_on_way to h (k ∷ ks) (s ∷ sites) a = go (s.host == h) refl (few_on_way to h ks sites a.1)
+few_on_way to h (k ∷ ks) (s ∷ sites) a = let h0 = s.host == h in let h1 = few_on_way to h ks sites a.1 in grind arith
   where
     here : (b : Bool) → to.at_host ≡ b → length (frames_to s.link to) ≤ 64
     here b e = grind arith
-
-    go : (b : Bool) → (s.host == h) ≡ b → length (frames_to (link_to sites h) to) ≤ 64 → length (frames_to (link_to (s ∷ sites) h) to) ≤ 64
-    go b e later = grind arith
 few_on_way to h [] (s ∷ sites) a = absurd a
 few_on_way to h (k ∷ ks) [] a = absurd a
 
@@ -94,12 +91,6 @@ pub record Again (k : Power) (ks : List HostSite) (most : ℕ) (before noted : L
   pub hosts : hosts_in behind.sites ≡ hosts_in w.sites
   pub few : FewBehind (most + 2 * i) behind
 
-zero_plus : (m : ℕ) → 0 + m ≡ m
-zero_plus m = omega arith
-
-plus_suc : (i m : ℕ) → i + 1 + m ≡ i + suc m
-plus_suc i m = omega arith
-
 pub happens_first : (v : NodeWorld) (c : Happening) (m : ℕ) → can_happen v c ≡ true
     → all_happen v (replicate (suc m) c)
     ≡ (
@@ -120,7 +111,7 @@ module _ (w : NodeWorld) (c : Happening) (most : ℕ) where
       record {
         behind = w;
         events = [];
-        leads = λ m. ap (λ n. all_happen w (replicate n c)) (zero_plus m);
+        leads = λ m. ap (λ n. all_happen w (replicate n c)) (omega arith);
         world = world;
         told = sym (append-nil before);
         goes_on = may;
@@ -143,7 +134,7 @@ module _ (w : NodeWorld) (c : Happening) (most : ℕ) where
         events = a.events ++ o ∷ [];
         leads = λ m.
             let x : NodeWorld × List Occurrence = all_happen v (replicate m c) in
-            ap (λ n. all_happen w (replicate n c)) (plus_suc i m)
+            ap (λ n. all_happen w (replicate n c)) (omega arith)
             ∙ (a.leads (suc m)
             ∙ (ap (λ (p : NodeWorld × List Occurrence). let q : NodeWorld × List Occurrence = (p.0, a.events ++ p.1) in q) (happens_first a.behind c m can)
             ∙ ap (λ es. let q : NodeWorld × List Occurrence = (x.0, es) in q) (sym (append_assoc a.events (o ∷ []) x.1))));
@@ -163,8 +154,7 @@ module _ (w : NodeWorld) (c : Happening) (most : ℕ) where
   pub again_ends : (k : Power) (ks : List HostSite) (before noted : List Entry) (i : ℕ) (a : IsSo k ks before noted i)
       → all_happen w (replicate i c) ≡ (a.behind, a.events)
   again_ends k ks before noted i a =
-      let zero_more : i + 0 ≡ i = omega arith in
-      ap (λ n. all_happen w (replicate n c)) (sym zero_more)
+      ap (λ n. all_happen w (replicate n c)) (sym (omega arith))
       ∙ (a.leads 0 ∙ ap (λ es. let q : NodeWorld × List Occurrence = (a.behind, es) in q) (append-nil a.events))
 
   pub again_stops : (k : Power) (ks : List HostSite) (before noted : List Entry) (i n : ℕ) (a : IsSo k ks before noted i) → i ≤ n
@@ -172,7 +162,7 @@ module _ (w : NodeWorld) (c : Happening) (most : ℕ) where
   again_stops k ks before noted i n a q can = go (more i n q)
     where
       more : (i n : ℕ) → i ≤ n → (m : ℕ) × (i + m ≡ n)
-      more zero n q = (n, zero_plus n)
+      more zero n q = (n, (omega arith))
       more (suc i) zero q = absurd (omega (arith, q))
       more (suc i) (suc n) q = let r = more i n (omega (arith, q)) in let z = r.1 in (r.0, omega (arith, z))
 
@@ -214,7 +204,7 @@ taken_hosts (suc n) w e = go (can_happen w (Takes e)) refl (taken_hosts n (world
 
 taken_may : (n : ℕ) (w : NodeWorld) (e : End) → MayGoOn w → MayGoOn (all_happen w (replicate n (Takes e))).0
 taken_may zero w e may = may
-taken_may (suc n) w e may = go (can_happen w (Takes e)) refl (taken_may n (world_step w (Takes e)).0 e next)
+taken_may (suc n) w e may = let h0 = can_happen w (Takes e) in let h1 = taken_may n (world_step w (Takes e)).0 e next in grind arith
   where
     next : MayGoOn (world_step w (Takes e)).0
     next = record {
@@ -222,14 +212,9 @@ taken_may (suc n) w e may = go (can_happen w (Takes e)) refl (taken_may n (world
       hosts = subst (AllByRecursion IsHost) (sym (hosts_come w e NextFrame)) may.hosts;
     }
 
-    go : (b : Bool) → can_happen w (Takes e) ≡ b → MayGoOn (all_happen (world_step w (Takes e)).0 (replicate n (Takes e))).0
-        → MayGoOn (all_happen w (replicate (suc n) (Takes e))).0
-    go b q later = grind arith
-
 taken_few : (n m : ℕ) (w : NodeWorld) (e : End) → m ≤ 64 → FewBehind n w → FewBehind (n + 128) (all_happen w (replicate m (Takes e))).0
 taken_few n m w e most few =
-    let many : length (replicate m (Takes e)) ≡ m = repeats m (Takes e) in
-    longer (n + 2 * length (replicate m (Takes e))) (n + 128) (all_happen w (replicate m (Takes e))).0 (omega (arith, many, most))
+    longer (n + 2 * length (replicate m (Takes e))) (n + 128) (all_happen w (replicate m (Takes e))).0 (omega (arith, (repeats m (Takes e)), most))
     (few_behind_all (replicate m (Takes e)) n w few)
 
 -- ## Ends one after another
@@ -252,16 +237,10 @@ pub record HaveTaken (k : Power) (ks : List HostSite) (before noted : List Entry
 -- the host with a number that is among those of the hosts
 pub found_among : (h : ℕ) (front back : List ℕ) (sites : List Site) → hosts_in sites ≡ front ++ h ∷ back → (s : Site) × (site_at sites h ≡ Some s)
 found_among h [] back [] q = let z : [] ≡ h ∷ back = q in absurd (cc z)
-found_among h [] back (s ∷ sites) q =
-    let z : s.host ∷ hosts_in sites ≡ h ∷ back = q in
-    let same : s.host ≡ h = cc in
-    let here : (s.host == h) ≡ true = eq-eqb s.host h same in
-    (s, rw here refl)
+found_among h [] back (s ∷ sites) q = (s, rw (eq-eqb s.host h cc) refl)
 found_among h (x ∷ front) back [] q = let z : [] ≡ x ∷ (front ++ h ∷ back) = q in absurd (cc z)
 found_among h (x ∷ front) back (s ∷ sites) q =
-    let z : s.host ∷ hosts_in sites ≡ x ∷ (front ++ h ∷ back) = q in
-    let rest : hosts_in sites ≡ front ++ h ∷ back = cc in
-    go (s.host == h) refl (found_among h front back sites rest)
+    go (s.host == h) refl (found_among h front back sites cc)
   where
     go : (b : Bool) → (s.host == h) ≡ b → (t : Site) × (site_at sites h ≡ Some t) → (t : Site) × (site_at (s ∷ sites) h ≡ Some t)
     go true e later = (s, rw e refl)
@@ -279,7 +258,6 @@ module _ (w : NodeWorld) where
       let first : NodeWorld × List Occurrence = end_takes_all a.behind e in
       let rest : NodeWorld × List Occurrence = ends_take_all first.0 left in
       let m : ℕ = length (frames_at a.behind e) in
-      let most : m ≤ 64 = few_on_way e e.link ks a.behind.sites a.gone.world.sites in
       record {
         behind = first.0;
         events = a.events ++ first.1;
@@ -292,7 +270,7 @@ module _ (w : NodeWorld) where
         };
         goes_on = taken_may m a.behind e a.goes_on;
         hosts = taken_hosts m a.behind e ∙ a.hosts;
-        few = taken_few n m a.behind e most a.few;
+        few = taken_few n m a.behind e (few_on_way e e.link ks a.behind.sites a.gone.world.sites) a.few;
       }
 
   -- it may
@@ -346,7 +324,6 @@ module _ (w : NodeWorld) where
   host_read [] (x ∷ front) h back i site q place read = let z : [] ≡ x ∷ (front ++ h ∷ back) = q in absurd (cc z)
   host_read (k ∷ ks) [] h back i site q place read = grind arith
   host_read (k ∷ ks) (x ∷ front) h back i site q place read =
-      let z : k.host ∷ map (λ (y : HostSite). y.host) ks ≡ x ∷ (front ++ h ∷ back) = q in
       let rest : map (λ (y : HostSite). y.host) ks ≡ front ++ h ∷ back = cc in
       host_read ks front h back (length front) site rest refl (read ∙ ap (λ n. get_or (k ∷ ks) n site) (sym place))
 
@@ -370,21 +347,17 @@ module _ (w : NodeWorld) where
 
       go : (left : List ℕ) → a.left ≡ left → NextLink k ks before noted i site.host
       go [] q =
-          let none : length (hosts_in w.sites) ≡ i =
-          ap (λ (ns : List ℕ). length ns) (a.is ∙ (ap (λ ns. a.done ++ ns) q ∙ append-nil a.done)) ∙ a.place in
-          absurd (omega (arith, many, none, below))
+          absurd (omega (arith, many, (ap (λ (ns : List ℕ). length ns) (a.is ∙ (ap (λ ns. a.done ++ ns) q ∙ append-nil a.done)) ∙ a.place), below))
       go (h ∷ back) q =
           let is : hosts_in w.sites ≡ a.done ++ h ∷ back = a.is ∙ ap (λ ns. a.done ++ ns) q in
           let kept = hosts_kept ks a.taken.behind.sites a.taken.gone.world.sites ∙ (a.taken.hosts ∙ is) in
           let same : site.host ≡ h = host_read ks a.done h back i site kept a.place read in
-          let long : length (hosts_in w.sites) ≡ length w.sites = length-map w.sites (λ (s : Site). s.host) in
-          let seven = may.links in
           record {
             done = a.done;
             back = back;
             is = is ∙ ap (λ n. a.done ++ n ∷ back) (sym same);
             place = a.place;
-            few = omega (arith, below, many, long, seven);
+            few = omega (arith, below, many, (length-map w.sites (λ (s : Site). s.host)), may.links);
             taken = rw (ap (λ ns. ends_of ns) q ∙ ap (λ n. end_c n ∷ end_h n ∷ ends_of back) (sym same)) at a.taken;
           }
 
@@ -421,16 +394,14 @@ module _ (w : NodeWorld) where
 
       go : (left : List ℕ) → a.left ≡ left → AllTaken k ks before noted
       go (h ∷ back) q =
-          let more : length a.left ≡ length (h ∷ back) = ap (λ (ns : List ℕ). length ns) q in
-          absurd (omega (arith, many, long, more, over))
+          absurd (omega (arith, many, long, (ap (λ (ns : List ℕ). length ns) q), over))
       go [] q =
           let all : ends_take_all w (ends_in_order w) ≡ (a.taken.behind, a.taken.events) =
           a.taken.leads
           ∙ (ap (λ ns. followed_by a.taken.events (ends_take_all a.taken.behind (ends_of ns))) q
           ∙ ap (λ es. let p : NodeWorld × List Occurrence = (a.taken.behind, es) in p) (append-nil a.taken.events)) in
           let links : length (hosts_in w.sites) ≡ length w.sites = length-map w.sites (λ (s : Site). s.host) in
-          let seven = may.links in
-          let few = longer (250000000 + 256 * i) 300000000 a.taken.behind (omega (arith, long, links, seven)) a.taken.few in
+          let few = longer (250000000 + 256 * i) 300000000 a.taken.behind (omega (arith, long, links, may.links)) a.taken.few in
           record {
             gone = rw (← all) at a.taken.gone;
             within = subst (λ (p : NodeWorld × List Occurrence). IsWithinBounds p.0) (sym all) (record { goes_on = a.taken.goes_on; few = few });

@@ -1,12 +1,11 @@
 -- What is kept of hosts, one by one, as something happens to each of them.
-use Rattle.std.proofs.lemmas.List.{drop-set-lt, drop_more, get_or-set_same, get_or_at, length-take-le, set_at}
-use Rattle.std.proofs.lemmas.List.{get_or-set_other, take-append-drop}
+use Rattle.std.proofs.lemmas.List.{drop-set-lt, drop_more, get_or-set_same, get_or_at, length-take-le, set_at, get_or-set_other, take-append-drop}
 use Rattle.node_world.proofs.Words.{AllByRecursion, AreDifferent, AreSessions, Bool, Control, Controller, Entry, HasOneEnd, HaveRoom, HostSite, IsHost}
-use Rattle.node_world.proofs.Words.{IsNodePlace, IsOnly, Link, List, None, NumberedEnd, Port, SendsFrom, Site, SiteIs, SitesAre, Some, StandsAt, Wires}
-use Rattle.node_world.proofs.Words.{WiresStandFor, [], ap, append-nil, append_assoc, ap₂, arith, changed_if, drop, due_at, entries_for, eqb-false, false}
+use Rattle.node_world.proofs.Words.{IsNodePlace, IsOnly, Link, List, None, Port, SendsFrom, Site, SiteIs, SitesAre, Some, StandsAt, Wires}
+use Rattle.node_world.proofs.Words.{WiresStandFor, [], ap, append-nil, append_assoc, arith, changed_if, drop, due_at, entries_for, eqb-false, false}
 use Rattle.node_world.proofs.Words.{flat_map, flat_map-append, frames_emitted, frames_out, get_or, has_frames, hosts_in, length, length-append, length-map, map}
 use Rattle.node_world.proofs.Words.{map-append, max, number_of, option_map_or, port_at, put_all, puts_entries, refl, sent_port, sent_to, site_at, slice_set}
-use Rattle.node_world.proofs.Words.{subst, suc, swapped, sym, take, true, with_port, ℕ, ◌++◌, ◌+◌, ◌<◌, ◌==◌, ◌∙◌, ◌∷◌, ◌≡◌, ◌≢◌, ◌≤◌}
+use Rattle.node_world.proofs.Words.{subst, suc, swapped, sym, take, true, with_port, ℕ, ◌++◌, ◌+◌, ◌<◌, ◌==◌, ◌∙◌, ◌∷◌, ◌≡◌, ◌≤◌}
 use Rattle.node_world.proofs.EndsGo.{all_far}
 
 pub as_many : (ks : List HostSite) (sites : List Site) → SitesAre ks sites → length ks ≡ length sites
@@ -55,8 +54,7 @@ pub read_there : (ks : List HostSite) (front : List Site) (s : Site) (back : Lis
     → SitesAre ks (front ++ s ∷ back) → k ≡ get_or ks i k → SiteIs k s
 read_there ks front s back i k place a read =
     let b : Between ks front s back = between ks front s back a in
-    let same : k ≡ b.k = read ∙ (ap (λ zs. get_or zs i k) b.is ∙ get_or_at b.before b.k b.behind k i (b.place ∙ place)) in
-    rw same b.here
+    rw (read ∙ (ap (λ zs. get_or zs i k) b.is ∙ get_or_at b.before b.k b.behind k i (b.place ∙ place))) b.here
 
 -- and written there
 pub written_there : (ks : List HostSite) (front : List Site) (s t : Site) (back : List Site) (i : ℕ) (k : HostSite) → length front ≡ i
@@ -106,10 +104,9 @@ walk_next f g now sites before after i k w lt read = go w.left refl
   where
     go : (left : List Site) → w.left ≡ left → Next f g now sites before after i k w.done
     go [] q =
-        let many : length now ≡ length (map f w.done ++ w.left) = as_many now (map f w.done ++ w.left) w.stands in
         let none : length (map f w.done ++ w.left) ≡ i =
         ap (λ xs. length (map f w.done ++ xs)) q ∙ (ap length (append-nil (map f w.done)) ∙ (length-map w.done f ∙ w.place)) in
-        absurd (let over : length now ≡ i = many ∙ none in omega (arith, over, lt))
+        absurd (let over : length now ≡ i = (as_many now (map f w.done ++ w.left) w.stands) ∙ none in omega (arith, over, lt))
     go (s ∷ back) q =
         let there : SitesAre now (map f w.done ++ s ∷ back) = rw q at w.stands in
         let long : length (map f w.done) ≡ i = length-map w.done f ∙ w.place in
@@ -120,14 +117,13 @@ walk_next f g now sites before after i k w lt read = go w.left refl
           is = parts;
           here = read_there now (map f w.done) s back i k long there read;
           goes = λ new later stands noted.
-              let all : map f (w.done ++ s ∷ []) ++ back ≡ map f w.done ++ f s ∷ back = more w.done in
               record {
                 walked = record {
                   done = w.done ++ s ∷ [];
                   left = back;
                   is = parts ∙ sym (append_assoc w.done (s ∷ []) back);
                   place = length-append w.done (s ∷ []) ∙ ap (λ n. n + 1) w.place;
-                  stands = rw (← all) at (written_there now (map f w.done) s (f s) back i new long there stands);
+                  stands = rw (← (more w.done)) at (written_there now (map f w.done) s (f s) back i new long there stands);
                   noted = noted ∙ (ap (λ es. es ++ g s) w.noted ∙ (append_assoc before (flat_map g w.done) (g s)
                       ∙ ap (λ es. before ++ es) (sym (flat_map-append g w.done (s ∷ []) ∙ ap (λ es. flat_map g w.done ++ es) (append-nil (g s))))));
                 };
@@ -151,11 +147,10 @@ walk_ends f g now sites before after i w over = go w.left refl
         ap (λ xs. map f w.done ++ xs) q ∙ (append-nil (map f w.done) ∙ ap (map f) (sym all)) in
         (rw same at w.stands, w.noted ∙ ap (λ xs. before ++ flat_map g xs) (sym all), sym all)
     go (s ∷ back) q =
-        let many : length now ≡ length (map f w.done ++ w.left) = as_many now (map f w.done ++ w.left) w.stands in
         let long : length (map f w.done ++ w.left) ≡ i + length (s ∷ back) =
         ap (λ xs. length (map f w.done ++ xs)) q ∙ (length-append (map f w.done) (s ∷ back)
         ∙ ap (λ n. n + length (s ∷ back)) (length-map w.done f ∙ w.place)) in
-        absurd (let more : length now ≡ i + length (s ∷ back) = many ∙ long in omega (arith, more, over))
+        absurd (let more : length now ≡ i + length (s ∷ back) = (as_many now (map f w.done ++ w.left) w.stands) ∙ long in omega (arith, more, over))
 
 -- The frames of a node go out at its ends of the links to all hosts.
 
@@ -171,11 +166,7 @@ one_stays k h (x ∷ ports) p q a = (go (x.desk.host == k) refl, one_stays k h p
 
 found_stays : (k h : ℕ) (ports : List Port) (p : Port) → (k == h) ≡ false → port_at ports h ≡ Some p → port_at (with_port k sent_port ports) h ≡ Some p
 found_stays k h [] p q f = absurd (cc f)
-found_stays k h (x ∷ ports) p q f = go (x.desk.host == k) (x.desk.host == h) refl refl (found_stays k h ports p q)
-  where
-    go : (b c : Bool) → (x.desk.host == k) ≡ b → (x.desk.host == h) ≡ c
-        → (port_at ports h ≡ Some p → port_at (with_port k sent_port ports) h ≡ Some p) → port_at (with_port k sent_port (x ∷ ports)) h ≡ Some p
-    go b c e d later = grind arith
+found_stays k h (x ∷ ports) p q f = let h0 = x.desk.host == k in let h1 = x.desk.host == h in let h2 = found_stays k h ports p q in grind arith
 
 -- an end stays as it is while frames go out to others
 pub stays : (hosts : List ℕ) (h : ℕ) (ports : List Port) (p : Port) → AllByRecursion (λ k. (k == h) ≡ false) hosts → port_at ports h ≡ Some p
@@ -250,11 +241,9 @@ sends_next Runs ports now hosts before after i k different ends s lt read =
       sends = subst At (sym n.here.host) (record { runs = s.runs; here = there.0; only = there.1 });
       wires = n.here.wires;
       goes = λ Again new later runs wires noted.
-          let W : List Control → Type 0 = λ cs. WiresStandFor new (put_all x.link cs) in
           let site : SiteIs (record k { wires = new }) (has_frames ports x) =
-          with_frames k new x (due_at ports x.host) n.here (subst W (sym due) wires) in
-          let told : later ≡ after ++ frames_emitted ports x = grind arith in
-          let longer = n.goes (record k { wires = new }) later site told in
+          with_frames k new x (due_at ports x.host) n.here (subst (λ cs. WiresStandFor new (put_all x.link cs)) (sym due) wires) in
+          let longer = n.goes (record k { wires = new }) later site (grind arith) in
           let names : sent_to (hosts_in longer.walked.done) ports ≡ with_port x.host sent_port now_ends =
           ap (λ xs. sent_to (hosts_in xs) ports) longer.done_is
           ∙ (ap (λ hs. sent_to hs ports) (map-append (λ (z : Site). z.host) done (x ∷ [])) ∙ sent_last (hosts_in done) x.host ports) in
@@ -267,8 +256,7 @@ sends_next Runs ports now hosts before after i k different ends s lt read =
     with_frames : (k : HostSite) (new : Wires) (x : Site) (cs : List Control) → SiteIs k x → WiresStandFor new (put_all x.link cs)
         → SiteIs (record k { wires = new }) (record x { link = put_all x.link cs })
     with_frames k new x cs a wires =
-        let Q : NumberedEnd → Type 0 = λ e. IsNodePlace k.power x.memory x.node (λ h. e) in
-        record { host = a.host; wires = wires; place = subst Q (sym (all_far x.link cs)) a.place }
+        record { host = a.host; wires = wires; place = subst (λ e. IsNodePlace k.power x.memory x.node (λ h. e)) (sym (all_far x.link cs)) a.place }
 
 pub all_sent : (Runs : List Port → Type 0) (ports : List Port) (now : List HostSite) (hosts : List Site) (before after : List Entry) (i : ℕ)
     → SendingOn Runs ports now hosts before after i → length now ≤ i → Runs (sent_to (hosts_in hosts) ports) × SitesAre now (map (has_frames ports) hosts)
@@ -279,11 +267,7 @@ all_sent Runs ports now hosts before after i s over =
 
 -- the room that is left on the wires to the hosts behind one to which frames went out
 pub room_left : (now : List HostSite) (i : ℕ) (k : HostSite) → i < length now → HaveRoom (drop i now) → HaveRoom (drop (i + 1) (slice_set now i k))
-room_left now i k lt a =
-    let parts : drop i now ≡ get_or now i k ∷ drop (i + 1) now = drop_more now i k lt in
-    let same : drop (i + 1) (slice_set now i k) ≡ drop (i + 1) now = drop-set-lt (i + 1) now i k (omega arith) in
-    let all : HaveRoom (get_or now i k ∷ drop (i + 1) now) = rw parts at a in
-    rw same all.1
+room_left now i k lt a = rw (drop-set-lt (i + 1) now i k (omega arith)) (rw (drop_more now i k lt) at a).1
 
 -- The place of a host in what is kept of all hosts, and the numbers of the sessions of the controller's ends.
 
@@ -316,9 +300,7 @@ pub record There (i : ℕ) (ks : List HostSite) (front back : List Site) (k : Ho
 pub there : (i : ℕ) (ks : List HostSite) (front back : List Site) (k : HostSite) → SitesAre ks (front ++ back)
     → length front ≡ i → i < length ks → k ≡ get_or ks i k → There i ks front back k
 there i ks front [] k a place lt read =
-    let many : length ks ≡ length (front ++ []) = as_many ks (front ++ []) a in
-    let none : length (front ++ []) ≡ i = ap length (append-nil front) ∙ place in
-    absurd (let over : length ks ≡ i = many ∙ none in omega (arith, over, lt))
+    absurd (let over : length ks ≡ i = (as_many ks (front ++ []) a) ∙ (ap length (append-nil front) ∙ place) in omega (arith, over, lt))
 there i ks front (s ∷ rest) k a place lt read =
     record { site = s; rest = rest; is = refl; here = read_there ks front s rest i k place a read }
 
@@ -357,13 +339,11 @@ none_there i h ks sites a p over = go p.back refl
   where
     go : (back : List Site) → p.back ≡ back → site_at sites h ≡ None
     go [] q =
-        let all : sites ≡ p.front = p.is ∙ (ap (λ xs. p.front ++ xs) q ∙ append-nil p.front) in
-        ap (λ xs. site_at xs h) all ∙ not_found h p.front p.others
+        ap (λ xs. site_at xs h) (p.is ∙ (ap (λ xs. p.front ++ xs) q ∙ append-nil p.front)) ∙ not_found h p.front p.others
     go (s ∷ rest) q =
-        let many : length ks ≡ length sites = as_many ks sites a in
         let long : length sites ≡ i + length (s ∷ rest) =
         ap length p.is ∙ (ap (λ xs. length (p.front ++ xs)) q ∙ (length-append p.front (s ∷ rest) ∙ ap (λ n. n + length (s ∷ rest)) p.place)) in
-        absurd (let more : length ks ≡ i + length (s ∷ rest) = many ∙ long in omega (arith, more, over))
+        absurd (let more : length ks ≡ i + length (s ∷ rest) = (as_many ks sites a) ∙ long in omega (arith, more, over))
 
 -- ## Numbers of sessions
 
@@ -382,8 +362,7 @@ kept_numbers : (front : List Site) (h n : ℕ) (sessions : List ℕ) → AllByRe
     → AreSessions sessions front → AreSessions (slice_set sessions h n) front
 kept_numbers [] h n sessions d a = tt
 kept_numbers (s ∷ front) h n sessions d a =
-    let other : s.host ≢ h = eqb-false s.host h d.0 in
-    (get_or-set_other sessions h s.host n 0 other ∙ a.0, kept_numbers front h n sessions d.1 a.1)
+    (get_or-set_other sessions h s.host n 0 (eqb-false s.host h d.0) ∙ a.0, kept_numbers front h n sessions d.1 a.1)
 
 -- one more number
 pub number_found : (i : ℕ) (ks : List HostSite) (sites : List Site) (sessions : List ℕ) (k : HostSite) (n : ℕ) → SitesAre ks sites
@@ -394,8 +373,7 @@ number_found i ks sites sessions k n a f lt read eight low number =
     let x : Site = t.site in
     let parts : sites ≡ f.front ++ x ∷ t.rest = f.is ∙ ap (λ xs. f.front ++ xs) t.is in
     let all : hosts_in sites ≡ hosts_in f.front ++ x.host ∷ hosts_in t.rest = ap hosts_in parts ∙ map-append (λ (z : Site). z.host) f.front (x ∷ t.rest) in
-    let is : n ≡ number_of x.link.controller =
-    number ∙ ap₂ max t.here.wires.here.emitted_is t.here.wires.here.took_is in
+    let is : n ≡ number_of x.link.controller = grind arith in
     record {
       front = f.front ++ x ∷ [];
       back = t.rest;
@@ -422,8 +400,7 @@ number_passed i ks sites sessions k a f lt read high =
       is = parts ∙ sym (append_assoc f.front (x ∷ []) t.rest);
       place = length-append f.front (x ∷ []) ∙ ap (λ m. m + 1) f.place;
       numbers = λ different hosts.
-          let host : IsHost x.host = of_these IsHost (hosts_in f.front) x.host (hosts_in t.rest) (subst (AllByRecursion IsHost) all hosts) in
-          let low = host.1 in
+          let low = (of_these IsHost (hosts_in f.front) x.host (hosts_in t.rest) (subst (AllByRecursion IsHost) all hosts)).1 in
           absurd (omega (arith, t.here.host, low, high));
     }
 
@@ -433,10 +410,8 @@ numbers_are i ks sites sessions a f over different hosts = go f.back refl
   where
     go : (back : List Site) → f.back ≡ back → AreSessions sessions sites
     go [] q =
-        let all : sites ≡ f.front = f.is ∙ (ap (λ xs. f.front ++ xs) q ∙ append-nil f.front) in
-        subst (AreSessions sessions) (sym all) (f.numbers different hosts)
+        subst (AreSessions sessions) (sym (f.is ∙ (ap (λ xs. f.front ++ xs) q ∙ append-nil f.front))) (f.numbers different hosts)
     go (s ∷ rest) q =
-        let many : length ks ≡ length sites = as_many ks sites a in
         let long : length sites ≡ i + length (s ∷ rest) =
         ap length f.is ∙ (ap (λ xs. length (f.front ++ xs)) q ∙ (length-append f.front (s ∷ rest) ∙ ap (λ n. n + length (s ∷ rest)) f.place)) in
-        absurd (let more : length ks ≡ i + length (s ∷ rest) = many ∙ long in omega (arith, more, over))
+        absurd (let more : length ks ≡ i + length (s ∷ rest) = (as_many ks sites a) ∙ long in omega (arith, more, over))

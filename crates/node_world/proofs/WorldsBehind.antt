@@ -34,8 +34,7 @@ use Rattle.lines_told.specs.lines.Plays.{round_in, taking_in}
 use Rattle.node_world.specs.Whole.{after_ticks}
 use Rattle.node_world.specs.Worlds.{IsPeekedSo, at_rest}
 use Rattle.node_world.proofs.MemoriesKeep.{keeps_at_first, keeps_behind_lines, controller_in_order, hosts_in_order}
-pub use Rattle.node_laws.proofs.schedules.Ranges.{hosts_are as are_hosts}
-pub use Rattle.node_laws.proofs.schedules.Ranges.{hosts_few as links_few}
+pub use Rattle.node_laws.proofs.schedules.Ranges.{hosts_are as are_hosts, hosts_few as links_few}
 use Rattle.node_laws.proofs.creations.Knowing.{two_ways as agree}
 
 -- ## Hosts
@@ -54,9 +53,6 @@ each_line P Q one (l ∷ lines) a = (one l a.0, each_line P Q one lines a.1)
 
 pub playable : (header : Header) (l : Line) → MayFollow header l → IsPlayable l
 playable header l is = grind arith
-
-pub sent_by_host : (header : Header) → IsNodeHeader header → (l : Line) → MayFollow header l → IsSentByHost l
-sent_by_host header nodes l is = grind arith
 
 -- What is asked of a world behind lines holds there.
 
@@ -92,9 +88,8 @@ module _ (header : Header) (is : IsNodeHeader header) (lines : List Line) (play 
 pub timely_ticking : (header : Header) → IsNodeHeader header → (lines : List Line) → ArePlayable lines
     → NoneIsMisread (new_world header.hosts.items) lines → (n : ℕ) → AreTimely (after_ticks n (nodes_behind header lines))
 timely_ticking header is lines play sure n =
-    let more : List Line = lines ++ line.Tick (Some n) ∷ [] in
     subst AreTimely (after-append lines (line.Tick (Some n) ∷ []) (new_world header.hosts.items))
-    (timely_behind header is more (all-append IsPlayable lines (line.Tick (Some n) ∷ []) play (tt, tt))
+    (timely_behind header is (lines ++ line.Tick (Some n) ∷ []) (all-append IsPlayable lines (line.Tick (Some n) ∷ []) play (tt, tt))
     (sure-append lines (line.Tick (Some n) ∷ []) (new_world header.hosts.items) sure (refl, tt)))
 
 -- ## Memories
@@ -102,12 +97,7 @@ timely_ticking header is lines play sure n =
 site_there : (n : ℕ) (sites : List Site) → list_any (λ k. k == n) (hosts_in sites) ≡ true → AllByRecursion (λ (s : Site). IsSoundMemory s.memory) sites
     → (s : Site) × (site_at sites n ≡ Some s) × IsSoundMemory s.memory
 site_there n [] here a = absurd (true≢false (sym here))
-site_there n (s ∷ sites) here a = go (s.host == n) refl (site_there n sites)
-  where
-    go : (b : Bool) → (s.host == n) ≡ b
-        → (list_any (λ k. k == n) (hosts_in sites) ≡ true → AllByRecursion (λ (s : Site). IsSoundMemory s.memory) sites
-        → (x : Site) × (site_at sites n ≡ Some x) × IsSoundMemory x.memory) → (x : Site) × (site_at (s ∷ sites) n ≡ Some x) × IsSoundMemory x.memory
-    go b q later = grind arith
+site_there n (s ∷ sites) here a = let h0 = s.host == n in let h1 = site_there n sites in grind arith
 
 sound_memory : (hosts : List ℕ) (w : NodeWorld) → hosts_in w.sites ≡ hosts → IsSoundMemory w.memory
     → AllByRecursion (λ (s : Site). IsSoundMemory s.memory) w.sites → (n : ℕ) → IsNodeOf hosts n → IsSoundMemory (memory_at w n)
@@ -116,13 +106,11 @@ sound_memory hosts w are near far n node = go (n == 0) refl
     go : (b : Bool) → (n == 0) ≡ b → IsSoundMemory (memory_at w n)
     go true q = rw q near
     go false q =
-        let either : (n == 0 || list_any (λ k. k == n) hosts) ≡ true = node in
-        let among : list_any (λ k. k == n) hosts ≡ true = rw q at either in
-        let found = site_there n w.sites (subst (λ hs. list_any (λ k. k == n) hs ≡ true) (sym are) among) far in
+        let found = site_there n w.sites (subst (λ hs. list_any (λ k. k == n) hs ≡ true) (sym are) (rw q at node)) far in
         rw (q, found.1) found.2
 
 sent_line : (header : Header) → IsNodeHeader header → (l : Line) → IsPlayedLine header l → IsSentByHost l
-sent_line header is l a = sent_by_host header is l a.may_follow
+sent_line header is l a = grind arith
 
 play_line : (header : Header) (l : Line) → IsPlayedLine header l → IsPlayable l
 play_line header l a = playable header l a.may_follow
@@ -153,8 +141,7 @@ node_there header is lines a sure n node q =
     let w : NodeWorld = nodes_behind header lines in
     let k : KeepsSome header.hosts.items w = keeps_behind header is lines a in
     let either : (n == 0 || list_any (λ k. k == n) header.hosts.items) ≡ true = node in
-    let among : list_any (λ k. k == n) header.hosts.items ≡ true = rw q at either in
-    let here = subst (λ hs. list_any (λ k. k == n) hs ≡ true) (sym (hosts_behind header is lines (are_playable header lines a) sure)) among in
+    let here = subst (λ hs. list_any (λ k. k == n) hs ≡ true) (sym (hosts_behind header is lines (are_playable header lines a) sure)) (grind arith) in
     let found = site_there n w.sites here (hosts_in_order header.hosts.items (are_hosts header is) w k) in
     (found.0, found.1)
 
@@ -197,8 +184,7 @@ none_below : (a x : ℕ) (xs : List ℕ) → x < a → IsRisingFrom a xs → lis
 none_below a x [] low r = refl
 none_below a x (y ∷ ys) low r =
     let from = r.0 in
-    let other : (y == x) ≡ false = ne_eqb y x (λ z. omega (arith, z, from, low)) in
-    rw other (none_below (y + 1) x ys (omega (arith, from, low)) r.1)
+    rw (ne_eqb y x (λ z. omega (arith, z, from, low))) (none_below (y + 1) x ys (omega (arith, from, low)) r.1)
 
 -- those of a range that stand in a list of rising numbers within it are that list
 found : (n a top : ℕ) (xs : List ℕ) (test : ℕ → Bool) → a + n ≡ top → ((h : ℕ) → a ≤ h → test h ≡ list_any (λ k. k == h) xs) → IsRisingFrom a xs
@@ -206,8 +192,7 @@ found : (n a top : ℕ) (xs : List ℕ) (test : ℕ → Bool) → a + n ≡ top 
 found zero a top [] test e is r small = refl
 found zero a top (x ∷ xs) test e is r small = absurd (let from = r.0 in let below = small.0 in omega (arith, from, below, e))
 found (suc n) a top [] test e is r small =
-    let none : test a ≡ false = is a (omega arith) in
-    rw none (found n (a + 1) top [] test (omega (arith, e)) (λ h low. is h (omega (arith, low))) tt tt)
+    rw (is a (omega arith)) (found n (a + 1) top [] test (omega (arith, e)) (λ h low. is h (omega (arith, low))) tt tt)
 found (suc n) a top (x ∷ xs) test e is r small =
     go (x == a) refl (λ up is2. found n (a + 1) top xs test (omega (arith, e)) is2 up small.1)
     (λ up. found n (a + 1) top (x ∷ xs) test (omega (arith, e)) (λ h low. is h (omega (arith, low))) up small)
@@ -231,10 +216,7 @@ filter_same p q same ns = grind arith
 
 one_of_hosts : (n : ℕ) (hosts : List ℕ) → AllByRecursion IsHost hosts → list_any (λ k. k == n) hosts ≡ true → IsHost n
 one_of_hosts n [] a q = absurd (true≢false (sym q))
-one_of_hosts n (h ∷ hosts) a q = go (h == n) refl (one_of_hosts n hosts a.1)
-  where
-    go : (b : Bool) → (h == n) ≡ b → (list_any (λ k. k == n) hosts ≡ true → IsHost n) → IsHost n
-    go b e later = grind arith
+one_of_hosts n (h ∷ hosts) a q = let h0 = h == n in let h1 = one_of_hosts n hosts a.1 in grind arith
 
 small : (hosts : List ℕ) → AllByRecursion IsHost hosts → AllByRecursion (λ x. x < 8) hosts
 small [] a = tt
@@ -265,11 +247,7 @@ masked header is =
 site_with : (n : ℕ) (f : Site → Site) → ((x : Site) → (f x).host ≡ x.host) → (sites : List Site) (s : Site) → site_at sites n ≡ Some s
     → site_at (with_site n f sites) n ≡ Some (f s)
 site_with n f same [] s q = absurd (cc q)
-site_with n f same (x ∷ sites) s q = go (x.host == n) refl (site_with n f same sites s)
-  where
-    go : (b : Bool) → (x.host == n) ≡ b → (site_at sites n ≡ Some s → site_at (with_site n f sites) n ≡ Some (f s))
-        → site_at (with_site n f (x ∷ sites)) n ≡ Some (f s)
-    go b e later = grind arith
+site_with n f same (x ∷ sites) s q = let h0 = x.host == n in let h1 = site_with n f same sites s in grind arith
 
 -- ## Boots
 
@@ -292,10 +270,7 @@ module _ (v : NodeWorld) (n : ℕ) (there : (n == 0) ≡ false → (s : Site) ×
       go true q = rw q refl
       go false q =
           let s = there q in
-          let one = site_with n f (λ x. refl) v.sites s.0 s.1 in
-          let two : site_at (with_site n g (with_site n f v.sites)) n ≡ Some (g (f s.0)) =
-          site_with n g (λ x. refl) (with_site n f v.sites) (f s.0) one in
-          rw (q, two) refl
+          rw (q, (site_with n g (λ x. refl) (with_site n f v.sites) (f s.0) (site_with n f (λ x. refl) v.sites s.0 s.1))) refl
 
   -- its memory is what was put there
   memory_put : (m : Memory) → memory_at (with_memory n m v) n ≡ m
@@ -305,8 +280,7 @@ module _ (v : NodeWorld) (n : ℕ) (there : (n == 0) ≡ false → (s : Site) ×
       go true q = rw q refl
       go false q =
           let s = there q in
-          let one = site_with n (λ (x : Site). record x { memory = m }) (λ x. refl) v.sites s.0 s.1 in
-          rw (q, one) refl
+          rw (q, (site_with n (λ (x : Site). record x { memory = m }) (λ x. refl) v.sites s.0 s.1)) refl
 
   still_there : (m : Memory) → (n == 0) ≡ false → (s : Site) × (site_at (with_memory n m v).sites n ≡ Some s)
   still_there m q =
@@ -347,10 +321,8 @@ module _ (w : NodeWorld) (n : ℕ) (there : (n == 0) ≡ false → (s : Site) ×
   peeked sound =
       let v : NodeWorld = at_rest n w in
       let content : List ℕ = (memory_at w n).content in
-      let none : fails_within (length (boot_writes (memory_at v n).content)) (memory_at v n).plan ≡ false =
-      ap (λ (m : Memory). fails_within (length (boot_writes m.content)) m.plan) memory_rests in
       let same : (memory_at v n).content ≡ content = ap (λ (m : Memory). m.content) memory_rests in
-      let so = boots_so v n rest_there none in
+      let so = boots_so v n rest_there (ap (λ (m : Memory). fails_within (length (boot_writes m.content)) m.plan) memory_rests) in
       let put = node_put v n rest_there (boot_found v n) (after_planned (boot_writes (memory_at v n).content) (memory_at v n)) in
       record {
         sound = sound.image;
@@ -369,16 +341,11 @@ module _ (w : NodeWorld) (n : ℕ) (there : (n == 0) ≡ false → (s : Site) ×
 above_few : (x : ℕ) (xs : List ℕ) → x ≤ 7 → AllByRecursion (IsAbove x) xs → AllByRecursion IsHost xs → IsStrictlySortedBy nat_cmp xs → x + length xs ≤ 7
 above_few x [] low a hosts s = omega (arith, low)
 above_few x (y ∷ ys) low a hosts s =
-    let more = above x y a.0 in
-    let rest = above_few y ys hosts.0.1 (sorted_head nat_cmp y ys s) hosts.1 (sorted_tail nat_cmp y ys s) in
-    omega (arith, more, rest)
+    omega (arith, (above x y a.0), (above_few y ys hosts.0.1 (sorted_head nat_cmp y ys s) hosts.1 (sorted_tail nat_cmp y ys s)))
 
 hosts_few : (hosts : List ℕ) → AllByRecursion IsHost hosts → IsStrictlySortedBy nat_cmp hosts → length hosts ≤ 7
 hosts_few [] a s = omega arith
-hosts_few (x ∷ xs) a s =
-    let rest = above_few x xs a.0.1 (sorted_head nat_cmp x xs s) a.1 (sorted_tail nat_cmp x xs s) in
-    let some = a.0.0 in
-    omega (arith, rest, some)
+hosts_few (x ∷ xs) a s = omega (arith, (above_few x xs a.0.1 (sorted_head nat_cmp x xs s) a.1 (sorted_tail nat_cmp x xs s)), a.0.0)
 
 -- ## What the ends take, as lines
 
@@ -434,12 +401,9 @@ module _ (header : Header) (is : IsNodeHeader header) (lines : List Line) (a : A
   pub may_go_round : FewBehind 250000000 w → MayGoRound w
   may_go_round few =
       let hosts : hosts_in w.sites ≡ header.hosts.items = hosts_behind header is lines (are_playable header lines a) sure in
-      let many : length (hosts_in w.sites) ≡ length w.sites = length-map w.sites (λ (s : Site). s.host) in
-      let same : length (hosts_in w.sites) ≡ length header.hosts.items = ap (λ (ns : List ℕ). length ns) hosts in
-      let most = links_few header is in
       record {
         takes = record {
-          links = omega (arith, many, same, most);
+          links = omega (arith, (length-map w.sites (λ (s : Site). s.host)), (ap (λ (ns : List ℕ). length ns) hosts), (links_few header is));
           goes_on = goes_on_behind header is lines (are_playable header lines a) sure;
           few = few;
         };

@@ -58,9 +58,7 @@ low_longer n m more most w p q a = record { sound = a.sound; rsets = each_longer
         → AllByRecursion (λ (s : Site). IsAckedWithin most s.link) sites
     acked [] b = tt
     acked (s ∷ sites) b =
-        let near = b.0.controller in
-        let far = b.0.host in
-        (record { controller = omega (arith, near, q); host = omega (arith, far, q) }, acked sites b.1)
+        (record { controller = omega (arith, b.0.controller, q); host = omega (arith, b.0.host, q) }, acked sites b.1)
 
 -- ## What happens at a line
 
@@ -144,13 +142,11 @@ taken_acks k w e h s a q = go e.at_host
     go false =
         let here = many_taken AllAtController tt near_both h (at false) (λ v. near_takes h e.link v) k w in
         let acks = near_acks (events false) s.link (may false) (good_of w h s a q) here in
-        let far = acks.host in
-        on false (record { controller = acks.controller; host = omega (arith, far) })
+        on false (record { controller = acks.controller; host = omega (arith, acks.host) })
     go true =
         let there = many_taken AllAtHost tt far_both h (at true) (λ v. far_takes h e.link v) k w in
         let acks = far_acks (events true) s.link (may true) (good_of w h s a q) there in
-        let near = acks.controller in
-        on true (record { controller = omega (arith, near); host = acks.host })
+        on true (record { controller = omega (arith, acks.controller); host = acks.host })
 
 taken_rsets : (k n : ℕ) (w : Machine) (e : End) → FewRsetsOnEach n w.sites → FewRsetsOnEach n (all_happen w (replicate k (Takes e))).0.sites
 taken_rsets zero n w e a = a
@@ -218,10 +214,9 @@ ends_rsets (e ∷ ends) n w a = ends_rsets ends n (end_takes_all w e).0 (taken_r
 
 round_low : (n m : ℕ) (w : Machine) → IsLow n m w → IsLow (n + 2) (m + 4) (world_after_round w)
 round_low n m w a =
-    let v : Machine = (ends_take_all w (ends_in_order w)).0 in
     record {
       sound = sound_round w a.sound;
-      rsets = few_behind_step n v Ticks (ends_rsets (ends_in_order w) n w a.rsets);
+      rsets = few_behind_step n ((ends_take_all w (ends_in_order w)).0) Ticks (ends_rsets (ends_in_order w) n w a.rsets);
       acked = each_rounds 1 w m a.sound a.acked;
     }
 
@@ -243,10 +238,9 @@ plays_low header is (Said l ∷ plays) before n m may a =
     (nodes_behind header (fold (λ (ls : List Line) (p : Play). ls ++ lines_of_play header ls p) (before ++ l ∷ []) plays))
     (omega arith) (omega arith) (plays_low header is plays (before ++ l ∷ []) (n + 200) (m + 4) may.1 now)
 plays_low header is (Round ∷ plays) before n m may a =
-    let w : Machine = nodes_behind header before in
     let more : List Line = before ++ round_behind header before in
     let now : IsLow (n + 2) (m + 4) (nodes_behind header more) =
-    subst (IsLow (n + 2) (m + 4)) (sym (round_behind_goes header is.nodes before)) (round_low n m w a) in
+    subst (IsLow (n + 2) (m + 4)) (sym (round_behind_goes header is.nodes before)) (round_low n m (nodes_behind header before) a) in
     let s : ℕ = lines_said plays in
     let r : ℕ = rounds_played plays in
     low_longer (n + 2 + (200 * s + 2 * r)) (m + 4 + 4 * (s + r)) (n + (200 * s + 2 * suc r)) (m + 4 * (s + suc r))
@@ -261,10 +255,8 @@ few_of_low : (n m k : ℕ) (sites : List Site) → n ≤ 12 * k → m ≤ 7 * k 
     → AllByRecursion (λ (s : Site). IsAckedWithin m s.link) sites → FewOnEach k sites
 few_of_low n m k [] p q a b = tt
 few_of_low n m k (s ∷ sites) p q a b =
-    let made = a.0.made in
-    let near = b.0.controller in
     let far = b.0.host in (
-      record { resets = omega (arith, made, p); controller = omega (arith, near, q); host = omega (arith, far, q) },
+      record { resets = omega (arith, a.0.made, p); controller = omega (arith, b.0.controller, q); host = omega (arith, far, q) },
       few_of_low n m k sites p q a.1 b.1,
     )
 
@@ -290,15 +282,13 @@ pub few_with_line : (plays : List Play) (line : Line) → AreFewWithParts plays 
 few_with_line plays line few room =
     let said = one_said plays line in
     let rounds = no_more_rounds plays line in
-    let most = few.rounds in
-    record { said = omega (arith, said, room); rounds = omega (arith, rounds, most) }
+    record { said = omega (arith, said, room); rounds = omega (arith, rounds, few.rounds) }
 
 pub few_with_one_round : (plays : List Play) → AreFewWithParts plays → rounds_played plays < 400000000 → AreFewWithParts (plays ++ Round ∷ [])
 few_with_one_round plays few room =
     let said = no_more_said plays in
     let rounds = one_round plays in
-    let most = few.said in
-    record { said = omega (arith, said, most); rounds = omega (arith, rounds, room) }
+    record { said = omega (arith, said, few.said); rounds = omega (arith, rounds, room) }
 
 -- those of a schedule are
 pub few_at_all : (plays : List Play) → AreFewPlays plays → AreFewWithParts plays
@@ -320,9 +310,6 @@ pub lines_are : (k : NodeWorld) (header : Header) (plays : List Play) → IsNode
     → AllByRecursion (IsPlayedLine header) (lines_played header plays)
 lines_are k header plays s = lines_may_be_played header (inr s.is_header) (hosts_stay_behind header) plays s.plays_are
 
-pub none_is_misread : (w : Machine) (said : Line) (o : Option Misread) → o ≡ None → IsMisreadIn w said o → misread_in w said ≡ None
-none_is_misread w said o q h = grind arith
-
 module _ (old new : NodeWorld) (header : Header) (plays : List Play) (s : IsNodeWorldBehind old header plays) where
   abbrev w : Machine
   w = nodes_behind header (lines_played header plays)
@@ -332,8 +319,6 @@ module _ (old new : NodeWorld) (header : Header) (plays : List Play) (s : IsNode
       → new.mask ≡ old.mask → new.stepped ≡ old.stepped + 1 → new.rounds ≡ old.rounds → new.noted.short ≡ false
       → IsNodeWorldBehind new header (plays ++ Said said ∷ [])
   stands_behind_more said may room none played mask stepped rounds short =
-      let one : lines_said (plays ++ Said said ∷ []) ≡ suc (lines_said plays) = one_said plays said in
-      let was : old.stepped ≡ lines_said plays = s.stepped in
       record {
         is_header = s.is_header;
         plays_are = for_with header plays (Said said) s.plays_are may;
@@ -341,7 +326,7 @@ module _ (old new : NodeWorld) (header : Header) (plays : List Play) (s : IsNode
         sure = sure_with_said header s.is_header.nodes plays said s.sure none;
         stands = rw (← played_said header s.is_header.nodes plays said) at played.world;
         mask_is = rw (← mask) at s.mask_is;
-        stepped = omega (arith, stepped, was, one);
+        stepped = omega (arith, stepped, s.stepped, (one_said plays said));
         rounds = rounds ∙ (s.rounds ∙ sym (no_more_rounds plays said));
         quiet = short;
       }
@@ -352,8 +337,6 @@ module _ (old new : NodeWorld) (header : Header) (plays : List Play) (s : IsNode
       → new.mask ≡ old.mask → new.stepped ≡ old.stepped → new.rounds ≡ old.rounds + 1 → new.noted.short ≡ false
       → IsNodeWorldBehind new header (plays ++ Round ∷ [])
   stands_behind_round before room gone mask stepped rounds short =
-      let one : rounds_played (plays ++ Round ∷ []) ≡ suc (rounds_played plays) = one_round plays in
-      let was : old.rounds ≡ rounds_played plays = s.rounds in
       record {
         is_header = s.is_header;
         plays_are = for_with header plays Round s.plays_are tt;
@@ -362,7 +345,7 @@ module _ (old new : NodeWorld) (header : Header) (plays : List Play) (s : IsNode
         stands = rw (← played_round header s.is_header.nodes plays) at gone.world;
         mask_is = rw (← mask) at s.mask_is;
         stepped = stepped ∙ (s.stepped ∙ sym (no_more_said plays));
-        rounds = omega (arith, rounds, was, one);
+        rounds = omega (arith, rounds, s.rounds, (one_round plays));
         quiet = short;
       }
 
@@ -431,7 +414,7 @@ module _ {E : Type 0} (result : Result (Option Misread) E) (old new : NodeWorld)
       go (Err e) p m q = tt
       go (Ok other) p m q =
           λ none.
-          stands_behind_more old new header plays s said may room (none_is_misread now said other none m) (p none) mask stepped rounds q
+          stands_behind_more old new header plays s said may room (grind arith) (p none) mask stepped rounds q
 
   pub entries_answered : IfOk result (λ other. other ≡ None → WasPlayed)
       → IfOk result (λ other. other ≡ None → nodes_entries new ≡ told_below header (lines_played header plays) said)
@@ -505,12 +488,8 @@ pub host_kept : (k : NodeWorld) (header : Header) (plays : List Play) (n i : ℕ
     → (n == 0) ≡ false → StandsAt i n (nodes_behind header (lines_played header plays)).sites → (site : HostSite)
     → site ≡ get_or k.sites.items i site → (m : Memory) → m ≡ memory_kept site.power → m ≡ memory_at (nodes_behind header (lines_played header plays)) n
 host_kept k header plays n i s node off a site read m kept =
-    let w : Machine = nodes_behind header (lines_played header plays) in
-    let orderly = (in_order_behind k header plays s).orderly in
-    let stands : SiteIs site a.site = stands_there k header plays i n s a site read in
-    let found = site_stands w i n a orderly in
-    let is : m ≡ a.site.memory = kept ∙ kept_is site.power a.site.memory a.site.node _ stands.place in
-    rw (off, found) is
+    let is : m ≡ a.site.memory = kept ∙ kept_is site.power a.site.memory a.site.node _ (stands_there k header plays i n s a site read).place in
+    rw (off, (site_stands (nodes_behind header (lines_played header plays)) i n a ((in_order_behind k header plays s).orderly))) is
 
 pub host_is_there : {A : Type 0} (k : NodeWorld) (header : Header) (plays : List Play) (n : ℕ) → IsNodeWorldBehind k header plays
     → IsNodeOf header.hosts.items n → (n == 0) ≡ false → site_at (nodes_behind header (lines_played header plays)).sites n ≡ None → A

@@ -16,7 +16,7 @@ use Rattle.node_laws.proofs.telling.Steps.{tick_keeps}
 use Rattle.node_laws.proofs.telling.Events.{hosts_same_of_nodes as hosts_same, orderly_map}
 use Rattle.node_laws.proofs.telling.WorldTicks.{tick_host}
 use Rattle.node_world.specs.Whole.{SitesTick}
-use Rattle.node_world.proofs.EndsGo.{same_stand, same_twice, each_found, all_far, ticks_on, NearTicks, controller_end_ticks}
+use Rattle.node_world.proofs.EndsGo.{same_stand, same_twice, each_found, all_far, ticks_on, controller_end_ticks}
 use Rattle.node_world.proofs.HostsDo.{becomes_same}
 use Rattle.node_world.proofs.ControllersStep.{EndSteps, mid_hosts, sends_them, went_on, went_off, ends_sent, ends_fresh}
 use Rattle.node_world.proofs.HostsInWorlds.{sendable_on, LeavesNear}
@@ -30,8 +30,7 @@ use Rattle.node_laws.proofs.links.Worlds.{so_host as far_so}
 still_wires : (l : Link) → l.controller.side ≡ new_link_end (Clf new_clf) → SameWires l (ticks_at_controller l [] GoesOut)
 still_wires l q =
     let g = ticks_on l false [] (λ late. absurd (cc late)) in
-    let none : frames_out (after_input l.controller.side Tick) ≡ [] = ap (λ x. frames_out (after_input x Tick)) q in
-    rw g.out (same_twice g.wires (becomes_same g.link (after_input l.controller.side Tick) none))
+    rw g.out (same_twice g.wires (becomes_same g.link (after_input l.controller.side Tick) (ap (λ x. frames_out (after_input x Tick)) q)))
 
 still_far : (l : Link) → (ticks_at_controller l [] GoesOut).host ≡ l.host
 still_far l =
@@ -49,22 +48,16 @@ all_still (k ∷ ks) (s ∷ sites) q a = (one, all_still ks sites q.1 a.1)
     one =
         record { host = a.0.host; wires = same_stand (still_wires s.link q.0) a.0.wires; place = rw (← still_far s.link) at a.0.place }
 
-off_place : (k : Power) (m : Memory) (near far : ℕ → NumberedEnd) → IsNodePlace k m None near → IsNodePlace k m None far
-off_place k m near far p = grind arith
-
 pub ticks_off : (k : Power) (ks : List HostSite) (w : NodeWorld) (entries : List Entry) → w.controller ≡ None → AreTimely w → MayGoOn w
     → WorldIs k ks w → WorldBecomes k ks entries entries (controller_ticks w)
 ticks_off k ks w entries off timely may world =
-    let none : controller_ticks w ≡ (record w { sites = map site_unticked w.sites }, []) = rw off refl in
-    let all = each_found (λ (x : Site). x.host) w.sites may.orderly.different in
-    let B : NodeWorld × List Entry → Type 0 = λ x. WorldBecomes k ks entries entries x in
     let Here : Option Running → Type 0 = λ o. IsNodePlace k w.memory o (λ h. (link_to w.sites h).controller) in
     let There : Option Running → Type 0 = λ o. IsNodePlace k w.memory o (λ h. (link_to (map site_unticked w.sites) h).controller) in
-    subst B (sym none)
+    subst (λ x. WorldBecomes k ks entries entries x) (sym (rw off refl))
     (record {
       world = record {
-        controller = subst There (sym off) (off_place k w.memory _ _ (subst Here off world.controller));
-        sites = all_still ks w.sites (new_ends w.sites all) world.sites;
+        controller = subst There (sym off) (let h0 = subst Here off world.controller in grind arith);
+        sites = all_still ks w.sites (new_ends w.sites (each_found (λ (x : Site). x.host) w.sites may.orderly.different)) world.sites;
       };
       noted = sym (append-nil entries);
     })
@@ -73,8 +66,7 @@ ticks_off k ks w entries off timely may world =
         → AllByRecursion (λ (s : Site). s.link.controller.side ≡ new_link_end (Clf new_clf)) left
     new_ends [] a = tt
     new_ends (x ∷ left) a =
-        let Off : Option Running → Type 0 = λ o. IfOff o (new_link_end (Clf new_clf)) x.link.controller.side in
-        (subst Off off (timely x.host x a.0).controller, new_ends left a.1)
+        (subst (λ o. IfOff o (new_link_end (Clf new_clf)) x.link.controller.side) off (timely x.host x a.0).controller, new_ends left a.1)
 
 -- ## Its tick
 
@@ -99,8 +91,7 @@ module _ (w : NodeWorld) (r : Running) (may : MayGoOn w) (timely : AreTimely w) 
 
   pub each : (x : Site) → site_at w.sites x.host ≡ Some x → EndSteps Ticked x (starts x) (starts x) (so x)
   each x there =
-      let n : NearTicks w r x = controller_end_ticks w x may.orderly there r runs node (rw runs at (timely x.host x there).up) in
-      let g = n.ticks in
+      let g = (controller_end_ticks w x may.orderly there r runs node (rw runs at (timely x.host x there).up)).ticks in
       record {
         port = g.port;
         here = g.here;
@@ -131,9 +122,8 @@ module _ (w : NodeWorld) (r : Running) (may : MayGoOn w) (timely : AreTimely w) 
   pub numbered : (sessions : List ℕ) → AreSessions sessions w.sites → FewAreCounted TimePasses w → AreNumbered (λ k. get_or sessions k 0) Ticked.entries
   numbered sessions a few =
       let session : ℕ → ℕ = λ k. get_or sessions k 0 in
-      let counted : CountsFew TimePasses (map (λ (d : Desk). port_for (plain d.host) d) r.desks) = rw runs at few in
       let all = each_found (λ (x : Site). x.host) w.sites may.orderly.different in
-      (stepped session TimePasses Begun counted
+      (stepped session TimePasses Begun (rw runs at few)
       (work_numbers session r w.memory.plan plain [] tt (numbers_of sessions r.desks w.sites node.ends all a))).entries
 
   pub tick_begins : (n : Node Memory) → IsNodePlace (On n) w.memory (Some r) plain → BeginsOver n Begun
@@ -217,10 +207,7 @@ record Was (sites : List Site) (h : ℕ) (t : Site) : Type 0 where
 
 was_there : (sites : List Site) (h : ℕ) (t : Site) → site_at (map older sites) h ≡ Some t → Was sites h t
 was_there [] h t q = absurd (cc q)
-was_there (s ∷ sites) h t q = go (s.host == h) refl (was_there sites h t)
-  where
-    go : (b : Bool) → (s.host == h) ≡ b → (site_at (map older sites) h ≡ Some t → Was sites h t) → Was (s ∷ sites) h t
-    go b e later = grind arith
+was_there (s ∷ sites) h t q = let h0 = s.host == h in let h1 = was_there sites h t in grind arith
 
 pub older_timely : (w : NodeWorld) → AreTimely w → AreTimely (older_world w)
 older_timely w timely h t q =
@@ -249,8 +236,7 @@ older_few w few = go w.controller few
         → FewAreCounted TimePasses (record w { controller = o; sites = map older w.sites })
     go None a = tt
     go (Some r) a =
-        let F : (ℕ → NumberedEnd) → Type 0 = λ near. CountsFew TimePasses (map (λ (d : Desk). port_for (near d.host) d) r.desks) in
-        subst F (sym (all_near w.sites)) a
+        subst (λ near. CountsFew TimePasses (map (λ (d : Desk). port_for (near d.host) d) r.desks)) (sym (all_near w.sites)) a
 
 pub older_is : (k : Power) (ks news : List HostSite) (w : NodeWorld) → WorldIs k ks w → SitesAre news (map older w.sites) → WorldIs k news (older_world w)
 older_is k ks news w world sites =
@@ -284,7 +270,6 @@ ready_still : (s t : Site) → LeavesFar s t → IsReady s → IsReady t
 ready_still s t a r =
     let Ends : ℕ → Option Running → Type 0 = λ h o. IfItRuns h (h ∷ []) o in
     let Off : Option Running → NumberedEnd → Type 0 = λ o e. IfOff o (new_link_end (Uicc new_uicc)) e.side in
-    let Counts : NumberedEnd → Type 0 = λ e. CountsOn e.side Tick in
     record {
       host = record {
         number = ap (λ n. n == 0) a.host ∙ r.host.number;
@@ -294,7 +279,7 @@ ready_still s t a r =
       may = record {
         off = subst (Off t.node) (sym a.far) (subst (λ o. Off o s.link.host) (sym a.node) r.may.off);
         young = subst NoneDue (sym a.node) r.may.young;
-        counts = λ q runs. subst Counts (sym a.far) (r.may.counts q (sym a.node ∙ runs));
+        counts = λ q runs. subst (λ e. CountsOn e.side Tick) (sym a.far) (r.may.counts q (sym a.node ∙ runs));
       };
     }
 
@@ -373,13 +358,9 @@ tick_leaves s = record {
 abbrev near_of : List Site → ℕ → NumberedEnd
 near_of sites h = (link_to sites h).controller
 
-near_first : (s t : Site) (xs ys : List Site) (h : ℕ) → LeavesNear s t → (link_to ys h).controller ≡ (link_to xs h).controller
-    → (link_to (t ∷ ys) h).controller ≡ (link_to (s ∷ xs) h).controller
-near_first s t xs ys h a later = grind arith
-
 near_left : (sites : List Site) (h : ℕ) → near_of (hosts_tick sites).0 h ≡ near_of sites h
 near_left [] h = refl
-near_left (s ∷ sites) h = near_first s (tick_of s) sites (hosts_tick sites).0 h (tick_leaves s) (near_left sites h)
+near_left (s ∷ sites) h = let h0 = tick_of s in let h1 = (hosts_tick sites).0 in let h2 = tick_leaves s in let h3 = near_left sites h in grind arith
 
 -- they come behind that of the controller
 pub all_tick : (k : Power) (ks new : List HostSite) (w : NodeWorld) (before mid now : List Entry) → WorldBecomes k ks before mid (near_ticks w)

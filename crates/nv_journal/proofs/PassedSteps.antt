@@ -1,12 +1,11 @@
 -- The gate that comes next in a pass, by the bytes ahead, and the reads of a pass.
-use Rattle.std.proofs.Common.{take_at}
-use Rattle.std.proofs.Common.{add_assoc, if◌then◌else◌}
+use Rattle.std.proofs.Common.{take_at, add_assoc, if◌then◌else◌}
 use Rattle.std.proofs.lemmas.List.{drop-take}
 use Rattle.nv_journal.proofs.Words.{AreRead, BadRecord, Bool, Found, IsFilled, IsPassed, IsReadSoFar, IsTrue, Journal, List, None, Option, Says, SaysSoFar}
 use Rattle.nv_journal.proofs.Words.{Scanned, Side, Some, State, UnknownFormat, [], add-zero, ap, append-nil, append_assoc, ap₂, arith, bank, bank_place, behind}
 use Rattle.nv_journal.proofs.Words.{body, cases_lt, cond, current, drop, drop-drop, false, fault, found_from, found_in, from_be_bytes, gap, gate_at, gate_of}
 use Rattle.nv_journal.proofs.Words.{head, index_len, inl, inr, is_opened_gate, journal, journal_at, journal_in_use, left, length, length-append, length-bank}
-use Rattle.nv_journal.proofs.Words.{length-drop, length-take, min, nat_le, nat_lt, next_gate, next_place, no_journal, one_more_read, option_map_or, other}
+use Rattle.nv_journal.proofs.Words.{length-drop, length-take, min, nat_le, nat_lt, next_gate, next_place, no_journal, one_more_read, option_map_or}
 use Rattle.nv_journal.proofs.Words.{reads_up_to, records, refl, size_in, slice_get, slice_index, slice_range, subst, suc, suc-add, sym, take, take-take, true}
 use Rattle.nv_journal.proofs.Words.{true≢false, w16, zero, zero-add, ℕ, ◌&&◌, ◌*◌, ◌++◌, ◌+◌, ◌-◌, ◌<◌, ◌==◌, ◌||◌, ◌∙◌, ◌∷◌, ◌≡◌, ◌≤◌, ◌⊎◌}
 use Rattle.nv_journal.specs.declared.gates.Gate.{Gate}
@@ -143,10 +142,7 @@ module _ (c : List ℕ) (side : Side) (state : State) (ahead : List ℕ) (p : Is
       ∙ ap (λ l. option_map_or bank_place state.in_use 0 + 12 + size_in state.version (take state.many l)) (ap (λ (f : Found). f.bodies) found_is)
       ∙ ap (λ l. option_map_or bank_place state.in_use 0 + 12 + size_in state.version l)
       (take_at p.passed (found_from state.version (32768 - state.many) state.many bytes).bodies state.many p.many)
-      ∙ regroup (option_map_or bank_place state.in_use 0) p.size
-    where
-      regroup : (at : ℕ) → size_in state.version p.passed ≡ state.size → at + 12 + size_in state.version p.passed ≡ at + (12 + state.size)
-      regroup at is = omega arith
+      ∙ (omega arith)
 
   -- a closed gate
   pub closed_says : is_opened_gate (slice_index bytes 0) ≡ false → Says c state
@@ -241,15 +237,12 @@ module _ (c : List ℕ) (side : Side) (state : State) (ahead : List ℕ) (p : Is
           ∙ ap (behind p.passed state.size) (found_good state.version most state.many bytes opened good)
           ∙ one_behind
           ∙ ap₂ (λ n l. behind (p.passed ++ b ∷ []) (state.size + (2 + index_len state.version + length b)) (found_from state.version n (state.many + 1) l))
-          (fuel state.many) further;
+          (omega arith) further;
       ahead_is = ap (drop g) p.ahead_is
           ∙ ap (λ n. drop g (take n bytes)) (omega arith)
           ∙ drop-take g (length ahead - g) bytes
           ∙ ap₂ (λ n l. take n l) (sym (length-drop g ahead)) further;
     }
-      where
-        fuel : (n : ℕ) → 32768 - n - 1 ≡ 32768 - (n + 1)
-        fuel n = omega arith
 
   -- one more piece
   pub piece_read : (now : List ℕ) (at k : ℕ) → at ≡ bank_place side + (next_gate state + length ahead) → length now ≡ length ahead + k
@@ -272,12 +265,9 @@ module _ (c : List ℕ) (side : Side) (state : State) (ahead : List ℕ) (p : Is
       n : ℕ
       n = next_gate state + length ahead
 
-      just : (m : ℕ) → m + k - m ≡ k
-      just m = omega arith
-
       in_bank : slice_range c at (at + k) ≡ take k (drop (length ahead) bytes)
       in_bank =
-          ap₂ (λ m l. take m l) (just at) (ap (λ m. drop m c) at_is ∙ sym (drop_further (bank_place side) (next_gate state + length ahead) c))
+          ap₂ (λ m l. take m l) (omega arith) (ap (λ m. drop m c) at_is ∙ sym (drop_further (bank_place side) (next_gate state + length ahead) c))
           ∙ window (drop (bank_place side) c) (take 32768 (drop (bank_place side) c)) 32768 (next_gate state + length ahead) k
           (sym (take-take 32768 32768 (drop (bank_place side) c) (omega arith))) (omega (arith, size, fits))
           ∙ ap (take k) (sym (drop_further (next_gate state) (length ahead) (bank c side)))
@@ -321,11 +311,8 @@ module _ {N : Type 0} (reads : N → Bool → N → Type 0) (first : N) where
     pieces = r.pieces + 1;
     few = omega (arith, r.long, piece.some);
     long = λ more. omega (arith, r.long, piece.some, piece.size);
-    read = subst (λ n. AreRead reads n first true new) (one_more r.pieces) (one_more_read reads (2 + r.pieces) first nv true new r.read piece.read);
+    read = subst (λ n. AreRead reads n first true new) (omega arith) (one_more_read reads (2 + r.pieces) first nv true new r.read piece.read);
   }
-    where
-      one_more : (n : ℕ) → suc (2 + n) ≡ 2 + (n + 1)
-      one_more n = omega arith
 
   pub failed_so_far : (nv new : N) (state : State) (ahead : List ℕ) (ended : Bool) → IsReadSoFar reads first (at nv state ahead ended)
       → state.size + length ahead ≤ 32756 → 0 < 32768 - (next_gate state + length ahead) → reads nv false new → AreRead reads 37 first false new
@@ -455,9 +442,8 @@ next_gate_is c state ahead ended says idle few inside known = by_bank state.in_u
         let unused : current c ≡ None = says.in_use ∙ is in
         let says_nothing = no_journal c unused in
         let none : state.size ≡ 0 = ap (λ (s : State). s.size) (sym said.state_is) ∙ ap (λ (j : Journal). j.found.size) says_nothing in
-        let no_bodies : records c ≡ [] = ap (λ (j : Journal). j.found.bodies) says_nothing in
         ap₂ (λ o n. option_map_or bank_place o 0 + (12 + n)) is none
-        ∙ sym (ap₂ (λ o l. option_map_or bank_place o 0 + 12 + size_in (journal c).head.version (take state.many l)) unused no_bodies
+        ∙ sym (ap₂ (λ o l. option_map_or bank_place o 0 + 12 + size_in (journal c).head.version (take state.many l)) unused (grind arith)
         ∙ ap (λ l. 0 + 12 + size_in (journal c).head.version l) (no_part state.many))
       where
         no_part : (m : ℕ) → take {A = List ℕ} m [] ≡ []

@@ -46,21 +46,17 @@ module _ (version position : ℕ) (bytes : List ℕ) (bodies : List (List ℕ)) 
   later_there : (k : ℕ) → IsThere version (position + 1) (drop (gap version bytes) bytes) bodies k → IsThere version position bytes (b ∷ bodies) (suc k)
   later_there k there =
       let same = moved (size_in version (take k bodies)) in
-      let size = body_size version position bytes good in
       record {
         good = ap₂ (λ p l. is_good_record version p l) (omega arith) same ∙ there.good;
         body_there = there.body_there ∙ ap (λ l. Some (body version l)) (sym same);
         next = ap (λ l. n + size_in version (take k bodies) + gap version l) same
-            ∙ regroup (size_in version (take k bodies)) (gap version (drop (size_in version (take k bodies)) (drop (gap version bytes) bytes)))
+            ∙ (omega arith)
             ∙ ap (λ m. n + m) there.next
             ∙ ap (λ m. size_in version (take m (b ∷ bodies))) (sym (suc-add k 1));
       }
     where
       moved : (m : ℕ) → drop (n + m) bytes ≡ drop m (drop (gap version bytes) bytes)
       moved m = ap (λ g. drop (g + m) bytes) (body_size version position bytes good) ∙ sym (drop-drop m (gap version bytes) bytes)
-
-      regroup : (m g : ℕ) → n + m + g ≡ n + (m + g)
-      regroup m g = omega arith
 
 module _ (version : ℕ) where
   -- each record stands behind those before it
@@ -164,10 +160,7 @@ module _ (c : List ℕ) (state : State) (says : Says c state) where
   last_gate : (k : ℕ) → length (records c) ≤ k → gate_at c k ≡ next_place state
   last_gate k all =
       ap (λ l. option_map_or bank_place (current c) 0 + 12 + size_in (journal c).head.version l) (take_all (records c) k all)
-      ∙ regroup (option_map_or bank_place (current c) 0) (size_in (journal c).head.version (records c)) ∙ sym end_is
-    where
-      regroup : (at n : ℕ) → at + 12 + n ≡ at + (12 + n)
-      regroup at n = omega arith
+      ∙ (omega arith) ∙ sym end_is
 
   pub at_end : (k at : ℕ) → IsGateOf c k at → next_place state ≤ at → k ≡ length (records c)
   at_end k at gate behind = either (cases_lt k (length (records c)))
@@ -181,12 +174,9 @@ module _ (c : List ℕ) (state : State) (says : Says c state) where
     0,
     record {
       within = omega arith;
-      place = is ∙ regroup (option_map_or bank_place state.in_use 0) ∙ ap (λ o. option_map_or bank_place o 0 + 12 + 0) in_use_is;
+      place = is ∙ (omega arith) ∙ ap (λ o. option_map_or bank_place o 0 + 12 + 0) in_use_is;
     },
   )
-    where
-      regroup : (n : ℕ) → n + (12 + state.size) - state.size ≡ n + 12 + 0
-      regroup n = omega arith
 
   -- a record, and its first bytes
   module _ (k at n rest : ℕ) (read : List ℕ) (gate : IsGateOf c k at) (before : at < next_place state) (inside : state.size < 32756)
@@ -239,18 +229,12 @@ module _ (c : List ℕ) (state : State) (says : Says c state) where
     read_there : read ≡ take n bytes
     read_there =
         read_is
-        ∙ ap₂ (λ m l. take m l) (just at)
-        (ap (λ m. drop m c) (gate.place ∙ gate_is k ∙ regroup (bank_place side)) ∙ sym (drop-drop (12 + size) (bank_place side) c))
+        ∙ ap₂ (λ m l. take m l) (omega arith)
+        (ap (λ m. drop m c) (gate.place ∙ gate_is k ∙ (omega arith)) ∙ sym (drop-drop (12 + size) (bank_place side) c))
         ∙ window (drop (bank_place side) c) (take 32768 (drop (bank_place side) c)) 32768 (12 + size) n
         (sym (take-take 32768 32768 (drop (bank_place side) c) (omega arith)))
         (omega (arith, n_is, rest_there, before, gate.place, gate_is k, end_there, inside))
         ∙ ap (take n) (sym (drop-drop size 12 (bank c side)))
-      where
-        just : (m : ℕ) → m + n - m ≡ n
-        just m = omega arith
-
-        regroup : (m : ℕ) → m + 12 + size ≡ m + (12 + size)
-        regroup m = omega arith
 
     same : take n read ≡ take n bytes
     same = ap (take n) read_there ∙ take-take n n bytes (omega arith)

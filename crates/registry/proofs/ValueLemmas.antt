@@ -39,8 +39,7 @@ AreValues-filter test values h = record {
 pub place-within : (host gate param : ℕ) → IsTrue (is_kept host gate param) → (2 ≤ value_place host param) × (value_place host param < 16)
 place-within host gate param kept =
     let parts = and_parts (leb 1 host && leb host 7 && eqb gate 0) (eqb param 1 || eqb param 3) kept in
-    let hosts = and_parts (leb 1 host && leb host 7) (eqb gate 0) parts.0 in
-    let bounds = and_parts (leb 1 host) (leb host 7) hosts.0 in
+    let bounds = and_parts (leb 1 host) (leb host 7) (and_parts (leb 1 host && leb host 7) (eqb gate 0) parts.0).0 in
     let from = leb-true 1 host bounds.0 in
     let upto = leb-true host 7 bounds.1 in
     elim (or_cases (eqb param 1) (eqb param 3) parts.1) [

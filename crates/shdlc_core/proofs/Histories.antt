@@ -97,8 +97,6 @@ moved e f h x more k up low high m = record {
   ordered =
       let o = k.ordered in
       let len = ap (length {A = Fragment}) m.out in
-      let w = m.window in let r = m.reached in let a = m.acked in let l = m.low in let g = m.high in
-      let o1 = o.offered in let o2 = o.window in
       record { next = omega arith; reached = omega arith; offered = omega arith; window = omega arith };
   sent = λ p. rw (append-nil h.sent, m.reached) (k.sent p);
   idle = subst (λ phase. IsIdle phase f.session) (sym up) tt;
@@ -294,7 +292,6 @@ sent_out p s h info q k = record {
   offered = k.offered;
   acked = k.acked;
   ordered =
-      let o = k.ordered in let n = o.next in let r = o.reached in let w = o.window in let l = o.offered in
       let a = within.0 in let b = within.1 in
       record { next = omega arith; reached = omega arith; offered = omega arith; window = omega arith };
   sent = λ p. sent_place h.sent s.next s.reached p k.ordered.reached k.sent;
@@ -389,7 +386,6 @@ pub next-fragment : (p : LinkState) (s : Session) (h : SessionHistory) (ns : ℕ
     fragment_due s ≡ Some info → ns ≡ s.next % 8 → IsNextFragment h s.window ns info
 next-fragment p s h ns info k f n =
     let within = fragment_due-within s info f in
-    let a = k.acked in
     record {
       place = s.next;
       number = n;
@@ -412,6 +408,5 @@ one_session-grows e h (i ∷ inputs) one =
 pub accepted-grows : (e : EndState) (h : SessionHistory) (inputs : List EndInput) → Holds e h → IsOneSession e inputs →
     Begins (shdlc_after_inputs e inputs).session.acc e.session.acc
 accepted-grows e h inputs k one =
-    let after = run-Holds e h inputs k in
     let grown = one_session-grows e h inputs one in
-    (grown.0, after.accepted ∙ grown.1 ∙ ap (λ l. l ++ grown.0) (sym k.accepted))
+    (grown.0, (run-Holds e h inputs k).accepted ∙ grown.1 ∙ ap (λ l. l ++ grown.0) (sym k.accepted))

@@ -2,7 +2,7 @@
 use Rattle.shdlc_core.proofs.Words.{Act, Bool, Clt, Control, Down, EndState, Fragment, HasSession, I, IsNarrow, Kind, LinkState, List, None, Option, Rej, Rnr}
 use Rattle.shdlc_core.proofs.Words.{Rr, Rset, S, Some, Srej, Ua, Up, Waiting, [], accepted, acknowledged, append-nil, arith, false, fragment_accepted}
 use Rattle.shdlc_core.proofs.Words.{if◌then◌else◌, left_waiting, made_busy, min, nat_lt, option_to_list, place_of, ready_again, received, refl, rejected, sym}
-use Rattle.shdlc_core.proofs.Words.{take_answer, taken, true, up_with, with_out, ℕ, ◌&&◌, ◌++◌, ◌+◌, ◌==◌, ◌∙◌, ◌∷◌, ◌≡◌, ◌≤◌}
+use Rattle.shdlc_core.proofs.Words.{take_answer, taken, true, up_with, with_out, ℕ, ◌&&◌, ◌++◌, ◌+◌, ◌==◌, ◌∙◌, ◌∷◌, ◌≡◌}
 use Rattle.shdlc_core.specs.declared.answers.Due.TheVariants.{Rej as Rej_due}
 use Rattle.shdlc_core.specs.Machine.{ahead, discarded, repeated}
 use Rattle.shdlc_core.proofs.Histories.{in_phase, place_of-within}
@@ -157,9 +157,6 @@ kind_alike e o Rnr nr (Some x) at =
 kind_alike e o Srej nr q at =
     record { same = refl; answer = refl; out = refl; narrow = λ h. h; session = λ h. h; acked = omega arith; acc = sym (append-nil e.session.acc) }
 
-lesser_own : (e : EndState) (w : ℕ) → IsNarrow e → min e.own_window w ≤ 4
-lesser_own e w h = let own = h.own in omega arith
-
 reset_alike : (p : LinkState) (e : EndState) (o : List Fragment) (w caps : ℕ) (b : Bool) → (w == 0) ≡ b → TakesAlike (in_phase p e) o (Rset w caps)
 reset_alike Up e o w caps true at =
     record {
@@ -207,7 +204,7 @@ reset_alike Waiting e o w caps false at = record {
 }
 
 accepted_narrow : (e : EndState) → IsNarrow (in_phase Waiting e) → IsNarrow (up_with (in_phase Waiting e) (min e.own_window e.peer_window))
-accepted_narrow e h = record { own = h.own; peer = h.peer; session = lesser_own (in_phase Waiting e) e.peer_window h }
+accepted_narrow e h = record { own = h.own; peer = h.peer; session = (grind arith) }
 
 pub alike_in : (p : LinkState) (e : EndState) (o : List Fragment) (c : Control) → TakesAlike (in_phase p e) o c
 alike_in Up e o (I ns nr info) = fragment_alike e o ns nr info (place_of e.session nr) refl

@@ -3,7 +3,7 @@ use Rattle.std.specs.Prelude.{is_some}
 use Rattle.std.proofs.lemmas.Option.{slice_get-get_or}
 use Rattle.std.proofs.lemmas.List.{get_or_append_left}
 use Rattle.std.proofs.lemmas.Bool.{ltb-true, ltb-false, lt-ltb}
-use Rattle.shdlc_core.proofs.Words.{Bool, Control, Down, Due, EndState, Fragment, HasSession, IsNarrow, KeptEnd, LinkState, List, None, Option, Rset, Session}
+use Rattle.shdlc_core.proofs.Words.{Bool, Control, Down, EndState, Fragment, HasSession, IsNarrow, KeptEnd, LinkState, List, None, Option, Rset, Session}
 use Rattle.shdlc_core.proofs.Words.{ShdlcStandsFor, Some, Taken, Up, Waiting, [], accepted, ap, append-nil, append_assoc, arith, false, fetched, fragment_due}
 use Rattle.shdlc_core.proofs.Words.{frame_due, if◌then◌else◌, inl, inr, is_waiting, left_waiting, length, length-append, nat_lt, no_session, not}
 use Rattle.shdlc_core.proofs.Words.{option_to_list, refl, reset_with, runs_timer, slice_get, stopped, subst, sym, take_answer, taken, tick_answer, ticked, true}
@@ -42,17 +42,10 @@ pub record TicksAlike (e : EndState) (o : List Fragment) : Type 0 where
   pub acked : (ticked e).session.acked ≡ (if is_some (tick_answer e).ended then 0 else e.session.acked)
   pub acc : (ticked e).session.acc ≡ left_waiting (is_some (tick_answer e).ended) e.session.acc
 
-up_ticks : (e : EndState) (o : List Fragment) (b t u : Bool) → runs_timer (record e.session { out = o }) ≡ b → runs_timer e.session ≡ b
-    → nat_lt (e.timer + 1) 10 ≡ t → nat_lt e.tries 5 ≡ u → TicksAlike (in_phase Up e) o
-up_ticks e o b t u q r a c = grind arith
-
-waiting_ticks : (e : EndState) (o : List Fragment) (t u : Bool) → nat_lt (e.timer + 1) 10 ≡ t → nat_lt e.tries 5 ≡ u → TicksAlike (in_phase Waiting e) o
-waiting_ticks e o t u a b = grind arith
-
 ticks_in : (p : LinkState) (e : EndState) (o : List Fragment) → runs_timer (record e.session { out = o }) ≡ runs_timer e.session → TicksAlike (in_phase p e) o
 ticks_in Down e o runs = record { same = refl; answer = refl; out = refl; narrow = λ h. h; session = λ h. h; acked = refl; acc = refl }
-ticks_in Waiting e o runs = waiting_ticks e o (nat_lt (e.timer + 1) 10) (nat_lt e.tries 5) refl refl
-ticks_in Up e o runs = up_ticks e o (runs_timer e.session) (nat_lt (e.timer + 1) 10) (nat_lt e.tries 5) runs refl refl refl
+ticks_in Waiting e o runs = grind arith
+ticks_in Up e o runs = grind arith
 
 pub ticked_alike : (e : EndState) (o waiting : List Fragment) → e.session.out ≡ o ++ waiting → (waiting ≡ []) ⊎ (length o ≡ e.session.acked + 4)
     → e.session.acked ≤ e.session.next → TicksAlike e o
@@ -79,12 +72,8 @@ pub record ReadiesAlike (e : EndState) (o : List Fragment) (r : Bool) : Type 0 w
 idle_ready : (p : LinkState) (s : Session) → HasSession p s → HasSession p (record s { answered_rnr = false })
 idle_ready p s h = grind arith
 
-readies_in : (e : EndState) (o : List Fragment) (old new answered : Bool)
-    → ReadiesAlike (record e { ready = old; session = record e.session { answered_rnr = answered } }) o new
-readies_in e o old new answered = grind arith
-
 pub ready_alike : (e : EndState) (o : List Fragment) (r : Bool) → ReadiesAlike e o r
-ready_alike e o r = readies_in e o e.ready r e.session.answered_rnr
+ready_alike e o r = grind arith
 
 -- ## The frame that is sent now
 
@@ -121,35 +110,25 @@ fetches_none : (e : EndState) (o : List Fragment) (q : Option Fragment) → frag
     → FetchesAlike (record e { due = [] }) o
 fetches_none e o q r s = grind arith
 
-fetches_in : (e : EndState) (o : List Fragment) (due : List Due) → fragment_due (record e.session { out = o }) ≡ fragment_due e.session
-    → FetchesAlike (record e { due = due }) o
-fetches_in e o due same = grind arith
-
 pub fetched_alike : (e : EndState) (o waiting : List Fragment) → e.session.out ≡ o ++ waiting → e.session.window ≤ 4
     → (waiting ≡ []) ⊎ (length o ≡ e.session.acked + 4)
     → FetchesAlike e o
-fetched_alike e o waiting out window full = fetches_in e o e.due (due_alike e.session o waiting out window full)
+fetched_alike e o waiting out window full = let h0 = due_alike e.session o waiting out window full in grind arith
 
 -- ## What is kept after a step
-
-stands_after : {old new : KeptEnd} {waiting : List Fragment} {e f : EndState} (b : Bool) (h : StandsBefore old waiting e)
-    → f.session.out ≡ left_waiting b e.session.out → ShdlcStandsFor new (with_out f (left_waiting b h.offered)) → IsNarrow f → HasSession f.phase f.session
-    → StandsBefore new (left_waiting b waiting) f
-stands_after b h left kept narrow session = grind arith
 
 pub stands_taken : (k new : KeptEnd) (waiting : List Fragment) (e : EndState) (c : Control) (h : StandsBefore k waiting e)
     → ShdlcStandsFor new (taken (with_out e h.offered) c) → StandsBefore new (left_waiting (take_answer e c).began waiting) (taken e c)
 stands_taken k new waiting e c h kept =
     let a = taken_alike e h.offered c in
-    stands_after (take_answer e c).began h a.out (subst (ShdlcStandsFor new) a.same kept) (a.narrow h.narrow) (a.session h.session)
+    grind arith
 
 pub stands_ticked : (k new : KeptEnd) (waiting : List Fragment) (e : EndState) (h : StandsWith k waiting e)
     → ShdlcStandsFor new (ticked (with_out e h.stands.offered)) → StandsBefore new (left_waiting (is_some (tick_answer e).ended) waiting) (ticked e)
 stands_ticked k new waiting e h kept =
     let s = h.stands in
-    let next = s.kept.sender.next in
     let a = ticked_alike e s.offered waiting s.out h.full (omega arith) in
-    stands_after (is_some (tick_answer e).ended) s a.out (subst (ShdlcStandsFor new) a.same kept) (a.narrow s.narrow) (a.session s.session)
+    grind arith
 
 pub stands_reset : (k new : KeptEnd) (waiting : List Fragment) (e : EndState) (w : ℕ) (h : StandsBefore k waiting e) → w ≤ 4
     → ShdlcStandsFor new (reset_with (with_out e h.offered) w) → StandsBefore new (left_waiting (not (is_waiting e)) waiting) (reset_with e w)
@@ -158,11 +137,9 @@ stands_reset k new waiting e w h l kept = grind arith
 pub stands_ready : (k new : KeptEnd) (waiting : List Fragment) (e : EndState) (r : Bool) (h : StandsWith k waiting e)
     → ShdlcStandsFor new (with_ready (with_out e h.stands.offered) r) → StandsWith new waiting (with_ready e r)
 stands_ready k new waiting e r h kept =
-    let s = h.stands in
-    let a = ready_alike e s.offered r in
     record {
       stands = grind arith;
-      full = elim h.full [ inl none ↦ inl none | inr four ↦ inr (four ∙ ap (λ n. n + 4) (sym a.acked)) ];
+      full = elim h.full [ inl none ↦ inl none | inr four ↦ inr (four ∙ ap (λ n. n + 4) (sym (ready_alike e h.stands.offered r).acked)) ];
     }
 
 pub stands_fetched : (k new : KeptEnd) (waiting : List Fragment) (e : EndState) (h : StandsWith k waiting e)
@@ -201,14 +178,10 @@ stands_put k waiting more e up h =
 pub stands_offered : (k new : KeptEnd) (info : Fragment) (waiting : List Fragment) (e : EndState) (h : StandsBefore k (info ∷ waiting) e)
     → k.phase ≡ Up → length k.sender.queue < 4 → ShdlcStandsFor new (offered (with_out e h.offered) info) → StandsBefore new waiting e
 stands_offered k new info waiting e h up room kept =
-    let len = h.kept.sender.offered in
-    let few : nat_lt (length h.offered) (e.session.acked + 4) ≡ true = lt-ltb (length h.offered) (e.session.acked + 4) (omega arith) in
-    let phase : e.phase ≡ Up = sym h.kept.phase ∙ up in
-    let taken_is : offered (with_out e h.offered) info ≡ with_out e (h.offered ++ info ∷ []) = rw (phase, few) in
     record {
       offered = h.offered ++ info ∷ [];
       out = h.out ∙ sym (append_assoc h.offered (info ∷ []) waiting);
-      kept = subst (ShdlcStandsFor new) taken_is kept;
+      kept = subst (ShdlcStandsFor new) (rw ((sym h.kept.phase ∙ up), (lt-ltb (length h.offered) (e.session.acked + 4) (omega arith)))) kept;
       narrow = h.narrow;
       session = h.session;
     }
@@ -249,11 +222,8 @@ pub record Brings (e : EndState) (c : Control) : Type 0 where
 pub no_fragment : (f : Fragment) → None ≡ Some f → ⊥
 no_fragment f e = cc
 
-brings_in : (p : LinkState) (e : EndState) (c : Control) (f : Fragment) → (take_answer (in_phase p e) c).accepted ≡ Some f → Brings (in_phase p e) c
-brings_in p e c f is = grind arith
-
 pub brings_fragment : (e : EndState) (c : Control) (f : Fragment) → (take_answer e c).accepted ≡ Some f → Brings e c
-brings_fragment e c f is = brings_in e.phase e c f is
+brings_fragment e c f is = grind arith
 
 -- the lists and places of a session after a frame, by whether it ended one
 pub record TakesOn (e : EndState) (c : Control) : Type 0 where
@@ -273,7 +243,6 @@ up_ends e c = grind arith
 up_takes : (e : EndState) (c : Control) → TakesOn (in_phase Up e) c
 up_takes e c =
     let a = alike_in Up e [] c in
-    let same = up_ends e c in
     grind arith
 
 -- an end without a session acknowledges and accepts nothing, and ends none
@@ -282,19 +251,13 @@ record TakesIdle (a : Taken) : Type 0 where
   none_accepted : a.accepted ≡ None
   none_ended : a.ended ≡ None
 
-down_idle : (e : EndState) (c : Control) → TakesIdle (take_answer (in_phase Down e) c)
-down_idle e c = grind arith
-
-waiting_idle : (e : EndState) (c : Control) → TakesIdle (take_answer (in_phase Waiting e) c)
-waiting_idle e c = grind arith
-
 idle_takes : (e : EndState) (c : Control) → (e.phase ≡ Up → ⊥) → e.session ≡ no_session → TakesIdle (take_answer e c) → TakesOn e c
 idle_takes e c other none idle = grind arith
 
 takes_in : (p : LinkState) (e : EndState) (c : Control) → HasSession p e.session → TakesOn (in_phase p e) c
 takes_in Up e c h = up_takes e c
-takes_in Down e c h = idle_takes (in_phase Down e) c (λ e. cc) h (down_idle e c)
-takes_in Waiting e c h = idle_takes (in_phase Waiting e) c (λ e. cc) h (waiting_idle e c)
+takes_in Down e c h = idle_takes (in_phase Down e) c (λ e. cc) h (grind arith)
+takes_in Waiting e c h = idle_takes (in_phase Waiting e) c (λ e. cc) h (grind arith)
 
 pub takes_on : (e : EndState) (c : Control) → HasSession e.phase e.session → TakesOn e c
 takes_on e c h = takes_in e.phase e c h

@@ -2,7 +2,7 @@
 use Rattle.shdlc_core.proofs.Words.{Act, Begin, Bool, Clt, Control, Down, Due, EndInput, EndState, Fragment, I, Kind, LinkState, List, NextOut, None, Offer}
 use Rattle.shdlc_core.proofs.Words.{Option, Reset, Rset, S, Session, SessionHistory, SetReady, Some, Stop, Take, Tick, Timed, Ua, Up, Waiting, [], acknowledged}
 use Rattle.shdlc_core.proofs.Words.{arith, common_steps, cond, end_step, false, length, max, min, nat_lt, new_end, new_session, no_history, place_of, received}
-use Rattle.shdlc_core.proofs.Words.{refl, runs_timer, shdlc_after_inputs, subst, sym, timed, true, ℕ, ◌++◌, ◌+◌, ◌<◌, ◌==◌, ◌∙◌, ◌∷◌, ◌≡◌, ◌≤◌}
+use Rattle.shdlc_core.proofs.Words.{refl, runs_timer, shdlc_after_inputs, subst, sym, timed, true, ℕ, ◌+◌, ◌<◌, ◌==◌, ◌∙◌, ◌∷◌, ◌≡◌, ◌≤◌}
 use Rattle.shdlc_core.specs.Histories.{AskForWindows}
 use Rattle.shdlc_core.proofs.Histories.{IsOrdered, Holds, new-Holds, step-Holds, place_of-within, in_phase, received-phase, received-sending}
 
@@ -38,20 +38,10 @@ up w own peer p q r = record { own_window = q; peer_window = r; timer = omega ar
 waits : (s : Session) (own : ℕ) → IsWindow own → TimedFor Waiting s own 4 0 1
 waits s own q = grind arith
 
--- the timer and the tries, where the acknowledged part may have grown
-grown_timer : (a x t : ℕ) → t < 10 → cond (nat_lt a x) 0 t < 10
-grown_timer a x t l = grind (arith, common_steps)
-
-pub grown_tries : (a x t : ℕ) → t ≤ 5 → cond (nat_lt a x) 0 t ≤ 5
-grown_tries a x t l = grind (arith, common_steps)
-
 -- where the place doesn't grow, T2 runs as before
 acked_runs : (s : Session) (x t : ℕ) (gap answered : Bool) (acc : List Fragment) → s.acked ≤ x → s.acked ≤ s.next → (runs_timer s ≡ false → t ≡ 0) →
     runs_timer (record s { acked = x; next = max s.next x; acc = acc; gap_open = gap; answered_rnr = answered }) ≡ false → cond (nat_lt s.acked x) 0 t ≡ 0
 acked_runs s x t gap answered acc l o stands r = grind (arith, common_steps)
-
-received-runs : (f : EndState) (ns : ℕ) (info : Fragment) → runs_timer (received f ns info).session ≡ runs_timer f.session
-received-runs f ns info = grind (arith, common_steps)
 
 received-kept : (f : EndState) (ns : ℕ) (info : Fragment) →
     ((received f ns info).own_window ≡ f.own_window) × ((received f ns info).peer_window ≡ f.peer_window)
@@ -64,17 +54,16 @@ fragment-up e ns nr info (Some x) q o k =
     let within = place_of-within e.session nr x q in
     let f = acknowledged (in_phase Up e) x in
     let kept = received-kept f ns info in
-    let window = (received-sending f ns info).3 in
     rw q (record {
       own_window = subst IsWindow (sym kept.0) k.own_window;
       peer_window = subst IsWindow (sym kept.1) k.peer_window;
-      timer = subst (λ t. t < 10) (sym kept.2) (grown_timer e.session.acked x e.timer k.timer);
-      tries = subst (λ t. t ≤ 5) (sym kept.3) (grown_tries e.session.acked x e.tries k.tries);
+      timer = subst (λ t. t < 10) (sym kept.2) (grind arith);
+      tries = subst (λ t. t ≤ 5) (sym kept.3) (grind arith);
       session =
           subst (λ p. IsTimedIn p (received f ns info).session (received f ns info).timer) (sym (received-phase f ns info)) (
-            subst IsWindow (sym window) k.session.0,
+            subst IsWindow (sym ((received-sending f ns info).3)) k.session.0,
             λ r. kept.2 ∙ acked_runs e.session x e.timer e.session.gap_open e.session.answered_rnr e.session.acc within.0 o.next k.session.1
-                (sym (received-runs f ns info) ∙ r),
+                (sym (grind arith) ∙ r),
           );
     })
 
@@ -104,10 +93,6 @@ tick-up e runs t r q o k = grind arith
 tick-waiting : (e : EndState) (t : Timed) → timed e ≡ t → Keeps (in_phase Waiting e) Tick
 tick-waiting e t q o k = grind arith
 
--- where more is offered and T2 doesn't run, it didn't run before
-offered-runs : (s : Session) (info : Fragment) → runs_timer (record s { out = s.out ++ info ∷ [] }) ≡ false → runs_timer s ≡ false
-offered-runs s info r = grind (arith, common_steps)
-
 offer-up : (e : EndState) (info : Fragment) (b : Bool) → nat_lt (length e.session.out) (e.session.acked + 4) ≡ b →
     Keeps (in_phase Up e) (Offer info)
 offer-up e info false q o k = rw q k
@@ -116,7 +101,7 @@ offer-up e info true q o k = rw q (record {
   peer_window = k.peer_window;
   timer = k.timer;
   tries = k.tries;
-  session = (k.session.0, λ r. k.session.1 (offered-runs e.session info r));
+  session = (k.session.0, λ r. k.session.1 (grind (arith, common_steps)));
 })
 
 reset-asked : (e : EndState) (w : ℕ) (p : LinkState) → IsWindow w → Keeps (in_phase p e) (Reset w)
@@ -129,9 +114,6 @@ set_ready e p r was answered q w o k = grind arith
 next_out : (e : EndState) (p : LinkState) (ds : List Due) → e.due ≡ ds → Keeps (in_phase p e) NextOut
 next_out e p ds d o k = grind arith
 
-stopped-timed : (e : EndState) (p : LinkState) → Keeps (in_phase p e) Stop
-stopped-timed e p o k = grind arith
-
 -- a reset that is asked for names a window
 abbrev NamesWindow : EndInput → Type 0
 NamesWindow (Reset w) = IsWindow w
@@ -139,7 +121,7 @@ NamesWindow _ = Unit {0}
 
 step-phase : (e : EndState) (i : EndInput) (p : LinkState) → NamesWindow i → Keeps (in_phase p e) i
 step-phase e Begin p a o k = up e.own_window e.own_window e.peer_window k.own_window k.own_window k.peer_window
-step-phase e Stop p a o k = stopped-timed e p o k
+step-phase e Stop p a o k = grind arith
 step-phase e (Reset w) p a o k = reset-asked e w p a o k
 step-phase e (SetReady r) p a o k = set_ready e p r _ _ refl refl o k
 step-phase e NextOut p a o k = next_out e p _ refl o k

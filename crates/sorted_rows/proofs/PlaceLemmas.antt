@@ -5,11 +5,9 @@ use Rattle.std.specs.Prelude.{Some, None}
 use Rattle.std.specs.List.{insert, remove, HoldsAt, AllWithin}
 use Rattle.std.specs.List.Sorted.{IsBinarySearchResult, IsSearchInRange}
 use Rattle.std.specs.Ordering.{nat_cmp, ordering_index}
-use Rattle.std.specs.declared.cmp.Ordering.TheVariants.{Less, Equal, Greater}
 use Rattle.std.specs.declared.result.Result.{Result}
 use Rattle.std.specs.declared.result.Result.TheVariants.{Ok, Err}
 use Rattle.std.proofs.lemmas.Bool.{cases_order, eq-eqb, ne_eqb, cond-true, cond-false}
-use Rattle.std.proofs.lemmas.Cmp.{ranked}
 use Rattle.std.proofs.lemmas.List.{set_split}
 use Rattle.std.proofs.lemmas.List.Edits.{length-insert}
 use Rattle.sorted_rows.specs.Rows.{AreRows, row_of, rows_before, rows_behind, with_row, without_row, IsPlace}
@@ -22,7 +20,6 @@ key-from : {X : Type 0} (key : X → ℕ) (low high : ℕ) (rows : List X) (n : 
 key-from key low high [] n d h l = absurd (omega arith)
 key-from key low high (r ∷ rows) zero d h l = h.0
 key-from key low high (r ∷ rows) (suc n) d h l =
-    let low_le = h.0 in
     let rest = key-from key (key r + 1) high rows n d h.2 (omega arith) in
     omega arith
 
@@ -36,27 +33,18 @@ keys-rise key low high (r ∷ rows) zero (suc j) d h le l =
 keys-rise key low high (r ∷ rows) (suc i) zero d h le l = absurd (omega arith)
 keys-rise key low high (r ∷ rows) (suc i) (suc j) d h le l = keys-rise key (key r + 1) high rows i j d h.2 (omega arith) (omega arith)
 
-compared-less : (x y : ℕ) → nat_cmp x y ≡ Less → x < y
-compared-less x y is = ranked x y Less (sym is)
-
-compared-equal : (x y : ℕ) → nat_cmp x y ≡ Equal → x ≡ y
-compared-equal x y is = ranked x y Equal (sym is)
-
-compared-greater : (x y : ℕ) → nat_cmp x y ≡ Greater → y < x
-compared-greater x y is = ranked x y Greater (sym is)
-
 compared-rise : (x y k : ℕ) → x ≤ y → ordering_index (nat_cmp x k) ≤ ordering_index (nat_cmp y k)
 compared-rise x y k le = grind (arith, tests)
 
 -- what a binary search by the keys finds
 pub place_from_search : {X : Type 0} (key : X → ℕ) (k low high : ℕ) (rows : List X) (place : Result ℕ ℕ) → AreRows key low high rows
     → IsBinarySearchResult (λ row. nat_cmp (key row) k) rows place → IsSearchInRange place (length rows) → IsPlace key k rows place
-place_from_search key k low high rows (Ok at) h found within = (within, λ d. compared-equal (key (get_or rows at d)) k (found d))
+place_from_search key k low high rows (Ok at) h found within = (within, λ d. (grind arith))
 place_from_search key k low high rows (Err at) h found within =
     let parted = found (λ i j d le l. compared-rise (key (get_or rows i d)) (key (get_or rows j d)) k (keys-rise key low high rows i j d h le l)) in (
       within,
-      (λ n d from below. compared-less (key (get_or rows n d)) k (parted.0 n d from below)),
-      (λ n d from below. compared-greater (key (get_or rows n d)) k (parted.1 n d from below)),
+      (λ n d from below. (grind arith)),
+      (λ n d from below. (grind arith)),
     )
 
 -- Round a row: those before it have smaller keys, those behind it greater ones.
@@ -67,10 +55,8 @@ take-at_row key k low high (r ∷ rows) zero h l is =
     let same : key r ≡ k = is r in
     sym (before-above key k r rows (omega arith) ∙ rows_before-none key k (key r + 1) high rows (omega arith) h.2)
 take-at_row key k low high (r ∷ rows) (suc n) h l is =
-    let rest = take-at_row key k (key r + 1) high rows n h.2 (omega arith) (λ d. is d) in
     let from = key-from key (key r + 1) high rows n r h.2 (omega arith) in
-    let same : key (get_or rows n r) ≡ k = is r in
-    ap (λ front. r ∷ front) rest ∙ sym (before-below key k r rows (omega arith))
+    ap (λ front. r ∷ front) (take-at_row key k (key r + 1) high rows n h.2 (omega arith) (λ d. is d)) ∙ sym (before-below key k r rows (omega arith))
 
 drop-at_row : {X : Type 0} (key : X → ℕ) (k low high : ℕ) (rows : List X) (at : ℕ) → AreRows key low high rows → at < length rows
     → HoldsAt (λ row. key row ≡ k) rows at → drop (suc at) rows ≡ rows_behind key k rows
@@ -79,10 +65,8 @@ drop-at_row key k low high (r ∷ rows) zero h l is =
     let same : key r ≡ k = is r in
     sym (behind-below key k r rows (omega arith) ∙ rows_behind-all key k (key r + 1) high rows (omega arith) h.2)
 drop-at_row key k low high (r ∷ rows) (suc n) h l is =
-    let rest = drop-at_row key k (key r + 1) high rows n h.2 (omega arith) (λ d. is d) in
     let from = key-from key (key r + 1) high rows n r h.2 (omega arith) in
-    let same : key (get_or rows n r) ≡ k = is r in
-    rest ∙ sym (behind-below key k r rows (omega arith))
+    (drop-at_row key k (key r + 1) high rows n h.2 (omega arith) (λ d. is d)) ∙ sym (behind-below key k r rows (omega arith))
 
 pub set-is_put : {X : Type 0} (key : X → ℕ) (low high : ℕ) (row : X) (rows : List X) (at : ℕ) → AreRows key low high rows
     → IsPlace key (key row) rows (Ok at) → set rows at row ≡ with_row key row rows
@@ -100,7 +84,6 @@ remove-at_row key k low high (r ∷ rows) zero h l is =
 remove-at_row key k low high (r ∷ rows) (suc n) h l is =
     let rest = remove-at_row key k (key r + 1) high rows n h.2 (omega arith) (λ d. is d) in
     let from = key-from key (key r + 1) high rows n r h.2 (omega arith) in
-    let same : key (get_or rows n r) ≡ k = is r in
     ap (λ others. r ∷ others) rest ∙ sym (without-other key k r rows (λ equal. omega arith))
 
 pub remove-is_taken_out : {X : Type 0} (key : X → ℕ) (k low high : ℕ) (rows : List X) (at : ℕ) → AreRows key low high rows
@@ -113,7 +96,6 @@ found-at_row key k low high [] at d h l is = absurd (omega arith)
 found-at_row key k low high (r ∷ rows) zero d h l is = cond-true (eqb (key r) k) (Some r) (row_of key k rows) (eq-eqb (key r) k (is r))
 found-at_row key k low high (r ∷ rows) (suc n) d h l is =
     let from = key-from key (key r + 1) high rows n r h.2 (omega arith) in
-    let same : key (get_or rows n r) ≡ k = is r in
     cond-false (eqb (key r) k) (Some r) (row_of key k rows) (ne_eqb (key r) k (λ equal. omega arith))
     ∙ found-at_row key k (key r + 1) high rows n d h.2 (omega arith) (λ e. is e)
 
@@ -170,12 +152,10 @@ map-at_row : {X : Type 0} (key : X → ℕ) (k low high : ℕ) (change : X → X
 map-at_row key k low high change [] at d h l is = absurd (omega arith)
 map-at_row key k low high change (r ∷ rows) zero d h l is =
     let same : key r ≡ k = is r in
-    let none = absent-low key k (key r + 1) high rows (omega arith) h.2 in
     sym (ap (λ first. first ∷ map (changed key k change) rows) (cond-true (eqb (key r) k) (change r) r (eq-eqb (key r) k same))
-    ∙ ap (λ others. change r ∷ others) (map-absent key k change rows none))
+    ∙ ap (λ others. change r ∷ others) (map-absent key k change rows (absent-low key k (key r + 1) high rows (omega arith) h.2)))
 map-at_row key k low high change (r ∷ rows) (suc n) d h l is =
     let from = key-from key (key r + 1) high rows n r h.2 (omega arith) in
-    let same : key (get_or rows n r) ≡ k = is r in
     ap (λ others. r ∷ others) (map-at_row key k (key r + 1) high change rows n d h.2 (omega arith) (λ e. is e))
     ∙ sym (ap (λ first. first ∷ map (changed key k change) rows) (cond-false (eqb (key r) k) (change r) r (ne_eqb (key r) k (λ equal. omega arith))))
 
@@ -204,10 +184,9 @@ take-at_gap key k low high (r ∷ rows) zero h le below above =
     let greater : k < key r = above zero r (omega arith) (omega arith) in
     sym (before-above key k r rows (omega arith) ∙ rows_before-none key k (key r + 1) high rows (omega arith) h.2)
 take-at_gap key k low high (r ∷ rows) (suc n) h le below above =
-    let less : key r < k = below zero r (omega arith) (omega arith) in
     let rest = take-at_gap key k (key r + 1) high rows n h.2 (omega arith) (λ m d from l. below (suc m) d (omega arith) (omega arith))
     (λ m d from l. above (suc m) d (omega arith) (omega arith)) in
-    ap (λ front. r ∷ front) rest ∙ sym (before-below key k r rows less)
+    ap (λ front. r ∷ front) rest ∙ sym (before-below key k r rows (below zero r (omega arith) (omega arith)))
 
 drop-at_gap : {X : Type 0} (key : X → ℕ) (k low high : ℕ) (rows : List X) (at : ℕ) → AreRows key low high rows → at ≤ length rows
     → AllWithin (λ row. key row < k) rows 0 at → AllWithin (λ row. k < key row) rows at (length rows) → drop at rows ≡ rows_behind key k rows
@@ -232,9 +211,7 @@ insert-is_put key low high row rows at h place =
 pub room-at_gap : {X : Type 0} (key : X → ℕ) (low high : ℕ) (row : X) (rows : List X) (at : ℕ) → AreRows key low high rows → low ≤ key row
     → key row < high → IsPlace key (key row) rows (Err at) → length rows < high - low
 room-at_gap key low high row rows at h low_le below place =
-    let put = AreRows-with_row key low high row rows h low_le below in
-    let few = length-rows key low high (with_row key row rows) put in
+    let few = length-rows key low high (with_row key row rows) (AreRows-with_row key low high row rows h low_le below) in
     let same = ap length (insert-is_put key low high row rows at h place) in
-    let within : at ≤ length rows = place.0 in
-    let longer = length-insert rows at row within in
+    let longer = length-insert rows at row place.0 in
     omega arith

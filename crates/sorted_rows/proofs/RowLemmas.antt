@@ -16,7 +16,6 @@ pub AreRows-filter : {X : Type 0} (key : X → ℕ) (low high : ℕ) (kept : X �
     → AreRows key low high (filter kept rows)
 AreRows-filter key low high kept [] h = tt
 AreRows-filter key low high kept (row ∷ rows) h =
-    let low_le = h.0 in
     let rest = AreRows-filter key (key row + 1) high kept rows h.2 in
     cond_both (kept row) (row ∷ filter kept rows) (filter kept rows) (AreRows key low high)
     (λ yes. (h.0, h.1, rest)) (λ no. AreRows-lower key low (key row + 1) high (filter kept rows) (omega arith) rest)
@@ -26,17 +25,12 @@ pub AreRows-map : {X : Type 0} (key : X → ℕ) (change : X → X) (low high : 
     → AreRows key low high rows → AreRows key low high (map change rows)
 AreRows-map key change low high [] keeps h = tt
 AreRows-map key change low high (row ∷ rows) keeps h =
-    let same = keeps row in
-    let low_le = h.0 in
-    let below = h.1 in
     let rest = AreRows-map key change (key row + 1) high rows keeps h.2 in
     (omega arith, omega arith, AreRows-lower key (key (change row) + 1) (key row + 1) high (map change rows) (omega arith) rest)
 
 pub length-rows : {X : Type 0} (key : X → ℕ) (low high : ℕ) (rows : List X) → AreRows key low high rows → length rows ≤ high - low
 length-rows key low high [] h = omega arith
 length-rows key low high (row ∷ rows) h =
-    let low_le = h.0 in
-    let below = h.1 in
     let rest = length-rows key (key row + 1) high rows h.2 in
     omega arith
 
@@ -44,23 +38,19 @@ length-rows key low high (row ∷ rows) h =
 pub rows_before-none : {X : Type 0} (key : X → ℕ) (k low high : ℕ) (rows : List X) → k ≤ low → AreRows key low high rows → rows_before key k rows ≡ []
 rows_before-none key k low high [] le h = refl
 rows_before-none key k low high (row ∷ rows) le h =
-    let low_le = h.0 in
     cond-false (ltb (key row) k) (row ∷ rows_before key k rows) (rows_before key k rows) (le-ltb (key row) k (omega arith))
     ∙ rows_before-none key k (key row + 1) high rows (omega arith) h.2
 
 pub rows_behind-all : {X : Type 0} (key : X → ℕ) (k low high : ℕ) (rows : List X) → k < low → AreRows key low high rows → rows_behind key k rows ≡ rows
 rows_behind-all key k low high [] le h = refl
 rows_behind-all key k low high (row ∷ rows) le h =
-    let low_le = h.0 in
     cond-true (ltb k (key row)) (row ∷ rows_behind key k rows) (rows_behind key k rows) (lt-ltb k (key row) (omega arith))
     ∙ ap (λ behind. row ∷ behind) (rows_behind-all key k (key row + 1) high rows (omega arith) h.2)
 
 pub without_row-all : {X : Type 0} (key : X → ℕ) (k low high : ℕ) (rows : List X) → k < low → AreRows key low high rows → without_row key k rows ≡ rows
 without_row-all key k low high [] le h = refl
 without_row-all key k low high (row ∷ rows) le h =
-    let low_le = h.0 in
-    let other : (key row ≡ k → ⊥) = λ same. omega arith in
-    ap (λ b. cond (not b) (row ∷ without_row key k rows) (without_row key k rows)) (ne_eqb (key row) k other)
+    ap (λ b. cond (not b) (row ∷ without_row key k rows) (without_row key k rows)) (ne_eqb (key row) k (λ same. omega arith))
     ∙ ap (λ rest. row ∷ rest) (without_row-all key k (key row + 1) high rows (omega arith) h.2)
 
 -- a row below k, one at k and one above it, in the two lists round k
@@ -88,8 +78,6 @@ pub AreRows-with_row : {X : Type 0} (key : X → ℕ) (low high : ℕ) (row : X)
 AreRows-with_row key low high row [] h low_le below = (low_le, below, tt)
 AreRows-with_row {X} key low high row (r ∷ rows) h low_le below =
     let k = key row in
-    let h0 = h.0 in
-    let h1 = h.1 in
     let P : List X → Type 0 = AreRows key low high in
     elim (cases_order (key r) k) [
       | inl same ↦ subst P (sym (
@@ -174,12 +162,10 @@ put_by_insert key low high row rows h taken_is seen_is n_is new_is =
 pub length-without_row : {X : Type 0} (key : X → ℕ) (low high : ℕ) (row : X) (rows : List X) → AreRows key low high rows → low ≤ key row
     → key row < high → length (without_row key (key row) rows) < high - low
 length-without_row key low high row rows h low_le below =
-    let put = AreRows-with_row key low high row rows h low_le below in
-    let few = length-rows key low high (with_row key row rows) put in
+    let few = length-rows key low high (with_row key row rows) (AreRows-with_row key low high row rows h low_le below) in
     let same = ap length (inserted_is_put key low high row rows h) in
     let taken = without_row key (key row) rows in
-    let le = prefix_len-le-length (λ r. ltb (key r) (key row)) taken in
-    let longer = length-insert taken (prefix_len (λ r. ltb (key r) (key row)) taken) row le in
+    let longer = length-insert taken (prefix_len (λ r. ltb (key r) (key row)) taken) row (prefix_len-le-length (λ r. ltb (key r) (key row)) taken) in
     omega arith
 
 -- Looking up by a key.
@@ -271,8 +257,6 @@ pub row_of-within : {X : Type 0} (key : X → ℕ) (low high k : ℕ) (rows : Li
     → (low ≤ k) × (k < high)
 row_of-within key low high k [] h some = absurd (cc some)
 row_of-within {X} key low high k (row ∷ rows) h some =
-    let from = h.0 in
-    let below = h.1 in
     cond_both (eqb (key row) k) (Some row) (row_of key k rows) (λ o. IsSome o → (low ≤ k) × (k < high))
     (λ same _. let is = eqb-true (key row) k same in (omega arith, omega arith))
     (λ other found. let rest = row_of-within key (key row + 1) high k rows h.2 found in let rest_from = rest.0 in (omega arith, rest.1))

@@ -35,33 +35,25 @@ waits_by_place : (n t k : ℕ) (b : Bool) → leb 9 k ≡ b → k < 10 → t + (
     → phase_after n (phase_ticked (Awaiting t k)) ≡ Awaiting (t + (k + suc n) / 10) ((k + suc n) % 10)
 waits_by_place n t k true e low fits more =
     let nine : k ≡ 9 = grind (arith, common_steps) in
-    let a : (t + 1) + (0 + n) / 10 ≡ t + (k + suc n) / 10 = omega arith in
-    let b : (0 + n) % 10 ≡ (k + suc n) % 10 = omega arith in
     ap (λ i. phase_after n (phase_ticked (Awaiting t i))) nine
     ∙ (ap (phase_after n) (tick_tries t (omega arith))
     ∙ (more (t + 1) 0 (omega arith) (omega arith)
-    ∙ (ap (λ i. Awaiting i ((0 + n) % 10)) a ∙ ap (Awaiting (t + (k + suc n) / 10)) b)))
+    ∙ (ap (λ i. Awaiting i ((0 + n) % 10)) (omega arith) ∙ ap (Awaiting (t + (k + suc n) / 10)) (omega arith))))
 waits_by_place n t k false e low fits more =
     let below : k < 9 = grind (arith, common_steps) in
-    let a : t + ((k + 1) + n) / 10 ≡ t + (k + suc n) / 10 = omega arith in
-    let b : ((k + 1) + n) % 10 ≡ (k + suc n) % 10 = omega arith in
     ap (phase_after n) (tick_counts t k below)
     ∙ (more t (k + 1) (omega arith) (omega arith)
-    ∙ (ap (λ i. Awaiting i (((k + 1) + n) % 10)) a ∙ ap (Awaiting (t + (k + suc n) / 10)) b))
+    ∙ (ap (λ i. Awaiting i (((k + 1) + n) % 10)) (omega arith) ∙ ap (Awaiting (t + (k + suc n) / 10)) (omega arith)))
 
 -- n more ticks, from k ticks after the t-th try
 waits : (n t k : ℕ) → k < 10 → t + (k + n) / 10 ≤ 3 → phase_after n (Awaiting t k) ≡ Awaiting (t + (k + n) / 10) ((k + n) % 10)
-waits zero t k low fits =
-    let none : t + (k + 0) / 10 ≡ t = omega arith in
-    let same : (k + 0) % 10 ≡ k = omega arith in
-    sym (ap (λ a. Awaiting a ((k + 0) % 10)) none ∙ ap (Awaiting t) same)
+waits zero t k low fits = sym (ap (λ a. Awaiting a ((k + 0) % 10)) (omega arith) ∙ ap (Awaiting t) (omega arith))
 waits (suc n) t k low fits = waits_by_place n t k (leb 9 k) refl low fits (λ u i. waits n u i)
 
 -- what the tick after n ticks since the t-th try answers
 answer_is : (last : Option Act) (t n : ℕ) → t ≤ 3 → n < ticks_from t → out_ticked (Awaiting (t + n / 10) (n % 10)) last ≡ answer_to_tick last t (n + 1)
 answer_is last t n small fits =
-    let tenth : leb 10 (n % 10 + 1) ≡ eqb ((n + 1) % 10) 0 = same_tenth (leb 10 (n % 10 + 1)) (eqb ((n + 1) % 10) 0) refl refl in
-    by_tenth (eqb ((n + 1) % 10) 0) refl tenth
+    by_tenth (eqb ((n + 1) % 10) 0) refl (same_tenth (leb 10 (n % 10 + 1)) (eqb ((n + 1) % 10) 0) refl refl)
   where
     same_tenth : (a b : Bool) → leb 10 (n % 10 + 1) ≡ a → eqb ((n + 1) % 10) 0 ≡ b → a ≡ b
     same_tenth true true p q = refl
@@ -82,12 +74,9 @@ answer_is last t n small fits =
         → out_ticked (Awaiting (t + n / 10) (n % 10)) last ≡ answer_to_tick last t (n + 1)
     by_tenth true e same =
         let d : (n + 1) % 10 ≡ 0 = grind (arith, common_steps) in
-        let third = same_third (leb 3 (t + n / 10)) (eqb (n + 1) (ticks_from t)) d refl refl in
-        let yes : leb 10 (n % 10 + 1) ≡ true = same ∙ e in
-        rw (yes, e, third) refl
+        rw ((same ∙ e), e, (same_third (leb 3 (t + n / 10)) (eqb (n + 1) (ticks_from t)) d refl refl)) refl
     by_tenth false e same =
-        let no : leb 10 (n % 10 + 1) ≡ false = same ∙ e in
-        rw (no, e) refl
+        rw ((same ∙ e), e) refl
 
 -- what doesn't answer a UICC changes nothing but its ticks
 uicc_kept : (s : UiccAct) (es : List ActEvent) → AllByRecursion IsNoPowerMode es
@@ -117,9 +106,8 @@ clf_kept s (Stop ∷ es) quiet = absurd quiet.0
 -- the answer to one more tick, n ticks after a try
 answer_after : (last : Option Act) (t n : ℕ) → t ≤ 3 → n < ticks_from t → out_ticked (phase_after n (Awaiting t 0)) last ≡ answer_to_tick last t (n + 1)
 answer_after last t n small fits =
-    let plain : 0 + n ≡ n = omega arith in
     ap (λ p. out_ticked p last) (waits n t 0 (omega arith) (omega arith))
-    ∙ (ap (λ m. out_ticked (Awaiting (t + m / 10) (m % 10)) last) plain ∙ answer_is last t n small fits)
+    ∙ (ap (λ m. out_ticked (Awaiting (t + m / 10) (m % 10)) last) (omega arith) ∙ answer_is last t n small fits)
 
 pub uicc_tries : (s : UiccAct) (id : ℕ) (between : List ActEvent) → AllByRecursion IsNoPowerMode between → ticks_in between < 30
     → (uicc_step (uicc_after s (Start id ∷ between)) Tick).1 ≡ answer_to_tick (Some (SyncId id)) 1 (ticks_in between + 1)

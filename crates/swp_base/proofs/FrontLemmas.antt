@@ -18,9 +18,8 @@ lengthened : (xs : List ℕ) (n size : ℕ) → n ≤ size → length xs ≤ siz
 lengthened xs n size within few =
     let more = replicate (n - length xs) 255 in
     let long : length (xs ++ more) ≡ length xs + (n - length xs) = omega (arith, length-append xs more, length-replicate {A = ℕ} (n - length xs) 255) in
-    let together : n - length xs + (size - length (xs ++ more)) ≡ size - length xs = omega (arith, long) in
     append_assoc xs more (replicate (size - length (xs ++ more)) 255)
-    ∙ ap (λ l. xs ++ l) (replicate-append-replicate (n - length xs) (size - length (xs ++ more)) 255 ∙ ap (λ k. replicate k 255) together)
+    ∙ ap (λ l. xs ++ l) (replicate-append-replicate (n - length xs) (size - length (xs ++ more)) 255 ∙ ap (λ k. replicate k 255) (grind arith))
 
 -- a write that ends at place n, into what is held up to there
 pub front_written : (xs bytes : List ℕ) (at n size : ℕ) → at + length bytes ≡ n → n ≤ size → length xs ≤ size
@@ -40,11 +39,9 @@ drop-filled_up m k xs = by_place (cases_lt m (length xs))
   where
     by_place : (m < length xs) ⊎ (length xs ≤ m) → drop m (xs ++ replicate k 255) ≡ drop m xs ++ replicate (k - (m - length xs)) 255
     by_place (inl before) =
-        let all : k ≡ k - (m - length xs) = omega arith in
-        drop-append-le m xs (replicate k 255) (omega arith) ∙ ap (λ j. drop m xs ++ replicate j 255) all
+        drop-append-le m xs (replicate k 255) (omega arith) ∙ ap (λ j. drop m xs ++ replicate j 255) (omega arith)
     by_place (inr behind) =
-        let beyond : m ≡ length xs + (m - length xs) = omega arith in
-        ap (λ j. drop j (xs ++ replicate k 255)) beyond
+        ap (λ j. drop j (xs ++ replicate k 255)) (omega arith)
         ∙ drop-append-add xs (replicate k 255) (m - length xs)
         ∙ drop-replicate (m - length xs) k 255
         ∙ ap (λ l. l ++ replicate (k - (m - length xs)) 255) (sym (drop_all m xs behind))
@@ -57,8 +54,7 @@ take-filled_up n k ys fits = by_place (cases_lt n (length ys))
         let none : 0 ≡ n - length ys = omega arith in
         take-append-le n ys (replicate k 255) (omega arith) ∙ sym (append-nil (take n ys)) ∙ ap (λ j. take n ys ++ replicate j 255) none
     by_place (inr behind) =
-        let beyond : n ≡ length ys + (n - length ys) = omega arith in
-        ap (λ j. take j (ys ++ replicate k 255)) beyond
+        ap (λ j. take j (ys ++ replicate k 255)) (omega arith)
         ∙ take-append-add ys (replicate k 255) (n - length ys)
         ∙ ap (λ l. ys ++ l) (take-replicate (n - length ys) k 255 (omega arith))
         ∙ ap (λ l. l ++ replicate (n - length ys) 255) (sym (take_all n ys behind))
@@ -79,18 +75,15 @@ module _ (xs : List ℕ) (at n size from held : ℕ) (few : length xs ≤ size) 
           ∙ sym (take_all (from + held - from) (drop from xs) (omega (arith, length-drop from xs, held_is, from_is)))
       by_place (inr before) (inr goes_on) =
           let here : at ≡ from = omega (arith, from_is) in
-          let whole : n ≡ from + held - from = omega (arith, held_is, from_is) in
-          ap₂ (λ j m. take j (drop m xs)) whole here
+          ap₂ (λ j m. take j (drop m xs)) (omega (arith, held_is, from_is)) here
 
   pub front_read : slice_range xs from (from + held) ++ replicate (n - held) 255 ≡ slice_range (xs ++ replicate (size - length xs) 255) at (at + n)
   front_read =
-      let many : at + n - at ≡ n = omega arith in
-      let left : n - length (drop at xs) ≡ n - held = omega (arith, length-drop at xs, from_is, held_is) in
       sym
-      (ap (λ j. take j (drop at (xs ++ replicate (size - length xs) 255))) many
+      (ap (λ j. take j (drop at (xs ++ replicate (size - length xs) 255))) (omega arith)
       ∙ ap (take n) (drop-filled_up at (size - length xs) xs)
       ∙ take-filled_up n (size - length xs - (at - length xs)) (drop at xs) (omega (arith, length-drop at xs))
-      ∙ ap₂ (λ l j. l ++ replicate j 255) held_part left)
+      ∙ ap₂ (λ l j. l ++ replicate j 255) held_part (omega (arith, length-drop at xs, from_is, held_is)))
 
 -- a buffer whose front was written, and then the rest
 pub both_parts : (front rest old : List ℕ) (held : ℕ) → length front ≡ held

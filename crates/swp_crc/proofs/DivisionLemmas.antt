@@ -101,7 +101,6 @@ length-divided zero xs h = omega arith
 length-divided (suc n) [] h = absurd (omega arith)
 length-divided (suc n) (true ∷ xs) h =
     let same : length (sum_from_front tail xs) ≡ length xs = length-sum tail xs (omega arith) in
-    let enough : n + 16 ≤ length (sum_from_front tail xs) = omega arith in
-    omega (arith, length-divided n (sum_from_front tail xs) enough, same)
+    omega (arith, length-divided n (sum_from_front tail xs) (omega arith), same)
 length-divided (suc n) (false ∷ xs) h =
     let enough : n + 16 ≤ length xs = omega arith in omega (arith, length-divided n xs enough)

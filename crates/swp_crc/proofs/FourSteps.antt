@@ -94,16 +94,14 @@ upper_half r high low l is =
     let power : 2 ^ length low ≡ 256 = ap (λ n. 2 ^ n) l in
     let parts : r ≡ spelled_number high * 256 + spelled_number low = is ∙ number_of-append high low
     ∙ ap (λ n. spelled_number high * n + spelled_number low) power in
-    let small : spelled_number low < 256 = subst (λ n. spelled_number low < n) power (number_of-lt low) in
-    omega (arith, parts, small)
+    omega (arith, parts, (subst (λ n. spelled_number low < n) power (number_of-lt low)))
 
 lower_half : (r : ℕ) (high low : List Bool) → length low ≡ 8 → r ≡ spelled_number (high ++ low) → r % 256 ≡ spelled_number low
 lower_half r high low l is =
     let power : 2 ^ length low ≡ 256 = ap (λ n. 2 ^ n) l in
     let parts : r ≡ spelled_number high * 256 + spelled_number low = is ∙ number_of-append high low
     ∙ ap (λ n. spelled_number high * n + spelled_number low) power in
-    let small : spelled_number low < 256 = subst (λ n. spelled_number low < n) power (number_of-lt low) in
-    omega (arith, parts, small)
+    omega (arith, parts, (subst (λ n. spelled_number low < n) power (number_of-lt low)))
 
 length-high : (bytes : List ℕ) → length (take 8 (remainder_of bytes)) ≡ 8
 length-high bytes = omega (arith, length-take 8 (remainder_of bytes), length-remainder bytes)

@@ -24,9 +24,7 @@ number_of-lt (false ∷ bs) = omega (arith, number_of-lt bs, pow-suc 2 (length b
 
 pub number_of-append : (xs ys : List Bool) → spelled_number (xs ++ ys) ≡ spelled_number xs * 2 ^ length ys + spelled_number ys
 number_of-append [] ys = omega arith
-number_of-append (true ∷ xs) ys =
-    let power : 2 ^ length (xs ++ ys) ≡ 2 ^ length xs * 2 ^ length ys = ap (λ n. 2 ^ n) (length-append xs ys) ∙ pow-add 2 (length xs) (length ys) in
-    omega (arith, power, number_of-append xs ys)
+number_of-append (true ∷ xs) ys = omega (arith, (ap (λ n. 2 ^ n) (length-append xs ys) ∙ pow-add 2 (length xs) (length ys)), number_of-append xs ys)
 number_of-append (false ∷ xs) ys = number_of-append xs ys
 
 pub number_of-zeros : (n : ℕ) → spelled_number (replicate n false) ≡ 0
@@ -40,15 +38,12 @@ number_of-injective [] (y ∷ ys) h e = absurd (omega arith)
 number_of-injective (x ∷ xs) [] h e = absurd (omega arith)
 number_of-injective (true ∷ xs) (true ∷ ys) h e =
     let same : length xs ≡ length ys = omega arith in
-    let power : 2 ^ length xs ≡ 2 ^ length ys = ap (λ n. 2 ^ n) same in
-    ap (λ zs. true ∷ zs) (number_of-injective xs ys same (omega (arith, power)))
+    ap (λ zs. true ∷ zs) (number_of-injective xs ys same (omega (arith, (ap (λ n. 2 ^ n) same))))
 number_of-injective (true ∷ xs) (false ∷ ys) h e =
-    let same : length xs ≡ length ys = omega arith in
-    let power : 2 ^ length xs ≡ 2 ^ length ys = ap (λ n. 2 ^ n) same in
+    let power : 2 ^ length xs ≡ 2 ^ length ys = ap (λ n. 2 ^ n) (omega arith) in
     absurd (omega (arith, power, number_of-lt ys))
 number_of-injective (false ∷ xs) (true ∷ ys) h e =
-    let same : length xs ≡ length ys = omega arith in
-    let power : 2 ^ length xs ≡ 2 ^ length ys = ap (λ n. 2 ^ n) same in
+    let power : 2 ^ length xs ≡ 2 ^ length ys = ap (λ n. 2 ^ n) (omega arith) in
     absurd (omega (arith, power, number_of-lt xs))
 number_of-injective (false ∷ xs) (false ∷ ys) h e = ap (λ zs. false ∷ zs) (number_of-injective xs ys (omega arith) e)
 
@@ -73,6 +68,4 @@ number_of-sum (x ∷ xs) (y ∷ ys) h =
 pub number_of-not : (xs : List Bool) → spelled_number (map not xs) + spelled_number xs + 1 ≡ 2 ^ length xs
 number_of-not [] = refl
 number_of-not (true ∷ xs) = omega (arith, number_of-not xs, pow-suc 2 (length xs))
-number_of-not (false ∷ xs) =
-    let power : 2 ^ length (map not xs) ≡ 2 ^ length xs = ap (λ n. 2 ^ n) (length-map xs not) in
-    omega (arith, number_of-not xs, pow-suc 2 (length xs), power)
+number_of-not (false ∷ xs) = omega (arith, number_of-not xs, pow-suc 2 (length xs), (ap (λ n. 2 ^ n) (length-map xs not)))

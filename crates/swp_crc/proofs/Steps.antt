@@ -186,6 +186,4 @@ push_step r b e bytes small is entry =
     whole = take-append-drop 8 (remainder_of bytes)
 
 pub crc_step : (r : ℕ) (bytes : List ℕ) → r ≡ running_of bytes → 65535 - r ≡ crc_of bytes
-crc_step r bytes is =
-    let power : 2 ^ length (remainder_of bytes) ≡ 65536 = ap (λ n. 2 ^ n) (length-remainder bytes) in
-    omega (arith, is, number_of-not (remainder_of bytes), power)
+crc_step r bytes is = omega (arith, is, number_of-not (remainder_of bytes), (ap (λ n. 2 ^ n) (length-remainder bytes)))

@@ -11,8 +11,7 @@ use Rattle.swp_frame.specs.Signal.{read_on, since_start}
 use Rattle.swp_frame.specs.Words.{IsWordBehind, low_bits, places_of_marks, run_after}
 use Rattle.swp_frame.specs.Verdicts.{verdict_after}
 use Rattle.swp_frame.specs.declared.fed.Fed.TheVariants.{Nothing}
-use Rattle.swp_frame.proofs.Places.{EndsIn, all_ones, drop-low_bits, low_bits-add, low_bits-same, take-low_bits}
-use Rattle.swp_frame.proofs.Places.{last_zero, run_at_end, marks_between, no_marks}
+use Rattle.swp_frame.proofs.Places.{EndsIn, all_ones, drop-low_bits, low_bits-add, low_bits-same, take-low_bits, last_zero, run_at_end, marks_between, no_marks}
 use Rattle.swp_frame.proofs.FurtherBits.{run_of-read_on}
 use Rattle.swp_decode.specs.Readings.{front_after}
 use Rattle.swp_decode.specs.Texts.{verdict_line}
@@ -134,11 +133,10 @@ pub quiet_between : (word : Word) (place from to : ℕ) (older : List ReadSymbol
 quiet_between word place from to older order within behind quiet =
     let bits = word_bits word in
     let part = take (to - from) (drop from bits) in
-    let sum : from + (to - from) ≡ to = omega (arith, order) in
     no_marks (symbols (readings_on place (take from bits) older)) part
     (ap (λ ones. spelled_number (places_of_marks ones part)) (run_behind_readings place (take from bits) older)
     ∙ sym (marks_between 64 from (to - from) (run_of (symbols older)) word.bits word.marks (omega (arith, order, within)) behind.marks)
-    ∙ ap (λ k. word.marks / 2 ^ (64 - k) % 2 ^ (to - from)) sum ∙ quiet)
+    ∙ ap (λ k. word.marks / 2 ^ (64 - k) % 2 ^ (to - from)) (omega (arith, order)) ∙ quiet)
 
 -- nor does one where a further bit has none
 pub quiet_more : (word : Word) (from last : ℕ) → from ≤ last → last < 64 → NoMarkEnds word from last → word.marks / 2 ^ (63 - last) % 2 ≡ 0
@@ -301,23 +299,19 @@ AreBits-at wire (suc i) (byte ∷ bytes) (bit ∷ bits) are h = AreBits-at wire 
 pub low_bits-more : (n x b : ℕ) → n ≤ 48 → b < 2 ^ 16 → low_bits (n + 16) (x * 2 ^ 16 % 2 ^ 64 + b) ≡ low_bits n x ++ low_bits 16 b
 low_bits-more n x b few small =
     let kept : ℕ = x % 2 ^ 48 in
-    let moved : x * 2 ^ 16 % 2 ^ 64 ≡ kept * 2 ^ 16 = omega arith in
-    let upper : (kept * 2 ^ 16 + b) / 2 ^ 16 ≡ kept = omega (arith, small) in
-    let lower : (kept * 2 ^ 16 + b) % 2 ^ 16 ≡ b % 2 ^ 16 = omega (arith, small) in
-    ap (λ m. low_bits (n + 16) (m + b)) moved
+    ap (λ m. low_bits (n + 16) (m + b)) (omega arith)
     ∙ low_bits-add n 16 (n + 16) (kept * 2 ^ 16 + b) refl
     ∙ ap₂ (λ xs ys. xs ++ ys)
-    (ap (low_bits n) upper ∙ low_bits-same n kept x (mod-cut n 48 x few))
-    (low_bits-same 16 (kept * 2 ^ 16 + b) b lower)
+    (ap (low_bits n) (omega (arith, small)) ∙ low_bits-same n kept x (mod-cut n 48 x few))
+    (low_bits-same 16 (kept * 2 ^ 16 + b) b (omega (arith, small)))
 
 -- bits that are moved to the top of sixty-four
 pub low_bits-first : (read x : ℕ) → read < 64 → take read (low_bits 64 (x * 2 ^ (64 - read) % 2 ^ 64)) ≡ low_bits read x
 low_bits-first read x small =
     let rest : ℕ = 64 - read in
     let whole : 64 ≡ read + rest = omega arith in
-    let field : x * 2 ^ rest % 2 ^ 64 / 2 ^ rest ≡ x % 2 ^ read = moved read rest whole in
     take-low_bits read rest 64 (x * 2 ^ rest % 2 ^ 64) whole
-    ∙ low_bits-same read (x * 2 ^ rest % 2 ^ 64 / 2 ^ rest) x (ap (λ n. n % 2 ^ read) field ∙ mod-cut read read x (omega arith))
+    ∙ low_bits-same read (x * 2 ^ rest % 2 ^ 64 / 2 ^ rest) x (ap (λ n. n % 2 ^ read) (moved read rest whole) ∙ mod-cut read read x (omega arith))
   where
     moved : (a b : ℕ) → 64 ≡ a + b → x * 2 ^ b % 2 ^ 64 / 2 ^ b ≡ x % 2 ^ a
     moved a b whole =
@@ -339,10 +333,8 @@ reverse_onto byte bytes older = ap (λ xs. xs ++ older) (reverse-append (byte �
 pub transcript-append : (older bytes : List ℕ) → transcript (reverse bytes ++ older) ≡ transcript older ++ lines_with older bytes
 transcript-append older [] = sym (append-nil (transcript older))
 transcript-append older (byte ∷ bytes) =
-    let new = line_at S1 (byte ∷ older) in
-    let newer = line_at S2 (byte ∷ older) in
     ap transcript (reverse_onto byte bytes older) ∙ transcript-append (byte ∷ older) bytes
-    ∙ regrouped (transcript older) new newer (lines_with (byte ∷ older) bytes)
+    ∙ regrouped (transcript older) (line_at S1 (byte ∷ older)) (line_at S2 (byte ∷ older)) (lines_with (byte ∷ older) bytes)
   where
     regrouped : (a b c d : List ℕ) → ((a ++ b) ++ c) ++ d ≡ a ++ ((b ++ c) ++ d)
     regrouped a b c d = simp append_assoc
@@ -470,11 +462,9 @@ no_lines_between {bytes} {older} {first} {second} {from} {to} h =
 pub lines_between : {bytes older : List ℕ} {first second : List Bool} {from to : ℕ} → AreQuietBetween bytes older first second from to
     → lines_with older (take to bytes) ≡ lines_with older (take from bytes)
 lines_between {bytes} {older} {first} {second} {from} {to} h =
-    let part = take (to - from) (drop from bytes) in
-    let sum : to ≡ from + (to - from) = omega (arith, h.order) in
-    ap (λ k. lines_with older (take k bytes)) sum
+    ap (λ k. lines_with older (take k bytes)) (omega (arith, h.order))
     ∙ ap (lines_with older) (take-add from (to - from) bytes)
-    ∙ lines_behind-append older (take from bytes) part
+    ∙ lines_behind-append older (take from bytes) (take (to - from) (drop from bytes))
     ∙ ap (λ lines. lines_with older (take from bytes) ++ lines) (no_lines_between h)
     ∙ append-nil (lines_with older (take from bytes))
 
@@ -565,8 +555,7 @@ pub frames_between : {bytes older : List ℕ} {first second : List Bool} {from t
     → frames_with older (take to bytes) ≡ frames_with older (take from bytes)
 frames_between {bytes} {older} {first} {second} {from} {to} h =
     let part = take (to - from) (drop from bytes) in
-    let sum : to ≡ from + (to - from) = omega (arith, h.order) in
-    ap (λ k. frames_with older (take k bytes)) sum
+    ap (λ k. frames_with older (take k bytes)) (omega (arith, h.order))
     ∙ ap (frames_with older) (take-add from (to - from) bytes)
     ∙ frames_behind-append older (take from bytes) part
     ∙ ap (λ frames. frames_with older (take from bytes) ++ frames) (silent_frames part (reverse (take from bytes) ++ older) (no_lines_between h))

@@ -16,20 +16,18 @@ pub record IsNext (n read to : ℕ) : Type 0 where
 
 pub next_place : (n read to : ℕ) → read ≤ 64 → n < 2 ^ (64 - read) → to ≡ count_leading_zeros 64 n → IsNext n read to
 next_place n read to few h is =
-    let whole : n < 2 ^ 64 = omega (arith, h, pow_mono {i = 64 - read} {j = 64} (omega arith)) in
-    let found = leading_length 64 n whole in
+    let found = leading_length 64 n (omega (arith, h, pow_mono {i = 64 - read} {j = 64} (omega arith))) in
     go found.0 (omega (arith, found.1, is)) found.2 found.3
   where
     go : (m : ℕ) → to + m ≡ 64 → n < 2 ^ m → 2 ^ m ≤ 2 * n + 1 → IsNext n read to
     go m e below top =
-        let left : 64 - to ≡ m = omega (arith, e) in
         record {
           behind = elim (cases_lt to read) [
             | inl before ↦ absurd (omega (arith, top, h, pow-suc 2 (64 - read), pow_mono {i = suc (64 - read)} {j = m} (omega (arith, e, before, few))))
             | inr after ↦ after
           ];
           within = omega (arith, e);
-          below = subst (λ k. n < 2 ^ k) (sym left) below;
+          below = subst (λ k. n < 2 ^ k) (sym (omega (arith, e))) below;
           there = grind arith;
         }
       where
@@ -38,10 +36,8 @@ next_place n read to few h is =
 
 none_above : (a u from to : ℕ) → from ≤ to → to ≤ 64 → a % 2 ^ (64 - from) ≤ u → u < 2 ^ (64 - to) → a / 2 ^ (64 - to) % 2 ^ (to - from) ≡ 0
 none_above a u from to order within below small =
-    let sum : 64 - from ≡ to - from + (64 - to) = omega (arith, order, within) in
-    let few : a % 2 ^ (to - from + (64 - to)) < 2 ^ (0 + (64 - to)) = few_left (subst (λ k. a % 2 ^ k ≤ u) sum below) in
-    let none : a % 2 ^ (to - from + (64 - to)) / 2 ^ (64 - to) < 1 = shr_below (a % 2 ^ (to - from + (64 - to))) 0 (64 - to) few in
-    sym (field_of a (to - from) (64 - to)) ∙ omega (arith, none)
+    let few : a % 2 ^ (to - from + (64 - to)) < 2 ^ (0 + (64 - to)) = few_left (subst (λ k. a % 2 ^ k ≤ u) (omega (arith, order, within)) below) in
+    sym (field_of a (to - from) (64 - to)) ∙ omega (arith, (shr_below (a % 2 ^ (to - from + (64 - to))) 0 (64 - to) few))
   where
     few_left : a % 2 ^ (to - from + (64 - to)) ≤ u → a % 2 ^ (to - from + (64 - to)) < 2 ^ (0 + (64 - to))
     few_left h = let same : 0 + (64 - to) ≡ 64 - to = omega arith in subst (λ k. a % 2 ^ (to - from + (64 - to)) < 2 ^ k) (sym same) (omega (arith, h, small))
@@ -62,10 +58,9 @@ below_sooner n sooner to order below = omega (arith, pow_mono {i = 64 - to} {j =
 -- the marks behind it
 pub marks_left : (u all from last : ℕ) → from ≤ last → last < 64 → u ≡ all % 2 ^ (64 - from) → u % (1 * 2 ^ (63 - last) % 2 ^ 64) ≡ all % 2 ^ (64 - (last + 1))
 marks_left u all from last order within is =
-    let places : 63 - last ≡ 64 - (last + 1) = omega (arith, within) in
     ap₂ (λ n p. n % p) is (one_shl (63 - last) 64 (omega arith))
     ∙ mod-cut (63 - last) (64 - from) all (omega (arith, order, within))
-    ∙ ap (λ k. all % 2 ^ k) places
+    ∙ ap (λ k. all % 2 ^ k) (omega (arith, within))
 
 -- what is left of the marks
 pub next_of : (marks all read : ℕ) → read ≤ 64 → marks ≡ all % 2 ^ (64 - read) → IsNext marks read (count_leading_zeros 64 marks)

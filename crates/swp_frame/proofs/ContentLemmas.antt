@@ -66,15 +66,10 @@ word_bytes x =
     let four : List ℕ = x / 2 ^ 24 % 256 ∷ three in
     let five : List ℕ = x / 2 ^ 32 % 256 ∷ four in
     let six : List ℕ = x / 2 ^ 40 % 256 ∷ five in
-    let seven : List ℕ = x / 2 ^ 48 % 256 ∷ six in
-    let s1 = front_byte x 0 (x % 256) [] (omega arith) (none_left x) in
-    let s2 = front_byte x 8 (x / 2 ^ 8 % 256) one refl s1 in
-    let s3 = front_byte x 16 (x / 2 ^ 16 % 256) two refl s2 in
-    let s4 = front_byte x 24 (x / 2 ^ 24 % 256) three refl s3 in
-    let s5 = front_byte x 32 (x / 2 ^ 32 % 256) four refl s4 in
-    let s6 = front_byte x 40 (x / 2 ^ 40 % 256) five refl s5 in
-    let s7 = front_byte x 48 (x / 2 ^ 48 % 256) six refl s6 in
-    front_byte x 56 (x / 2 ^ 56 % 256) seven refl s7
+    let s2 = front_byte x 8 (x / 2 ^ 8 % 256) one refl (front_byte x 0 (x % 256) [] (omega arith) (none_left x)) in
+    let s4 = front_byte x 24 (x / 2 ^ 24 % 256) three refl (front_byte x 16 (x / 2 ^ 16 % 256) two refl s2) in
+    let s6 = front_byte x 40 (x / 2 ^ 40 % 256) five refl (front_byte x 32 (x / 2 ^ 32 % 256) four refl s4) in
+    front_byte x 56 (x / 2 ^ 56 % 256) (x / 2 ^ 48 % 256 ∷ six) refl (front_byte x 48 (x / 2 ^ 48 % 256) six refl s6)
 
 word_in_range : (x : ℕ) → AreBytes (to_be_bytes w64 x)
 word_in_range x = (omega arith, (omega arith, (omega arith, (omega arith, (omega arith, (omega arith, (omega arith, (omega arith, tt))))))))

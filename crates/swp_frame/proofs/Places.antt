@@ -33,10 +33,8 @@ pub number_of-low_bits : (n x : ℕ) → spelled_number (low_bits n x) ≡ x % 2
 unfolding low_bits
 number_of-low_bits zero x = omega arith
 number_of-low_bits (suc n) x =
-    let one : x % 2 ^ (1 + n) ≡ (x / 2 ^ n % 2 ^ 1) * 2 ^ n + x % 2 ^ n = mod-pow-add x 1 n in
-    let same : 1 + n ≡ suc n = omega arith in
     number_of-front (bit x n) (low_bits n x) (bit_at x n) n (omega arith) (length-low_bits n x) refl
-    ∙ ap (λ m. bit_at x n * 2 ^ n + m) (number_of-low_bits n x) ∙ sym one ∙ ap (λ k. x % 2 ^ k) same
+    ∙ ap (λ m. bit_at x n * 2 ^ n + m) (number_of-low_bits n x) ∙ sym (mod-pow-add x 1 n) ∙ ap (λ k. x % 2 ^ k) (omega arith)
 
 -- bits are those of their number
 pub low_bits-number_of : (bits : List Bool) (n : ℕ) → length bits ≡ n → low_bits n (spelled_number bits) ≡ bits
@@ -89,10 +87,9 @@ pub low_bits-between : (w from width : ℕ) → (x : ℕ) → from + width ≤ w
     → low_bits width (x / 2 ^ (w - (from + width)) % 2 ^ width) ≡ take width (drop from (low_bits w x))
 low_bits-between w from width x h =
     let low : ℕ = w - (from + width) in
-    let whole : w ≡ from + (width + low) = omega arith in
     low_bits-same width (x / 2 ^ low % 2 ^ width) (x / 2 ^ low) (mod-eq_of_lt (mod_below (x / 2 ^ low) (2 ^ width) (pow_pos width)))
     ∙ sym (take-low_bits width low (width + low) x refl)
-    ∙ ap (take width) (sym (drop-low_bits from (width + low) w x whole))
+    ∙ ap (take width) (sym (drop-low_bits from (width + low) w x (omega arith)))
 
 -- the shifts that give them
 pub shifted_field : (x from width : ℕ) → from + width ≤ 64 → x * 2 ^ from % 2 ^ 64 / 2 ^ (64 - width) ≡ x / 2 ^ (64 - (from + width)) % 2 ^ width
@@ -123,8 +120,7 @@ byte_bits b = refl
 -- the bits of a number cut to more than so many
 pub mod-cut : (n w x : ℕ) → n ≤ w → x % 2 ^ w % 2 ^ n ≡ x % 2 ^ n
 mod-cut n w x h =
-    let whole : w ≡ w - n + n = omega (arith, h) in
-    ap (λ k. x % 2 ^ k % 2 ^ n) whole ∙ ap (λ m. m % 2 ^ n) (mod-pow-add x (w - n) n)
+    ap (λ k. x % 2 ^ k % 2 ^ n) (omega (arith, h)) ∙ ap (λ m. m % 2 ^ n) (mod-pow-add x (w - n) n)
     ∙ mod_low (x / 2 ^ n % 2 ^ (w - n)) n (x % 2 ^ n) (mod_below x (2 ^ n) (pow_pos n))
 
 low_bits-cut : (n w x : ℕ) → n ≤ w → low_bits n (x % 2 ^ w) ≡ low_bits n x
@@ -134,10 +130,9 @@ low_bits-cut n w x h = low_bits-same n (x % 2 ^ w) x (mod-cut n w x h)
 pub low_bits-shifted : (n x b : ℕ) → n ≤ 56 → b < 256 → low_bits (n + 8) (x * 2 ^ 8 % 2 ^ 64 + b) ≡ low_bits n x ++ bits_of_byte b
 low_bits-shifted n x b few small =
     let whole : ℕ = x * 2 ^ 8 % 2 ^ 64 + b in
-    let upper : whole / 2 ^ 8 ≡ x % 2 ^ 56 = omega (arith, small) in
     low_bits-add n 8 (n + 8) whole refl
     ∙ ap₂ (λ xs ys. xs ++ ys)
-    (ap (low_bits n) upper ∙ low_bits-cut n 56 x few)
+    (ap (low_bits n) (omega (arith, small)) ∙ low_bits-cut n 56 x few)
     (low_bits-same 8 whole b (omega (arith, small)) ∙ sym (byte_bits b))
 
 -- ---- a number of some bits, and more bits behind it
@@ -170,22 +165,18 @@ to_top p f a h =
 -- the bits above the last s of p and v joined, and those last
 pub upper_joined : (p v f w s : ℕ) → v < 2 ^ w → f + w ≡ 64 + s → f ≤ 64 → (p * 2 ^ w + v) / 2 ^ s ≡ p * 2 ^ (64 - f) + v / 2 ^ s
 upper_joined p v f w s b e h =
-    let width : w ≡ 64 - f + s = omega (arith, e, h) in
-    let low : v % 2 ^ s < 2 ^ s = mod_below v (2 ^ s) (pow_pos s) in
-    ap (λ n. (p * n + v) / 2 ^ s) (ap (λ n. 2 ^ n) width ∙ pow-add 2 (64 - f) s)
+    ap (λ n. (p * n + v) / 2 ^ s) (ap (λ n. 2 ^ n) (omega (arith, e, h)) ∙ pow-add 2 (64 - f) s)
     ∙ ap (λ n. n / 2 ^ s) (gathered p (2 ^ (64 - f)) (2 ^ s) v (v / 2 ^ s) (v % 2 ^ s) (shr_split v s))
-    ∙ shr_high (p * 2 ^ (64 - f) + v / 2 ^ s) s (v % 2 ^ s) low
+    ∙ shr_high (p * 2 ^ (64 - f) + v / 2 ^ s) s (v % 2 ^ s) (mod_below v (2 ^ s) (pow_pos s))
   where
     gathered : (p a b v q r : ℕ) → q * b + r ≡ v → p * (a * b) + v ≡ (p * a + q) * b + r
     gathered p a b v q r e = rw (← e) (omega arith)
 
 pub lower_joined : (p v f w s : ℕ) → f + w ≡ 64 + s → f ≤ 64 → (p * 2 ^ w + v) % 2 ^ s ≡ v % 2 ^ s
 lower_joined p v f w s e h =
-    let width : w ≡ 64 - f + s = omega (arith, e, h) in
-    let low : v % 2 ^ s < 2 ^ s = mod_below v (2 ^ s) (pow_pos s) in
-    ap (λ n. (p * n + v) % 2 ^ s) (ap (λ n. 2 ^ n) width ∙ pow-add 2 (64 - f) s)
+    ap (λ n. (p * n + v) % 2 ^ s) (ap (λ n. 2 ^ n) (omega (arith, e, h)) ∙ pow-add 2 (64 - f) s)
     ∙ ap (λ n. n % 2 ^ s) (gathered p (2 ^ (64 - f)) (2 ^ s) v (v / 2 ^ s) (v % 2 ^ s) (shr_split v s))
-    ∙ mod_low (p * 2 ^ (64 - f) + v / 2 ^ s) s (v % 2 ^ s) low
+    ∙ mod_low (p * 2 ^ (64 - f) + v / 2 ^ s) s (v % 2 ^ s) (mod_below v (2 ^ s) (pow_pos s))
   where
     gathered : (p a b v q r : ℕ) → q * b + r ≡ v → p * (a * b) + v ≡ (p * a + q) * b + r
     gathered p a b v q r e = rw (← e) (omega arith)
@@ -193,8 +184,7 @@ lower_joined p v f w s e h =
 -- the word that is then whole fits
 pub upper_fits : (p v f w s : ℕ) → p < 2 ^ f → v < 2 ^ w → f + w ≡ 64 + s → f ≤ 64 → p * 2 ^ (64 - f) + v / 2 ^ s < 2 ^ 64
 upper_fits p v f w s a b e h =
-    let width : w ≡ 64 - f + s = omega (arith, e, h) in
-    fits_word p (v / 2 ^ s) f (64 - f) a (shr_below v (64 - f) s (subst (λ n. v < 2 ^ n) width b)) (omega (arith, h))
+    fits_word p (v / 2 ^ s) f (64 - f) a (shr_below v (64 - f) s (subst (λ n. v < 2 ^ n) (omega (arith, e, h)) b)) (omega (arith, h))
 
 -- ---- runs of 1 bits, and what was read since the start of a frame
 
@@ -415,10 +405,8 @@ without_one (false ∷ places) further (b ∷ bits) later bit l = ap (λ xs. b �
 zeros_of : (k n : ℕ) → ((i : ℕ) → i < k → bit_at n i ≡ 0) → n % 2 ^ k ≡ 0
 zeros_of zero n h = omega arith
 zeros_of (suc k) n h =
-    let same : 1 + k ≡ suc k = omega arith in
-    let one = ap (λ j. n % 2 ^ j) (sym same) ∙ mod-pow-add n 1 k in
-    let none : n / 2 ^ k % 2 ≡ 0 = h k (omega arith) in
-    one ∙ ap₂ (λ d m. d * 2 ^ k + m) none (zeros_of k n (λ i lt. h i (omega (arith, lt)))) ∙ omega arith
+    let one = ap (λ j. n % 2 ^ j) (sym (omega arith)) ∙ mod-pow-add n 1 k in
+    one ∙ ap₂ (λ d m. d * 2 ^ k + m) (h k (omega arith)) (zeros_of k n (λ i lt. h i (omega (arith, lt)))) ∙ omega arith
 
 ones_of : (k n : ℕ) → ((i : ℕ) → i < k → bit_at n i ≡ 1) → low_bits k n ≡ replicate k true
 unfolding low_bits
@@ -439,9 +427,7 @@ upper_half n t h = grind arith
 
 -- the same from what the code computes
 pub upper_is : (n t : ℕ) → n < 2 ^ 64 → n / 2 ^ t / 2 * 2 ^ t % 2 ^ 64 ≡ n / 2 ^ suc t * 2 ^ t
-upper_is n t h =
-    let half : n / 2 ^ t / 2 ≡ n / 2 ^ suc t = shr-shr n t 1 ∙ ap (λ k. n / 2 ^ k) (omega arith) in
-    ap (λ k. k * 2 ^ t % 2 ^ 64) half ∙ mod-eq_of_lt (upper_half n t h)
+upper_is n t h = ap (λ k. k * 2 ^ t % 2 ^ 64) (shr-shr n t 1 ∙ ap (λ k. n / 2 ^ k) (omega arith)) ∙ mod-eq_of_lt (upper_half n t h)
 
 squeezed_bits : (a t n : ℕ) → low_bits (a + t) (squeezed n t) ≡ low_bits a (n / 2 ^ suc t) ++ low_bits t n
 squeezed_bits a t n =
@@ -463,8 +449,7 @@ pub record IsRemoved (w bits places t : ℕ) : Type 0 where
 
 pub removed : (w bits places t : ℕ) → w ≤ 64 → bits < 2 ^ w → places < 2 ^ w → 0 < places → t ≡ trailing_zeros w64 places → IsRemoved w bits places t
 removed w bits places t few bits_fit places_fit some is =
-    let whole : places < 2 ^ 64 = omega (arith, places_fit, pow_mono {i = w} {j = 64} few) in
-    let last = bit_at-trailing_zeros w64 places some whole in
+    let last = bit_at-trailing_zeros w64 places some (omega (arith, places_fit, pow_mono {i = w} {j = 64} few)) in
     let one : bit_at places t ≡ 1 = rw is last.1 in
     let none : (i : ℕ) → i < t → bit_at places i ≡ 0 = rw is last.2 in
     let within : t < w = elim (cases_lt t w) [

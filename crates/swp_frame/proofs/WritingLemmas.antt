@@ -124,9 +124,7 @@ bit_is : (b : BitBytes) (byte i r : ℕ) → r ≡ byte_of_bit b (eqb (bit_and (
 bit_is b byte i r is = is ∙ ap (λ n. byte_of_bit b (eqb n 1)) (shr_and_one byte i)
 
 last_bit_is : (b : BitBytes) (byte r : ℕ) → r ≡ byte_of_bit b (eqb (bit_and byte 1) 1) → r ≡ byte_of_bit b (bit byte 0)
-last_bit_is b byte r is =
-    let whole : byte ≡ byte / 2 ^ 0 = omega arith in
-    bit_is b byte 0 r (is ∙ ap (λ n. byte_of_bit b (eqb (bit_and n 1) 1)) whole)
+last_bit_is b byte r is = bit_is b byte 0 r (is ∙ ap (λ n. byte_of_bit b (eqb (bit_and n 1) 1)) (omega arith))
 
 -- the bytes that stand for the bits of a byte
 pub eight_bits : (b : BitBytes) (byte r7 r6 r5 r4 r3 r2 r1 r0 : ℕ) → r7 ≡ byte_of_bit b (eqb (bit_and (byte / 128) 1) 1)

@@ -1,10 +1,9 @@
 -- The words of schedules, lines, entries and nodes that these proofs speak in, each from where it is at home.
 pub use Rattle.block_pool.proofs.HoldingLemmas.{all_joined, all_mapped}
-pub use Rattle.gate_answers.specs.Answers.{answer_of, body_in, code_of, first_of, instruction_in, param_in, tests_to_get, tests_to_set}
-pub use Rattle.gate_answers.specs.Answers.{value_in as value_behind}
-pub use Rattle.gate_identity.specs.Identity.{identity_served, identity_unless_refused as identity_unless, identity_value}
-pub use Rattle.gate_link.specs.Link.{count_bytes, count_in, link_served, link_unless_refused as link_unless, tests_to_set_errors}
-pub use Rattle.hci_tables.specs.Commands.{is_command, is_dynamic, is_host}
+pub use Rattle.gate_answers.specs.Answers.{answer_of, body_in, code_of, first_of, instruction_in, param_in, tests_to_get, value_in as value_behind}
+pub use Rattle.gate_identity.specs.Identity.{identity_served}
+pub use Rattle.gate_link.specs.Link.{count_in, link_served, link_unless_refused as link_unless, tests_to_set_errors}
+pub use Rattle.hci_tables.specs.Commands.{is_command, is_dynamic}
 pub use Rattle.hci_tables.specs.Tables.{AreTables, HciTables, after_commands, apply, is_kept_sync, is_opened, no_tables, static_place, sync_host, with_static}
 pub use Rattle.hci_tables.specs.Tables.{without_identity}
 pub use Rattle.hci_tables.specs.declared.command.Command.{Command}
@@ -16,39 +15,35 @@ pub use Rattle.hcp_packet.specs.declared.MessageKind.{MessageKind}
 pub use Rattle.hcp_packet.specs.declared.MessageKind.TheVariants.{Command as IsCommand, Event as IsEvent, Response as IsResponse}
 pub use Rattle.hex.specs.Hex.{encode_upper, upper_digits}
 pub use Rattle.history.specs.Damage.{Verdict}
-pub use Rattle.history.specs.Damage.Verdict.{LostFor, Same, Undetected}
 pub use Rattle.history.specs.Follows.{Follows, StepsFollow, as_noted, causes_in, damage_causes, first_verdict, frames_to, host_of, if_beyond, if_empty}
-pub use Rattle.history.specs.Follows.{if_out_of_reach, link_after_line, link_after_lines, machine_of, misread, opening_of, outcome_of, refusal, taken_of}
+pub use Rattle.history.specs.Follows.{if_out_of_reach, link_after_line, machine_of, misread, opening_of, outcome_of, refusal, taken_of}
 pub use Rattle.history.specs.Histories.{Event, History, Outcome, all_entries, all_events, causes_of, entries_of, events_of, noted}
 pub use Rattle.history.specs.Histories.Cause.{Given, Readied, Taken, Ticked, WasLost, WasReset}
 pub use Rattle.history.specs.Histories.Outcome.{Caused, Refused as LineRefused}
 pub use Rattle.history.specs.Steps.{at, bare_link, end_of, entries_for, entry_of, event_of, events_at, idle, link_after, link_after_all}
 pub use Rattle.journal_laws.specs.Planned.{after_planned, fails_within}
-pub use Rattle.lines_told.proofs.lines.Told.{after-append, bare_line, bare_lines, bare_round_lines, for_with, lines-append, lines_may_be_played, played-append}
+pub use Rattle.lines_told.proofs.lines.Told.{after-append, bare_lines, for_with, lines-append, lines_may_be_played, played-append}
 pub use Rattle.lines_told.proofs.lines.Told.{played_more, plays_for, plays_more, round_first, round_is, round_known, round_lines, round_told, said-append}
 pub use Rattle.lines_told.proofs.lines.Told.{sure_below, takes_so, told-append, told_in}
-pub use Rattle.lines_told.specs.lines.Below.{IsPlayedLine, bare_link_behind, entries_below, is_settling, misread_below, nodes_behind, opening_told, told_below}
+pub use Rattle.lines_told.specs.lines.Below.{IsPlayedLine, bare_link_behind, entries_below, misread_below, nodes_behind, opening_told, told_below}
 pub use Rattle.lines_told.specs.lines.Plays.{AreFewPlays, IsPlayFor, Play, lines_of_play, lines_played, lines_played_of, lines_said, plays_of, plays_of_line}
-pub use Rattle.lines_told.specs.lines.Plays.{round_behind, round_in, round_on, rounds_played, rounds_to_rest, schedule_told, taking_in, taking_on, told_behind}
+pub use Rattle.lines_told.specs.lines.Plays.{round_behind, round_in, rounds_played, rounds_to_rest, schedule_told, taking_in, told_behind}
 pub use Rattle.lines_told.specs.lines.Plays.{told_of_line, told_of_lines, told_of_rounds}
 pub use Rattle.lines_told.specs.lines.Plays.Play.{Round, Said}
 pub use Rattle.lines_told.specs.lines.RoundLines.{HostsStay, IsRoundLine}
-pub use Rattle.link_laws.proofs.messages.RsetNumbers.{took_low}
 pub use Rattle.link_laws.specs.entries.Entries.{End as Side, Entry as Noted, aged_entries, ending_entries, event_entries, far, first_lost, here_entries, if_so}
-pub use Rattle.link_laws.specs.entries.Entries.{pushed_out, put_entries, puts_entries, rest_entries, sent_unless, step_entries, taken_entries, tick_entries}
+pub use Rattle.link_laws.specs.entries.Entries.{pushed_out, put_entries, puts_entries, rest_entries, step_entries, taken_entries, tick_entries}
 pub use Rattle.link_laws.specs.entries.Entries.{told, told_of, turn_entries, turn_entry, wire_with}
 pub use Rattle.link_laws.specs.entries.Entries.End.{Controller, Host}
 pub use Rattle.link_laws.specs.entries.Entries.Entry.{Acked, Active, Emit, GaveUp, Got, Lost, Sent, Took, Up as Begins}
 pub use Rattle.link_laws.specs.machine.Machine.{ActDue, LinkEnd, LinkInput, Message, Refused, Report, Role, Turn, act_answer, activated, after_input, among}
-pub use Rattle.link_laws.specs.machine.Machine.{aside_refusal, brought, deactivated, ended_by, frames_out, gave_up_by, give_refusal, given, had_tick, heard}
-pub use Rattle.link_laws.specs.machine.Machine.{if_up, in_front, is_faulty, is_open, messages_got, moved, need, new_link_end, news, put_down, renewed, report}
-pub use Rattle.link_laws.specs.machine.Machine.{reset_by, reset_refusal, role_after, sent_all, spare, started, took, turn, turned, unless, whole_acked}
-pub use Rattle.link_laws.specs.machine.Machine.{whole_among, window_of, with_act}
+pub use Rattle.link_laws.specs.machine.Machine.{brought, deactivated, ended_by, frames_out, gave_up_by, give_refusal, given, had_tick, heard, if_up, in_front}
+pub use Rattle.link_laws.specs.machine.Machine.{is_faulty, is_open, messages_got, moved, need, news, put_down, report, reset_by, reset_refusal, role_after}
+pub use Rattle.link_laws.specs.machine.Machine.{sent_all, spare, started, took, turn, turned, unless, whole_acked, whole_among, window_of, with_act}
 pub use Rattle.link_laws.specs.machine.Machine.LinkInput.{Reset, Start, Stop, Take, Tick, Tick as HasTick}
-pub use Rattle.link_laws.specs.machine.Machine.Refused.{Full, Inactive, IsWaiting, NotUp, TooLong}
 pub use Rattle.link_laws.specs.machine.Machine.Role.{Bare, Clf, Uicc}
 pub use Rattle.link_laws.specs.machine.Machine.Turn.{FetchMessage, Give, Hold, Release, SetAside}
-pub use Rattle.link_laws.specs.messages.Links.{Comes, EndEvent, Ending, Link, Loss, NumberedEnd, aged, becomes, cut, exchanged, finished, happens}
+pub use Rattle.link_laws.specs.messages.Links.{Comes, EndEvent, Ending, Link, Loss, NumberedEnd, aged, becomes, exchanged, finished, happens}
 pub use Rattle.link_laws.specs.messages.Links.{happens_at_controller, has_input, has_restarted, has_taken, new_link, number_of, put, put_all, silent}
 pub use Rattle.link_laws.specs.messages.Links.{steps_at_controller, ticks_at_controller, with_controller, with_ended}
 pub use Rattle.link_laws.specs.messages.Links.Comes.{AsksReset, NextFrame, NoInput, Starts, Stops}
@@ -76,14 +71,13 @@ pub use Rattle.node_machine.proofs.world.Cases.{boot_found, boot_written, by_boo
 pub use Rattle.node_machine.proofs.world.Cases.{by_memory, by_power, by_running, host_tick, near_tick, site_lost}
 pub use Rattle.node_machine.specs.Carrying.{after_turn, all_done, changed_if, commit, done, end_of_node, end_view, finds_room, lack, needs, noted_of, notified}
 pub use Rattle.node_machine.specs.Carrying.{noting, own_side, own_view, port_at, turn_at, unless_cut, with_desk, with_port}
-pub use Rattle.node_machine.specs.Controller.{about_at, agreed, answers_on, asked_at, asks_for, commit_deeds, controller_deeds, creation_deeds, creation_in}
-pub use Rattle.node_machine.specs.Controller.{decision_deeds, gates, goes_through, has_link, is_command_message, kind_deeds, link_deeds, notice_deeds, own_gate}
-pub use Rattle.node_machine.specs.Controller.{relay_deeds, relayed_to, served_at, view_for, view_of}
+pub use Rattle.node_machine.specs.Controller.{about_at, answers_on, asks_for, controller_deeds, creation_deeds, creation_in, decision_deeds, gates}
+pub use Rattle.node_machine.specs.Controller.{goes_through, has_link, kind_deeds, link_deeds, notice_deeds, own_gate, relayed_to, served_at, view_for, view_of}
 pub use Rattle.node_machine.specs.Node.{NodeInput, after_sessions, all_come, all_owed, answers_and_passes, begins_with, boot_writes, forgets, forgotten}
-pub use Rattle.node_machine.specs.Node.{has_come, input_at, is_forgotten, is_late, is_over, new_desk, older_notice, reset_late, steps, synced, times_out}
+pub use Rattle.node_machine.specs.Node.{has_come, input_at, is_late, new_desk, reset_late, steps, synced, times_out}
 pub use Rattle.node_machine.specs.Node.{told_at, told_late, with_older, without_notice}
 pub use Rattle.node_machine.specs.Node.NodeInput.{AtEnd, TimePasses}
-pub use Rattle.node_machine.specs.Parts.{About, Core, Creation, Deed, Desk, Init, Notice, Port, Running, Work}
+pub use Rattle.node_machine.specs.Parts.{About, Core, Creation, Deed, Desk, Init, Port, Running, Work}
 pub use Rattle.node_machine.specs.Parts.Deed.{Asks, Commits, Drops, Ends, GoesOn, Hears, IsAnswered, Orders, Releases, SaysOk, Sends, SetsErrors, Tells}
 pub use Rattle.node_machine.specs.world.Lines.{LineOutcome, Occurrence, all_happen, can_happen, first_cause, frames_at, goes_on, happenings, happens_by}
 pub use Rattle.node_machine.specs.world.Lines.{if_not_sent, if_off, if_waiting, is_running, line_step, machine_in, misread_in, noted_below, refusal_in}
@@ -103,39 +97,36 @@ pub use Rattle.pipe_table.specs.declared.row.PipeRow.{PipeRow}
 pub use Rattle.registry.proofs.ValueLemmas.{AllByRecursion-append as each-append, AllByRecursion-filter, AllByRecursion-get, AllByRecursion-take}
 pub use Rattle.registry.specs.Values.{default_of, is_default, place_of_value, value_at, value_place, with_value}
 pub use Rattle.registry.specs.declared.value.RegValue.{RegValue}
-pub use Rattle.schedule_text.proofs.AgainLemmas.{IsWord, by_size, byte_again, bytes_again, end_again, end_word, hex_word, length-hex, number_word, own}
-pub use Rattle.schedule_text.proofs.AgainLemmas.{words-spaced}
+pub use Rattle.schedule_text.proofs.AgainLemmas.{IsWord, byte_again, bytes_again, end_again, end_word, hex_word, length-hex, number_word, own, words-spaced}
 pub use Rattle.schedule_text.proofs.LinesLemmas.{MayFollow-line_of, Says, says_activate, says_arm, says_boot, says_busy, says_cut, says_damage, says_deliver}
 pub use Rattle.schedule_text.proofs.LinesLemmas.{says_header, says_init, says_lose, says_nodes, says_ready, says_reset, says_send, says_settle, says_tables}
 pub use Rattle.schedule_text.proofs.LinesLemmas.{says_tick}
 pub use Rattle.schedule_text.proofs.ReadAgainLemmas.{found_in, header_hosts, node_fits}
-pub use Rattle.schedule_text.specs.Entries.{byte_text, cause_words, command_words, count_words, down_word, end_text, entry_line, entry_text, entry_words}
-pub use Rattle.schedule_text.specs.Entries.{header_words, line_words, lines_behind, lost_word, number_words, two_bytes_text}
+pub use Rattle.schedule_text.specs.Entries.{byte_text, cause_words, command_words, count_words, end_text, entry_line, entry_text, entry_words}
+pub use Rattle.schedule_text.specs.Entries.{header_words, line_words, lines_behind, number_words, two_bytes_text}
 pub use Rattle.schedule_text.specs.Lines.{by_row, by_words, has_nodes, hosts_of, is_comment, line_of, may_stand, read_of, unless_fault}
 pub use Rattle.schedule_text.specs.Words.{spaced, words}
-pub use Rattle.shdlc_core.proofs.Histories.{in_phase, received-sending}
-pub use Rattle.shdlc_core.specs.Machine.{EndState, Fragment, Session, Timed, accepted, acknowledged, after_frames, ahead, all_frames, control_due, discarded}
-pub use Rattle.shdlc_core.specs.Machine.{expected, fetched, fragment_due, frame_due, frames_of, gap_found, is_waiting, place_of, put_out, received, repeated}
-pub use Rattle.shdlc_core.specs.Machine.{reset_with, runs_timer, stopped, take_answer, taken, tick_answer, ticked, timed, with_ready}
-pub use Rattle.shdlc_core.specs.Machine.Timed.{Over, Runs, Spent}
+pub use Rattle.shdlc_core.proofs.Histories.{in_phase}
+pub use Rattle.shdlc_core.specs.Machine.{EndState, Fragment, Session, accepted, acknowledged, after_frames, ahead, all_frames, control_due, discarded}
+pub use Rattle.shdlc_core.specs.Machine.{expected, fetched, fragment_due, frame_due, frames_of, is_waiting, place_of, put_out, received}
+pub use Rattle.shdlc_core.specs.Machine.{reset_with, stopped, take_answer, taken, tick_answer, ticked}
 pub use Rattle.shdlc_core.specs.declared.answers.Due.{Due}
 pub use Rattle.shdlc_core.specs.declared.answers.LinkState.{LinkState}
 pub use Rattle.shdlc_core.specs.declared.answers.LinkState.TheVariants.{Down, Up, Waiting}
 pub use Rattle.sorted_rows.proofs.RowLemmas.{AreRows-filter, AreRows-map, AreRows-with_row, length-rows, row_of-within}
 pub use Rattle.std.proofs.Common.{All, Bool, Contains, Err, IfSome, IsSome, IsTrue, List, None, Ok, Option, Result, Some, [], ap, append-nil, append_assoc}
-pub use Rattle.std.proofs.Common.{arith, bytes_eq, codes, cond, decimal, drop, eqb, eqb-true, false, filter, find, fold, get_or, if◌then◌else◌, inl, inr}
+pub use Rattle.std.proofs.Common.{arith, bytes_eq, codes, cond, decimal, drop, eqb, eqb-true, false, find, fold, if◌then◌else◌, inl, inr}
 pub use Rattle.std.proofs.Common.{is_some, length, length-append, map, min, nat_le, nat_lt, not, refl, replicate, slice_get, slice_index, subst, suc, sym, take}
 pub use Rattle.std.proofs.Common.{true, unwrap_or, zero, ℕ, ◌%◌, ◌&&◌, ◌*◌, ◌++◌, ◌+◌, ◌-◌, ◌/◌, ◌<◌, ◌==◌, ◌^◌, ◌↔◌, ◌∙◌, ◌∷◌, ◌≡◌, ◌≤◌}
-pub use Rattle.std.proofs.lemmas.Bool.{and_parts, cond_both, leb-true, ltb-false, ltb-true, true≢false}
+pub use Rattle.std.proofs.lemmas.Bool.{cond_both, leb-true, ltb-false}
 pub use Rattle.std.proofs.lemmas.Fmt.{decimal_injective, digits_decimal}
 pub use Rattle.std.proofs.lemmas.Grind.{common_steps}
 pub use Rattle.std.proofs.lemmas.List.{length-map, length-replicate}
 pub use Rattle.std.proofs.lemmas.List.Concat.{flat_map-append}
 pub use Rattle.std.proofs.lemmas.List.Folds.{list_all-append}
-pub use Rattle.std.proofs.lemmas.List.Sums.{AllPass-from_list_all, count_by-le-length}
+pub use Rattle.std.proofs.lemmas.List.Sums.{count_by-le-length}
 pub use Rattle.std.specs.List.{AllByRecursion, cons_option, flat_map, list_all, list_any}
-pub use Rattle.std.specs.Option.{option_map_or, option_to_list}
-pub use Rattle.swp_act.specs.Activation.{new_clf, new_uicc, no_act_out, out_ticked, sends, uicc_powered}
+pub use Rattle.std.specs.Option.{option_map_or}
 pub use Rattle.swp_act.specs.declared.ActEvent.{ActEvent}
 pub use Rattle.swp_act.specs.declared.ActEvent.TheVariants.{Start as ActStart, Stop as ActStop, Take as ActTake, Tick as ActTick}
 pub use Rattle.swp_base.specs.Bits.{IsByte, bits_of}
@@ -144,9 +135,7 @@ pub use Rattle.swp_base.specs.declared.control_frames.Act.{Act}
 pub use Rattle.swp_base.specs.declared.control_frames.Act.TheVariants.{PowerMode, Ready, SyncId}
 pub use Rattle.swp_base.specs.declared.control_frames.Control.{Control}
 pub use Rattle.swp_base.specs.declared.control_frames.Control.TheVariants.{Act as ActFrame, Clt, I, Rset, S, Ua}
-pub use Rattle.swp_base.specs.declared.control_frames.Kind.{Kind}
 pub use Rattle.swp_base.specs.declared.control_frames.Kind.TheVariants.{Rej, Rnr, Rr, Srej}
-pub use Rattle.swp_base.specs.declared.link_terms.Cause.{Cause}
 pub use Rattle.swp_base.specs.declared.link_terms.Cause.TheVariants.{Asked}
 pub use Rattle.swp_frame.specs.Stuffing.{end_of_frame, frame_of, start_of_frame, stuffed, stuffed_after, with_crc}
 pub use Rattle.swp_lpdu.specs.Controls.{lpdu_of}
@@ -157,7 +146,6 @@ pub use Rattle.told_laws.specs.told.Told.{entries_told, step_told}
 pub use Rattle.trace_model.specs.Lines.{IsEndOf, IsHeader, IsHost, IsLineOf, IsNodeHeader, IsNodeOf, MayBegin, MayFollow}
 pub use Rattle.trace_model.specs.declared.entry.Entry.{Entry}
 pub use Rattle.trace_model.specs.declared.entry.Entry.TheVariants.{Echo, InitFailed, InitMade, InitSame}
-pub use Rattle.trace_model.specs.declared.entry.LostCause.{LostCause}
 pub use Rattle.trace_model.specs.declared.entry.NoCause.{NoCause}
 pub use Rattle.trace_model.specs.declared.line.End.{End, End as NamedEnd}
 pub use Rattle.trace_model.specs.declared.line.Header.{Header}

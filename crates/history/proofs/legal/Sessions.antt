@@ -3,23 +3,22 @@
 use Rattle.std.proofs.lemmas.List.Elements.{filter_map-append}
 use Rattle.std.proofs.lemmas.Grind.{common_steps}
 use Rattle.std.proofs.lemmas.List.Concat.{flat_map-append}
-use Rattle.history.proofs.Words.{Acked, ActDue, Active, AllAllowed, AllByRecursion, Asked, AsksReset, Begins, Bool, Busy, ByAct, Cause, Chain, Book}
-use Rattle.history.proofs.Words.{Control, Controller, Counts, Cut, CutOff, Damage, Deliver, Down, Emit, End, EndEvent, EndState, EndStep, Ends, Entry, Event}
-use Rattle.history.proofs.Words.{Follows, GaveUp, Gets, Given, GoesOut, Got, HasNumbers, HasTick, Header, History, Host, InOrderIn, IsBare, IsEvent, IsFrontOf}
-use Rattle.history.proofs.Words.{IsHeader, IsInOrder, IsLineOf, IsSendable, IsWindow, Line, Link, LinkEnd, LinkEvent, LinkInput, List, Lose, Loss, Lost}
-use Rattle.history.proofs.Words.{Message, NamedEnd, NextFrame, NoAnswer, NoInput, None, Noted, NumberedEnd, OnWire, Option, Outcome, Peer, Prefix, read-append}
-use Rattle.history.proofs.Words.{Readied, Ready, Report, Reset, Restarted, Saying, Send, Sends, Sent, Side, Some, Starts, Step, StepsFollow, Stops}
-use Rattle.history.proofs.Words.{Take, Taken, Ticked, Took, Turn, Up, Verdict, WasLost, WasReset, [], acked_after, acked_in, after_input}
-use Rattle.history.proofs.Words.{after_link_events, aged, aged_entries, all_entries, all_events, among, ap, arith, at, at_each_moment, at_end, bare_link}
-use Rattle.history.proofs.Words.{causes_in, causes_of, cons_option, damage_causes, drop, end_of, ended_by, entries, entries_for, entries_of, entry_of, event_at}
-use Rattle.history.proofs.Words.{event_entries, event_of, events_at, events_of, exchanged, false, fetched, first_lost, first_verdict, flat_map, fold}
-use Rattle.history.proofs.Words.{frame_due, frames_of, frames_out, frames_to, good_of, got_in, got_in_session, happens, heard, here_entries, host_of, idle}
-use Rattle.history.proofs.Words.{if_so, if◌then◌else◌, is_chain_fault, is_some, left_after, length, link_acked, link_after, link_after_all, link_after_line}
-use Rattle.history.proofs.Words.{link_fault, link_got, link_sent, list_any, map, max, most_frames, nat_lt, number_of, opening_of, option_to_list, other_end}
-use Rattle.history.proofs.Words.{outcome_of, put, put_entries, puts_entries, refl, refusal, replicate, report, rest_entries, said_of, same_end}
-use Rattle.history.proofs.Words.{same_side, sent_by, sent_in, step_entries, subst, suc, sym, take, taken_entries, taken_of, tick_entries, ticks_at_controller}
-use Rattle.history.proofs.Words.{told, told_of, took_with, trace, true, turn, turn_entries, turn_entry, turned, unwrap_or, whole_acked, with_ended}
-use Rattle.history.proofs.Words.{zero, ℕ, ◌&&◌, ◌++◌, ◌-◌, ◌<◌, ◌==◌, ◌∙◌, ◌∷◌, ◌≡◌, ◌≤◌}
+use Rattle.history.proofs.Words.{Acked, ActDue, Active, AllAllowed, AllByRecursion, Asked, AsksReset, Begins, Bool, Busy, ByAct, Cause, Chain, Book, Control}
+use Rattle.history.proofs.Words.{Controller, Counts, Cut, CutOff, Damage, Deliver, Down, Emit, End, EndEvent, EndState, EndStep, Ends, Entry, Event, Follows}
+use Rattle.history.proofs.Words.{GaveUp, Gets, Given, GoesOut, Got, HasNumbers, HasTick, Header, History, Host, InOrderIn, IsBare, IsEvent, IsFrontOf, IsHeader}
+use Rattle.history.proofs.Words.{IsInOrder, IsLineOf, IsSendable, IsWindow, Line, Link, LinkEnd, LinkEvent, LinkInput, List, Lose, Lost, Message, NamedEnd}
+use Rattle.history.proofs.Words.{NextFrame, NoAnswer, NoInput, None, Noted, NumberedEnd, OnWire, Option, Peer, Prefix, read-append, Readied, Ready, Report}
+use Rattle.history.proofs.Words.{Reset, Restarted, Saying, Send, Sends, Sent, Side, Some, Starts, Step, StepsFollow, Stops, Take, Taken, Ticked, Took, Turn, Up}
+use Rattle.history.proofs.Words.{Verdict, WasLost, WasReset, [], acked_after, acked_in, after_input, after_link_events, aged, aged_entries, all_entries}
+use Rattle.history.proofs.Words.{all_events, among, ap, arith, at, at_each_moment, at_end, bare_link, causes_in, causes_of, cons_option, damage_causes, drop}
+use Rattle.history.proofs.Words.{end_of, ended_by, entries, entries_for, entries_of, entry_of, event_at, event_entries, event_of, events_at, events_of}
+use Rattle.history.proofs.Words.{exchanged, false, fetched, first_verdict, flat_map, fold, frame_due, frames_of, frames_out, frames_to, good_of, got_in}
+use Rattle.history.proofs.Words.{got_in_session, happens, heard, here_entries, host_of, idle, if_so, if◌then◌else◌, is_chain_fault, is_some, left_after, length}
+use Rattle.history.proofs.Words.{link_acked, link_after, link_after_all, link_after_line, link_fault, link_got, link_sent, list_any, map, max, most_frames}
+use Rattle.history.proofs.Words.{nat_lt, number_of, opening_of, option_to_list, other_end, outcome_of, put, put_entries, puts_entries, refl, refusal, replicate}
+use Rattle.history.proofs.Words.{report, rest_entries, said_of, same_end, same_side, sent_by, sent_in, step_entries, subst, suc, sym, take, taken_entries}
+use Rattle.history.proofs.Words.{taken_of, tick_entries, ticks_at_controller, told, told_of, took_with, trace, true, turn, turn_entries, turn_entry, turned}
+use Rattle.history.proofs.Words.{unwrap_or, whole_acked, with_ended, zero, ℕ, ◌&&◌, ◌++◌, ◌-◌, ◌<◌, ◌==◌, ◌∙◌, ◌∷◌, ◌≡◌, ◌≤◌}
 use Rattle.link_laws.proofs.entries.Disturbing.{no_chain_noted}
 use Rattle.link_laws.proofs.entries.Hearing.{controller_heard as link_controller, host_heard as link_host}
 use Rattle.link_laws.specs.entries.Sessions.{number_now}
@@ -46,26 +45,20 @@ passed g b s none some = grind arith
 
 -- ### Messages sent
 
-sent-one : (h : ℕ) (x : Noted) (who : Side) (n : ℕ) → sent_in (entry_of h x) (end_of h who) n ≡ link_sent (x ∷ []) who n
-sent-one h x who n = grind arith
-
 pub sent-all : (h : ℕ) (t : List Noted) (who : Side) (n : ℕ) → sent_in (entries_for h t) (end_of h who) n ≡ link_sent t who n
 sent-all h [] who n = refl
 sent-all h (x ∷ t) who n =
     filter_map-append (λ entry. sent_by n (said_of (end_of h who) entry)) (entry_of h x) (entries_for h t)
-    ∙ (ap (λ ms. ms ++ sent_in (entries_for h t) (end_of h who) n) (sent-one h x who n)
+    ∙ (ap (λ ms. ms ++ sent_in (entries_for h t) (end_of h who) n) (grind arith)
     ∙ (ap (λ ms. link_sent (x ∷ []) who n ++ ms) (sent-all h t who n) ∙ sym (ap (λ (b : Book). b.sent) (read-append (x ∷ []) t who n))))
 
 -- ### Messages got
-
-got-one : (h : ℕ) (x : Noted) (who : Side) (n : ℕ) → got_in (entry_of h x) (end_of h who) n ≡ link_got (x ∷ []) who n
-got-one h x who n = grind arith
 
 pub got-all : (h : ℕ) (t : List Noted) (who : Side) (n : ℕ) → got_in (entries_for h t) (end_of h who) n ≡ link_got t who n
 got-all h [] who n = refl
 got-all h (x ∷ t) who n =
     filter_map-append (λ entry. got_in_session n (said_of (end_of h who) entry)) (entry_of h x) (entries_for h t)
-    ∙ (ap (λ ms. ms ++ got_in (entries_for h t) (end_of h who) n) (got-one h x who n)
+    ∙ (ap (λ ms. ms ++ got_in (entries_for h t) (end_of h who) n) (grind arith)
     ∙ (ap (λ ms. link_got (x ∷ []) who n ++ ms) (got-all h t who n) ∙ sym (ap (λ (b : Book). b.got) (read-append (x ∷ []) t who n))))
 
 -- ### Messages acknowledged
@@ -261,8 +254,7 @@ of_steps header h l [] [] valid follows = tt
 of_steps header h l [] (step ∷ steps) valid follows = absurd follows
 of_steps header h l (line ∷ lines) [] valid follows = absurd follows
 of_steps header h l (line ∷ lines) (step ∷ steps) valid follows =
-    let P : Outcome → Type 0 = λ o. AreOf h l (events_of o) in
-    of_append h l (events_of step.outcome) (events_in steps) (subst P (sym follows.1) (of_line header h l line valid.0))
+    of_append h l (events_of step.outcome) (events_in steps) (subst (λ o. AreOf h l (events_of o)) (sym follows.1) (of_line header h l line valid.0))
     (of_steps header h (link_after_line l step.outcome) lines steps valid.1 follows.3)
 
 -- ## At each moment of a history messages are in order
@@ -288,10 +280,8 @@ front_given {X} {Y} f one (x ∷ xs) (y ∷ front) back q = go (f x) refl (one x
         let r = later (y ∷ front) back (sym (ap (λ z. z ++ flat_map f xs) e) ∙ q) in
         (x ∷ r.0, (r.1.0, ap (λ z. x ∷ z) r.1.1), r.2 ∙ sym (ap (λ z. z ++ flat_map f r.0) e))
     go (z ∷ []) e o later =
-        let same : z ∷ flat_map f xs ≡ y ∷ (front ++ back) = sym (ap (λ w. w ++ flat_map f xs) e) ∙ q in
         let head : y ≡ z = cc in
-        let tail : flat_map f xs ≡ front ++ back = cc in
-        let r = later front back tail in (
+        let r = later front back cc in (
           x ∷ r.0,
           (r.1.0, ap (λ w. x ∷ w) r.1.1),
           ap (λ w. y ∷ w) r.2 ∙ (ap (λ w. w ∷ flat_map f r.0) head ∙ sym (ap (λ w. w ++ flat_map f r.0) e)),
@@ -386,8 +376,7 @@ prefix_of : (h : ℕ) (t : History) → IsRun h t → Prefix t
 prefix_of h t run front back q =
     let xs : List Event = all_events t in
     let f = front_given (entry_of h) (one_entry h) (notes_of xs) front back (sym (run_entries h t.opening xs run.opening run.events) ∙ q) in
-    let P : List Entry → Type 0 = λ z. IsInOrder z in
-    subst P (sym f.2)
+    subst (λ z. IsInOrder z) (sym f.2)
     (in_order_of h f.0 (at_each_moment bare_link IsBare (link_events xs) (of_allowed h bare_link xs run.events) f.0 f.1))
 
 pub in_order : (header : Header) (lines : List Line) (t : History) → AllByRecursion (IsLineOf header) lines → IsHeader header → Follows header lines t
@@ -465,19 +454,10 @@ plain_told : (who : Side) (n : ℕ) (r : Report) (acked : ℕ) → ArePlain (tol
 plain_told who n r acked =
     let a = plain-append (if_so (nat_lt 0 r.acked) (Acked who n acked)) (map (Got who n) r.got) (plain_so (nat_lt 0 r.acked) (Acked who n acked) tt)
     (plain_map (Got who n) r.got (λ m. tt)) in
-    let b = plain-append (map (GaveUp who) (option_to_list r.gave_up)) (if_so (nat_lt 0 r.acked) (Acked who n acked) ++ map (Got who n) r.got)
-    (plain_map (GaveUp who) (option_to_list r.gave_up) (λ m. tt)) a in
-    let c = plain-append (if_so r.became_active (Active who))
-    (map (GaveUp who) (option_to_list r.gave_up) ++ (if_so (nat_lt 0 r.acked) (Acked who n acked) ++ map (Got who n) r.got))
-    (plain_so r.became_active (Active who) tt) b in
-    let d = plain-append (if_so r.began (Up who n))
-    (if_so r.became_active (Active who)
-    ++ (map (GaveUp who) (option_to_list r.gave_up) ++ (if_so (nat_lt 0 r.acked) (Acked who n acked) ++ map (Got who n) r.got)))
-    (plain_so r.began (Up who n) tt) c in
     plain-append (map (Down who) (option_to_list r.ended))
     (if_so r.began (Up who n) ++ (if_so r.became_active (Active who)
     ++ (map (GaveUp who) (option_to_list r.gave_up) ++ (if_so (nat_lt 0 r.acked) (Acked who n acked) ++ map (Got who n) r.got))))
-    (plain_map (Down who) (option_to_list r.ended) (λ m. tt)) d
+    (plain_map (Down who) (option_to_list r.ended) (λ m. tt)) (grind arith)
 
 plain_turn : (who : Side) (n : ℕ) (e : LinkEnd) (t : Turn) → ArePlain (turn_entry who n e t)
 plain_turn who n e t = grind arith
@@ -486,9 +466,6 @@ plain_turns : (who : Side) (n : ℕ) (e : LinkEnd) (ts : List Turn) → ArePlain
 plain_turns who n e [] = tt
 plain_turns who n e (t ∷ ts) =
     plain-append (turn_entry who n e t) (turn_entries who n (turn e t) ts) (plain_turn who n e t) (plain_turns who n (turn e t) ts)
-
-plain_first : (who : Side) (why : Loss) (xs : List OnWire) → ArePlain (first_lost who why xs)
-plain_first who why xs = grind arith
 
 plain_puts : (who : Side) (cs : List Control) (l : Link) → HaveNumbers cs → ArePlain (puts_entries who l cs)
 plain_puts who [] l h = tt
@@ -541,7 +518,7 @@ IsStep (EndStep (AsksReset window) ts GoesOut) = Unit {0}
 IsStep _ = ⊥
 
 plain_here : (who : Side) (l : Link) (x : EndEvent) → IsStep x → ArePlain (here_entries who l x)
-plain_here who l (EndLose why) s = plain_first who why l.to_controller
+plain_here who l (EndLose why) s = grind arith
 plain_here who l (EndStep NextFrame ts GoesOut) s = plain_frame who l ts
 plain_here who l (EndStep NoInput ts GoesOut) s = plain_rest who l l.controller.side ts
 plain_here who l (EndStep (AsksReset window) ts GoesOut) s =

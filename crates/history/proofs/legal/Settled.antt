@@ -2,19 +2,18 @@
 -- ends up.
 use Rattle.std.proofs.lemmas.List.{map-append}
 use Rattle.history.proofs.Words.{Acked, Act, AllAllowed, AllByRecursion, AreActive, AreReadUpTogether, Begins, Bool, Busy, Cause, Caused, Clt, Complete}
-use Rattle.history.proofs.Words.{Contains, Control, Controller, Counts, Cut, Damage, Deliver, Down, Emit, End, Entry, Event, Follows, Gets, Good, Got}
-use Rattle.history.proofs.Words.{Header, History, Host, I, IsBare, IsComplete, IsDelivered, IsEndOf, IsHeader, IsLineOf, IsNoted, IsQuietSince, IsReadQuiet}
-use Rattle.history.proofs.Words.{Line, Link, LinkDelivered, LinkEvent, List, Lose, Loses, Loss, Lost, Message, NoCause, None, Noted, OnWire, Option, Outcome}
-use Rattle.history.proofs.Words.{Puts, Reached, Ready, Refused, Rej, Reset, Restarted, Rnr, Rr, Rset, S, Saying, Seen, Send, Sends, Sent, Settled, Side, Some}
-use Rattle.history.proofs.Words.{Srej, Step, StepsFollow, Taken, Takes, Tick, Ticked, Took, Ua, Up, WasReset, [], after_link_events, all_events, ap}
-use Rattle.history.proofs.Words.{append_assoc, arith, bare_link, begins, begins_on, causes_in, causes_of, core_event, core_of, disturbs, end_of, entries}
-use Rattle.history.proofs.Words.{entries_for, entries_of, event_entries, event_goes, event_of, event_step, events_at, events_of, false, first_entries, fold}
-use Rattle.history.proofs.Words.{frames_to, good_of, happens, has_lost, has_rnr, has_rset, heard, host_of, if◌then◌else◌, is_rnr_lpdu, is_waiting, length}
-use Rattle.history.proofs.Words.{link_after, link_after_all, link_after_line, list_any, lpdu_of, machine_of, map, note_event, nothing_seen, number_of, numbered}
-use Rattle.history.proofs.Words.{older, other_end, outcome_of, reached_more, refl, refusal, replicate, reset_refusal, said_of, same_end, same_number, same_side}
-use Rattle.history.proofs.Words.{see, see_all, session_after, session_number, session_up, since, since_up, slice_index, start_noted, subst, suc, sym, taken_of}
-use Rattle.history.proofs.Words.{together, true, true≢false, unwrap_or, up_session, waits_in, wire_after, wire_to, zero, ℕ, ◌&&◌, ◌++◌, ◌<◌, ◌==◌, ◌||◌, ◌∙◌}
-use Rattle.history.proofs.Words.{◌∷◌, ◌≡◌}
+use Rattle.history.proofs.Words.{Contains, Control, Controller, Counts, Cut, Damage, Deliver, Down, Emit, End, Entry, Event, Follows, Gets, Good, Got, Header}
+use Rattle.history.proofs.Words.{History, Host, I, IsBare, IsComplete, IsDelivered, IsEndOf, IsHeader, IsLineOf, IsNoted, IsQuietSince, IsReadQuiet, Line, Link}
+use Rattle.history.proofs.Words.{LinkDelivered, LinkEvent, List, Lose, Loses, Lost, Message, NoCause, None, Noted, OnWire, Option, Outcome, Puts, Reached}
+use Rattle.history.proofs.Words.{Ready, Refused, Rej, Reset, Restarted, Rnr, Rr, Rset, S, Saying, Seen, Send, Sends, Sent, Settled, Side, Some, Srej, Step}
+use Rattle.history.proofs.Words.{StepsFollow, Taken, Takes, Tick, Ticked, Took, Ua, Up, WasReset, [], after_link_events, all_events, ap, append_assoc, arith}
+use Rattle.history.proofs.Words.{bare_link, begins, begins_on, causes_in, causes_of, core_event, core_of, disturbs, end_of, entries, entries_for, entries_of}
+use Rattle.history.proofs.Words.{event_entries, event_goes, event_of, event_step, events_at, events_of, false, first_entries, fold, frames_to, good_of, happens}
+use Rattle.history.proofs.Words.{has_lost, has_rnr, has_rset, heard, host_of, if◌then◌else◌, is_rnr_lpdu, is_waiting, length, link_after, link_after_all}
+use Rattle.history.proofs.Words.{link_after_line, list_any, lpdu_of, machine_of, map, note_event, nothing_seen, number_of, numbered, older, other_end}
+use Rattle.history.proofs.Words.{outcome_of, reached_more, refl, refusal, replicate, reset_refusal, said_of, same_end, same_number, same_side, see, see_all}
+use Rattle.history.proofs.Words.{session_after, session_number, session_up, since, since_up, slice_index, start_noted, subst, suc, sym, taken_of, together}
+use Rattle.history.proofs.Words.{true, true≢false, unwrap_or, up_session, waits_in, wire_after, wire_to, zero, ℕ, ◌&&◌, ◌++◌, ◌<◌, ◌==◌, ◌||◌, ◌∙◌, ◌∷◌, ◌≡◌}
 use Rattle.link_laws.proofs.entries.Seeing.{read_off}
 use Rattle.link_laws.proofs.entries.Settling.{Spared, Stands, none_withheld, or_none}
 use Rattle.link_laws.proofs.entries.Together.{quiet_here, quiet_there}
@@ -111,14 +110,6 @@ put_seen h Controller Host s c =
 put_seen h Host Controller s c = let z = same_number h in rw z (sym (map-append (λ (x : OnWire). lpdu_of x.frame) s.to_host (numbered s c ∷ [])))
 put_seen h Host Host s c = let z = same_number h in rw z refl
 
-taken_seen : (h : ℕ) (who w : Side) (s : Seen) (c : Control) → moved h who w (bytes_on (wire_seen who s)) (Takes (lpdu_of c))
-    ≡ bytes_on (wire_seen who (see s (Took w c)))
-taken_seen h who w s c = grind arith
-
-lost_seen : (h : ℕ) (who w : Side) (s : Seen) (c : Control) (why : Loss) → moved h who w (bytes_on (wire_seen who s)) (Loses (lpdu_of c))
-    ≡ bytes_on (wire_seen who (see s (Lost w c why)))
-lost_seen h who w s c why = grind arith
-
 aged_seen : (who : Side) (s : Seen) → bytes_on (wire_seen who s) ≡ bytes_on (wire_seen who (see s Tick))
 aged_seen Controller s = sym (older_bytes s.to_controller)
 aged_seen Host s = sym (older_bytes s.to_host)
@@ -138,10 +129,9 @@ wire-from h who (Sent w k m ∷ t) s p =
     let h0 = end_of h who in let h1 = entries_for h t in let h2 = wire-from h who t s p.1 in let h3 = same_end (end_of h w) (end_of h who) in grind arith
 wire-from h who (Emit w c ∷ t) s p =
     ap (λ z. wire_from z (end_of h who) (entries_for h t)) (put_seen h who w s c) ∙ wire-from h who t (see s (Emit w c)) p.1
-wire-from h who (Took w c ∷ t) s p =
-    ap (λ z. wire_from z (end_of h who) (entries_for h t)) (taken_seen h who w s c) ∙ wire-from h who t (see s (Took w c)) p.1
+wire-from h who (Took w c ∷ t) s p = ap (λ z. wire_from z (end_of h who) (entries_for h t)) (grind arith) ∙ wire-from h who t (see s (Took w c)) p.1
 wire-from h who (Lost w c why ∷ t) s p =
-    ap (λ z. wire_from z (end_of h who) (entries_for h t)) (lost_seen h who w s c why) ∙ wire-from h who t (see s (Lost w c why)) p.1
+    ap (λ z. wire_from z (end_of h who) (entries_for h t)) (grind arith) ∙ wire-from h who t (see s (Lost w c why)) p.1
 wire-from h who (Tick ∷ t) s p = ap (λ z. wire_from z (end_of h who) (entries_for h t)) (aged_seen who s) ∙ wire-from h who t (see s Tick) p.1
 wire-from h who (Restarted w ∷ t) s p = absurd p.0
 wire-from h who (Cut w ∷ t) s p = absurd p.0
@@ -193,9 +183,8 @@ undisturbed h (Emit w (S Rr nr) ∷ t) p a b = undisturbed h t p.1 a (or_right _
 undisturbed h (Emit w (S Rej nr) ∷ t) p a b = undisturbed h t p.1 a (or_right _ _ b)
 undisturbed h (Emit w (S Srej nr) ∷ t) p a b = undisturbed h t p.1 a (or_right _ _ b)
 undisturbed h (Emit w (S Rnr nr) ∷ t) p a b =
-    let one = link_same h w in
     let two = reads_rnr nr p.0 in
-    absurd (or_left (((end_of h w).link == h) && is_rnr_lpdu (lpdu_of (S Rnr nr))) (has_rnr h (entries_for h t)) b (rw (one, two) refl))
+    absurd (or_left (((end_of h w).link == h) && is_rnr_lpdu (lpdu_of (S Rnr nr))) (has_rnr h (entries_for h t)) b (rw ((link_same h w), two) refl))
 undisturbed h (Emit w (Rset window caps) ∷ t) p a b = undisturbed h t p.1 a (or_right _ _ b)
 undisturbed h (Emit w Ua ∷ t) p a b = undisturbed h t p.1 a (or_right _ _ b)
 undisturbed h (Emit w (Act act again) ∷ t) p a b = undisturbed h t p.1 a (or_right _ _ b)
@@ -215,16 +204,14 @@ link_now xs = after_link_events bare_link (link_events xs)
 empty_controller : (h : ℕ) (xs : List Event) → wire_to (entries_for h (notes_of xs)) (end_of h Controller) ≡ [] → (link_now xs).to_controller ≡ []
 empty_controller h xs q =
     let t : List Noted = notes_of xs in
-    let plain = plain_trace (causes_of xs) in
     sym (ap (λ (s : Seen). s.to_controller) (read_off bare_link IsBare (link_events xs)))
-    ∙ no_bytes (see_all nothing_seen t).to_controller (sym (wire-controller h t nothing_seen refl plain) ∙ q)
+    ∙ no_bytes (see_all nothing_seen t).to_controller (sym (wire-controller h t nothing_seen refl (plain_trace (causes_of xs))) ∙ q)
 
 empty_host : (h : ℕ) (xs : List Event) → wire_to (entries_for h (notes_of xs)) (end_of h Host) ≡ [] → (link_now xs).to_host ≡ []
 empty_host h xs q =
     let t : List Noted = notes_of xs in
-    let plain = plain_trace (causes_of xs) in
     sym (ap (λ (s : Seen). s.to_host) (read_off bare_link IsBare (link_events xs)))
-    ∙ no_bytes (see_all nothing_seen t).to_host (sym (wire-host h t nothing_seen refl plain) ∙ q)
+    ∙ no_bytes (see_all nothing_seen t).to_host (sym (wire-host h t nothing_seen refl (plain_trace (causes_of xs))) ∙ q)
 
 -- both ends are up with this number, nothing disturbed the link since, and its wires are empty
 record IsStillOfComplete (h : ℕ) (xs : List Event) (n : ℕ) : Type 0 where
@@ -246,17 +233,15 @@ kept_quiet h xs n a q =
     let can = of_can h bare_link xs a in
     let plain = plain_trace (causes_of xs) in
     let near = session_up (link_now xs).controller n (sym (session-all h t Controller plain ∙ controller_heard (causes_of xs) can) ∙ q.controller) in
-    let there = session_up (link_now xs).host n (sym (session-all h t Host plain ∙ host_heard (causes_of xs) can) ∙ q.host) in
     let plain = plain_trace (causes_of xs) in
     let since_is = since-all h n t in
     let none_disturbs : list_any disturbs (since n t) ≡ false =
     undisturbed h (since n t) (plain_since n t plain) (sym (ap (has_lost h) since_is) ∙ q.lossless) (sym (ap (has_rnr h) since_is) ∙ q.ready) in
-    let P : ℕ → Type 0 = λ z. list_any disturbs (since z t) ≡ false in
     record {
       quiet = record {
         controller = near.0;
-        host = there.0;
-        undisturbed = subst P (sym near.1) none_disturbs;
+        host = (session_up (link_now xs).host n (sym (session-all h t Host plain ∙ host_heard (causes_of xs) can) ∙ q.host)).0;
+        undisturbed = subst (λ z. list_any disturbs (since z t) ≡ false) (sym near.1) none_disturbs;
         to_controller = empty_controller h xs q.to_controller;
         to_host = empty_host h xs q.to_host;
       };
@@ -328,10 +313,8 @@ complete_at h xs a e n = go (h == e.link) refl
 
 complete_of : (h : ℕ) (t : History) → IsRun h t → Complete t
 complete_of h t run front back q =
-    let A : List Event → Type 0 = λ z. AreOf h bare_link z in
-    let a = of_front h bare_link front back (subst A q run.events) in
-    let P : List Entry → Type 0 = λ z. IsComplete z in
-    subst P (sym (run_entries h t.opening front run.opening a)) (complete_at h front a)
+    let a = of_front h bare_link front back (subst (λ z. AreOf h bare_link z) q run.events) in
+    subst (λ z. IsComplete z) (sym (run_entries h t.opening front run.opening a)) (complete_at h front a)
 
 pub complete : (header : Header) (lines : List Line) (t : History) → AllByRecursion (IsLineOf header) lines → IsHeader header → Follows header lines t
     → Complete t
@@ -474,17 +457,15 @@ run_together before reset behind a asked alone undisturbed near there =
     let es : List LinkEvent = link_events before in
     let fs : List LinkEvent = link_events behind in
     let e : LinkEvent = event_of reset.cause in
-    let is : link_events (before ++ reset ∷ behind) ≡ es ++ e ∷ fs = events-append before (reset ∷ behind) in
     let same = after_causes (causes_of before) bare_link in
     let P : List LinkEvent → Type 0 = λ z. AllAllowed bare_link z → (after_link_events bare_link z).to_controller ≡ []
     → (after_link_events bare_link z).to_host ≡ [] → LinkTogether (after_link_events bare_link z) in
     let R : Link → Type 0 = λ z. IsReset z e in
     let W : Link → Type 0 = λ z. list_any withholds (rest_of z e ++ entries (happens z e) fs) ≡ false in
-    let m : Link = link_after_all bare_link (causes_of before) in
-    let V : List Noted → Type 0 = λ z. list_any withholds (z ++ entries (happens m e) fs) ≡ false in
+    let V : List Noted → Type 0 = λ z. list_any withholds (z ++ entries (happens (link_after_all bare_link (causes_of before)) e) fs) ≡ false in
     let law : P (es ++ e ∷ fs) =
     λ b c d. together bare_link IsBare es e fs b (subst R (sym same) asked) (subst W (sym same) (subst V (sym alone) undisturbed)) (ap sans c) (ap sans d) in
-    subst P (sym is) law a near there
+    subst P (sym (events-append before (reset ∷ behind))) law a near there
 
 -- ### Entries
 
@@ -553,36 +534,29 @@ settled_of : (h : ℕ) (t : History) → IsRun h t → AreAsked h bare_link (all
 settled_of h t run asked before reset behind back e window q z =
     let xs : List Event = before ++ reset ∷ behind in
     let whole : all_events t ≡ xs ++ back = q ∙ sym (append_assoc before (reset ∷ behind) back) in
-    let A : List Event → Type 0 = λ z. AreOf h bare_link z in
-    let B : List Event → Type 0 = λ z. AreAsked h bare_link z in
-    let a = of_front h bare_link xs back (subst A whole run.events) in
-    let k = asked_front h bare_link xs back (subst B whole asked) in
+    let a = of_front h bare_link xs back (subst (λ z. AreOf h bare_link z) whole run.events) in
+    let k = asked_front h bare_link xs back (subst (λ z. AreAsked h bare_link z) whole asked) in
     let l : Link = link_after_all bare_link (causes_of before) in
-    let C : Cause → Type 0 = λ z. IsAsked h l z in
-    let mine : IsAsked h l (WasReset e window) = subst C z.cause (asked_at h bare_link before reset behind k) in
+    let mine : IsAsked h l (WasReset e window) = subst (λ z. IsAsked h l z) z.cause (asked_at h bare_link before reset behind k) in
     let m : Link = link_after l reset.cause in
     let rest = (of_back h bare_link before (reset ∷ behind) a).2 in
     let read : entries_of behind ≡ entries_for h (entries m (link_events behind)) = of_entries h m behind rest in
     let lossless : has_lost h (entries_of behind) ≡ false =
     any_right _ reset.entries (entries_of behind) (ap (λ n. has_lost n (entries_of (reset ∷ behind))) (sym mine.0) ∙ z.lossless) in
-    let alone : has_rset h (entries_of behind) ≡ false = ap (λ n. has_rset n (entries_of behind)) (sym mine.0) ∙ z.alone in
     let spared : Spared (entries m (link_events behind)) =
-    spared_of h (entries m (link_events behind)) (sym (ap (has_lost h) read) ∙ lossless) (sym (ap (has_rset h) read) ∙ alone) in
+    spared_of h (entries m (link_events behind)) (sym (ap (has_lost h) read) ∙ lossless) (sym (ap (has_rset h) read) ∙ (grind arith)) in
     let first = of_front h bare_link before (reset ∷ behind) a in
-    let can = of_can h bare_link before first in
     let opened : t.opening ++ entries_of before ≡ entries_for h (notes_of before) = run_entries h t.opening before run.opening first in
     let other : is_waiting (machine_of l (other_end e)).shdlc ≡ false =
     sym (waits_as_read h before (other_end e) first (sym mine.0)) ∙ (sym (ap (λ y. waits_in y (other_end e)) opened) ∙ z.other) in
     let R : Cause → Type 0 = λ c. IsReset l (event_of c) in
-    let Alone : Cause → Type 0 = λ c. rest_of l (event_of c) ≡ [] in
     let law : (link_now xs).to_controller ≡ [] → (link_now xs).to_host ≡ [] → LinkTogether (link_now xs) =
     run_together before reset behind (of_allowed h bare_link xs a)
-    (subst R (sym z.cause) (reset_ready l e window mine.1 other (always_active (causes_of before) can)))
-    (subst Alone (sym z.cause) (grind arith))
+    (subst R (sym z.cause) (reset_ready l e window mine.1 other (always_active (causes_of before) (of_can h bare_link before first))))
+    (subst (λ c. rest_of l (event_of c) ≡ []) (sym z.cause) (grind arith))
     (none_withheld (entries m (link_events behind)) spared (plain_stands (entries m (link_events behind)) (plain_entries (causes_of behind) m))) in
     let is : t.opening ++ entries_of xs ≡ entries_for h (notes_of xs) = run_entries h t.opening xs run.opening a in
-    let P : List Entry → Type 0 = λ y. AreReadUpTogether y e in
-    subst P (sym is)
+    subst (λ y. AreReadUpTogether y e) (sym is)
     (up_both h xs e a (sym mine.0) law (sym (ap (λ y. wire_to y e) is) ∙ z.to_here) (sym (ap (λ y. wire_to y (other_end e)) is) ∙ z.to_there))
 
 pub settled : (header : Header) (lines : List Line) (t : History) → AllByRecursion (IsLineOf header) lines → IsHeader header → Follows header lines t

@@ -3,11 +3,11 @@ use Rattle.std.proofs.lemmas.List.Sums.{fold-append}
 use Rattle.history.proofs.Words.{Acked, Active, AreSendableTurns, Asked, AsksReset, Before, Bool, Control, CoreTurn, Cut, CutOff, Down, Due, Emit, EndEvent}
 use Rattle.history.proofs.Words.{EndState, Ending, Fragment, GaveUp, GoesOut, Got, HasTick, IsAllowed, IsNode, IsOwn, Link, LinkEnd, LinkInput, List, NextFrame}
 use Rattle.history.proofs.Words.{NoInput, Node, None, NumberedEnd, OnWire, Option, Report, Restarted, Role, Rr_due, Rset_due, Some, Starts, Stops, Take, Turn}
-use Rattle.history.proofs.Words.{Up, [], act_answer, activated, after_input, aged_entries, among, ap, arith, becomes, began_by, comes_first, core_turn}
+use Rattle.history.proofs.Words.{Up, [], act_answer, activated, after_input, aged_entries, ap, arith, becomes, began_by, comes_first, core_turn}
 use Rattle.history.proofs.Words.{core_turned, core_turns, due_left, ended_by, false, far, finished, first_none, fold, frames_of, frames_out, gave_up_by}
 use Rattle.history.proofs.Words.{happens_at_controller, has_taken, here_entries, if_so, if_up, if◌then◌else◌, input_entries, is_open, is_rset, is_some}
 use Rattle.history.proofs.Words.{is_waiting, left_after, list_any, map, most_frames, moved, nat_lt, near_of, new_link_end, none_out, number_of, opened}
-use Rattle.history.proofs.Words.{option_to_list, put, put_entries, puts_entries, refl, renewed, report, reset_by, reset_keeps, reset_refusal, reset_tells}
+use Rattle.history.proofs.Words.{option_to_list, put, put_entries, puts_entries, refl, renewed, report, reset_by, reset_refusal, reset_tells}
 use Rattle.history.proofs.Words.{reset_waits, reset_with, rest_entries, restart_entries, restart_mid, same_far, same_link_end, same_self, silent, step_entries}
 use Rattle.history.proofs.Words.{stopped, subst, suc, sym, taken_entries, tick_answer, tick_closed, tick_entries, tick_open, ticked, ticks_at_controller, told}
 use Rattle.history.proofs.Words.{told_of, took, took_with, true, true≢false, turn, turn_entries, turn_entry, turned, whole_acked, window_of, with_ended, ℕ}
@@ -172,10 +172,9 @@ rest_harked who l f ts GoesOut b so =
     by (Asks w some) = puts_some who (frames_out (turned f ts)) l b some ∙ sym w
     by (Quiet w none) = puts_none who (frames_out (turned f ts)) l none b ∙ w
 rest_harked who l f ts CutOff b so =
-    let last : harks who b (Cut who ∷ []) ≡ false = let q = same_self who in rw q refl in
     harks-append who b (turn_entries who (number_of l.controller) f ts) (Cut who ∷ [])
     ∙ (ap (λ z. harks who z (Cut who ∷ [])) (passes_turns who who (number_of l.controller) f ts b)
-    ∙ (last ∙ sym (new_waits (turned f ts).role)))
+    ∙ ((let q = same_self who in rw q refl) ∙ sym (new_waits (turned f ts).role)))
 
 rest_far : (who : End) (l : Link) (e : LinkEnd) (ts : List Turn) (ending : Ending) → Passes (far who) (rest_entries who l e ts ending)
 rest_far who l e ts GoesOut =
@@ -207,8 +206,7 @@ out_some f ts sendable now q =
     let us : List CoreTurn = core_turns f ts in
     let tm = turns_mid None f ts sendable now in
     let z : EndState = core_turned f.shdlc us in
-    let frames : frames_out (turned f ts) ≡ frames_of most_frames z =
-    ap (λ a. among 0 a (frames_of most_frames (turned f ts).shdlc)) tm.mid.acts ∙ ap (λ y. frames_of most_frames y) tm.is in
+    let frames : frames_out (turned f ts) ≡ frames_of most_frames z = grind arith in
     let due = first_due us f.shdlc [] q in
     ap (λ y. list_any is_rset y) frames ∙ first_rset 11 z due.0 due.1
 
@@ -249,27 +247,22 @@ tick_so l ts a n = go (is_open e.role) refl
     down : (t : EndState) → t.phase ≡ IsDown → is_waiting t ≡ false
     down t p = rw p refl
 
-    never : (x : Bool) (y : Bool) → y ≡ false → after_told false x y ≡ false
-    never x y q = grind arith
-
     go : (o : Bool) → is_open e.role ≡ o → EndsSo (after_input e HasTick) ts (after_told false (is_some (gave_up_by e HasTick)) (is_waiting e.shdlc))
     go true o =
         let is = (tick_open e o).0 in
-        let gave : is_some (gave_up_by e HasTick) ≡ is_some (tick_answer e.shdlc).gave_up = rw o refl in
         let P : LinkEnd → Type 0 = λ f. EndsSo f ts (after_told false (is_some (gave_up_by e HasTick)) (is_waiting e.shdlc)) in
         let Q : Bool → Type 0 = λ x. EndsSo (moved e c s) ts (after_told false x (is_waiting e.shdlc)) in
-        subst P (sym is) (subst Q (sym gave) (open_one o (grind arith)))
+        subst P (sym is) (subst Q (sym (rw o refl)) (open_one o (grind arith)))
     go false o =
         let is = (tick_closed e o).0 in
         let closed : e.shdlc.phase ≡ IsDown = n.tells.now.closed o in
-        let ended : (act_answer e.role ActTick).ended_link ≡ true → e.shdlc.phase ≡ IsDown = λ z. closed in
-        let m = act_mid e ActTick n.tells.now n.rests.due ended (λ z. closed) in
+        let m = act_mid e ActTick n.tells.now n.rests.due (λ z. closed) (λ z. closed) in
         let f : LinkEnd = activated e ActTick in
         let x : Bool = is_some (gave_up_by e HasTick) in
         let P : LinkEnd → Type 0 = λ g. EndsSo g ts (after_told false x (is_waiting e.shdlc)) in
         let due : f.shdlc.due ≡ [] = ap (λ (z : EndState). z.due) m.same ∙ n.rests.due in
         subst P (sym is)
-        (Quiet (never x (is_waiting e.shdlc) (down e.shdlc closed) ∙ sym (ap is_waiting m.same ∙ down e.shdlc closed))
+        (Quiet ((grind arith) ∙ sym (ap is_waiting m.same ∙ down e.shdlc closed))
         (none_out (act_answer e.role ActTick).send f ts a m.mid (none_due f.shdlc due)))
 
 -- ## Resets
@@ -303,10 +296,9 @@ reset_so l window ts a n = go (reset_refusal e) refl
         let t = reset_tells e q in
         let s : EndState = reset_with e.shdlc w in
         let moved_is = shdlc_moved e c s in
-        let now : Now (reset_by e w) = mid_moved e c s n.tells.now (reset_keeps e.shdlc w t.1 n.tells.now.idle) (opened e.role (s.phase ≡ IsDown) t.0) in
         subst P (sym is)
         (Asks (ap is_waiting moved_is ∙ (rw (reset_waits e.shdlc w t.1) refl))
-        (out_some (reset_by e w) ts a now (ap (λ (z : EndState). z.due) moved_is ∙ reset_due e.shdlc w t.1 n.rests.due)))
+        (out_some (reset_by e w) ts a (grind arith) (ap (λ (z : EndState). z.due) moved_is ∙ reset_due e.shdlc w t.1 n.rests.due)))
     go (Some why) q = let is : after_input e (Reset window) ≡ e = rw q refl in subst P (sym is) (idle_so l ts a n)
 
 -- ## Frames that come
@@ -360,19 +352,14 @@ restart_harked who l {i} {event} ts ending a n r none =
     let f : LinkEnd = after_input e i in
     let g : LinkEnd = activated (moved e true (stopped e.shdlc)) event in
     let m = restart_mid e event n.tells.now in
-    let Q : EndState → Type 0 = λ z. NoAsk z.due in
-    let out : NoRset (frames_out (turned g ts)) = none_out (act_answer e.role event).send g ts a.0 m.mid (subst Q (sym m.same) tt) in
+    let out : NoRset (frames_out (turned g ts)) = none_out (act_answer e.role event).send g ts a.0 m.mid (subst (λ z. NoAsk z.due) (sym m.same) tt) in
     let R : LinkEnd → Type 0 = λ z. NoRset (frames_out (turned z ts)) in
-    let over : is_waiting f.shdlc ≡ false = ap (λ (z : LinkEnd). is_waiting z.shdlc) r.becomes ∙ ap is_waiting m.same in
-    let told : after_told (began_by e i) (is_some (gave_up_by e i)) false ≡ false =
-    ap (λ x. after_told x (is_some (gave_up_by e i)) false) r.none ∙ ap (λ x. after_told false x false) none in
-    let both = input_harked who l (silent l f) l.controller.took i false ts ending (Quiet (told ∙ sym over) (subst R (sym r.becomes) out)) in
-    let q = same_self who in
-    let p = same_far who in
+    let told : after_told (began_by e i) (is_some (gave_up_by e i)) false ≡ false = grind arith in
+    let both = input_harked who l (silent l f) l.controller.took i false ts ending (Quiet (told ∙ sym (grind arith)) (subst R (sym r.becomes) out)) in
     let us : List Entry = told_of who l.controller i ++ rest_entries who (silent l f) f ts ending in
     record {
-      here = ap (λ x. harks who (if x then false else waits l.controller) us) q ∙ both.0;
-      there = λ b. ap (λ x. harks (far who) (if x then false else b) us) p ∙ both.1 b;
+      here = ap (λ x. harks who (if x then false else waits l.controller) us) (same_self who) ∙ both.0;
+      there = λ b. ap (λ x. harks (far who) (if x then false else b) us) (same_far who) ∙ both.1 b;
     }
 
 taken_harked : (who : End) (l : Link) (x : OnWire) (xs : List OnWire) (ts : List Turn) (ending : Ending) → IsNode l ts ending → ComesFirst l x xs
@@ -410,10 +397,8 @@ frame_harked who l ts ending a b = go l.to_controller refl
     go : (w : List OnWire) → l.to_controller ≡ w → Harked who l m u
     go [] q = grind arith
     go (x ∷ xs) q =
-        let some : u ≡ taken_entries who l x xs ts ending = rw q refl in
-        let next : m ≡ has_taken l x xs ts ending = rw q refl in
         let Q : List Entry → Type 0 = λ z. Harked who l (has_taken l x xs ts ending) z in
-        subst P (sym next) (subst Q (sym some) (taken_harked who l x xs ts ending a (comes_first l x xs q b)))
+        subst P (sym (rw q refl)) (subst Q (sym (rw q refl)) (taken_harked who l x xs ts ending a (comes_first l x xs q b)))
 
 pub here_harked : (who : End) (l : Link) (e : EndEvent) → IsAllowed l e → Before l → Harked who l (happens_at_controller l e) (here_entries who l e)
 here_harked who l (Lose why) a b = grind arith

@@ -48,9 +48,8 @@ all_harked (e ∷ es) l a s =
 starts : (who : Side) (x : Bool) (l : Link) (rest : List Noted)
     → harks who x (Tick ∷ (aged_entries Controller l.to_controller ++ (aged_entries Host l.to_host ++ rest))) ≡ harks who x rest
 starts who x l rest =
-    let ps : List Noted = aged_entries Controller l.to_controller in
     let bs : List Noted = aged_entries Host l.to_host in
-    then_harked who x x (harks who x rest) ps (bs ++ rest) (passes_aged who Controller l.to_controller x)
+    then_harked who x x (harks who x rest) (aged_entries Controller l.to_controller) (bs ++ rest) (passes_aged who Controller l.to_controller x)
     (then_harked who x x (harks who x rest) bs rest (passes_aged who Host l.to_host x) refl)
 
 -- ### Events
@@ -66,15 +65,13 @@ event_harked l (AtHost e) a g r s =
     let host : (happens_at_controller k e).host ≡ k.host = (step_here k e a b.tells b.host b.in_order (rests_of 0 0 (core_of k) b.safe) b.from).host in
     record { controller = h.there (waits l.controller) ∙ sym (ap waits host); host = h.here }
 event_harked l (Ticks c es h) a g r s =
-    let s0 = safe_aged (core_of l) (safe_reached (core_of l) r) in
     let old : Link = aged l in
-    let rests = rests_of 1 1 (core_of old) s0 in
+    let rests = rests_of 1 1 (core_of old) (safe_aged (core_of l) (safe_reached (core_of l) r)) in
     let near : Link = ticks_at_controller old c.turns c.ending in
-    let one = step_tick old c.turns c.ending a.0.0 a.0.1 g.controller rests in
     let stands = after_tick l c a.0 g r s in
     let all = all_step 1 near es a.1 stands.tells stands.safe in
     let m : Link = all_at_controller near es in
-    let host_is : m.host ≡ l.host = all.step.host ∙ one.host in
+    let host_is : m.host ≡ l.host = all.step.host ∙ (step_tick old c.turns c.ending a.0.0 a.0.1 g.controller rests).host in
     let k : Link = ticks_at_controller (exchanged m) h.turns h.ending in
     let cs : List Noted = tick_entries Controller old c in
     let ds : List Noted = entries_of_events Controller near es in
@@ -96,9 +93,8 @@ event_harked l (Ticks c es h) a g r s =
 event_harked l (TicksWithout es h) a g r s =
     let near : Link = aged l in
     let stands = without_tick l a.0 g r s in
-    let all = all_step 1 near es a.1 stands.tells stands.safe in
     let m : Link = all_at_controller near es in
-    let host_is : m.host ≡ l.host = all.step.host in
+    let host_is : m.host ≡ l.host = (all_step 1 near es a.1 stands.tells stands.safe).step.host in
     let k : Link = ticks_at_controller (exchanged m) h.turns h.ending in
     let ds : List Noted = entries_of_events Controller near es in
     let fs : List Noted = tick_entries Host (exchanged m) h in
@@ -126,8 +122,7 @@ event_harked l (Activate power c id h) a g r s =
     let there : Q near.host = subst Q (sym host) (a.1, a.3) in
     let can : CanStart near.host.side.role near.controller.side.role =
     can_start near.host.side.role near.controller.side.role there.0 (started_clf l power c.turns c.ending a.0) in
-    let H : NumberedEnd → Type 0 = λ z. Sound z.side in
-    let sounds : Sounds near = record { controller = sound_here l x (clf, a.2) s.controller; host = subst H (sym host) s.host } in
+    let sounds : Sounds near = record { controller = sound_here l x (clf, a.2) s.controller; host = subst (λ z. Sound z.side) (sym host) s.host } in
     let u : List Noted = here_entries Controller l x in
     let v : List Noted = here_entries Host k y in
     let b = before_there near one.good next sounds in
@@ -271,7 +266,5 @@ pub waits_read : (header : Header) (lines : List Line) (t : History) → AllByRe
 waits_read header lines t valid is follows front back q e at =
     let h : ℕ = host_of header in
     let run : IsRun h t = is_run header lines t valid follows in
-    let A : List Event → Type 0 = λ z. AreOf h bare_link z in
-    let a = of_front h bare_link front back (subst A q run.events) in
-    let opened : t.opening ++ entries_of front ≡ entries_for h (notes_of front) = run_entries h t.opening front run.opening a in
-    ap (λ y. waits_in y e) opened ∙ waits_as_read h front e a (sym at)
+    let a = of_front h bare_link front back (subst (λ z. AreOf h bare_link z) q run.events) in
+    ap (λ y. waits_in y e) (run_entries h t.opening front run.opening a) ∙ waits_as_read h front e a (sym at)

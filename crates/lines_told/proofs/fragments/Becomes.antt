@@ -6,7 +6,7 @@ use Rattle.lines_told.proofs.Words.{control_due, counts_first, data_due, drop, e
 use Rattle.lines_told.proofs.Words.{fragment_due, frame_due, frames_of, inl, inr, is_act, is_rnr, is_rset, length, length-append, loses_aged, nat_lt, not_rset}
 use Rattle.lines_told.proofs.Words.{noted_all, noted_loss, noted_out, or_parts, overflows, refl, sans, sends_keeps, sends_noted, shdlc_becomes, shdlc_exchanged}
 use Rattle.lines_told.proofs.Words.{shdlc_put, shdlc_put_all, shdlc_turned, slice_get, slice_get-append, suc, sym, true, with_frame, zero, ℕ, ◌%◌, ◌&&◌, ◌++◌}
-use Rattle.lines_told.proofs.Words.{◌+◌, ◌<◌, ◌||◌, ◌∙◌, ◌∷◌, ◌≡◌, ◌≤◌, ◌⊎◌}
+use Rattle.lines_told.proofs.Words.{◌+◌, ◌<◌, ◌∙◌, ◌∷◌, ◌≡◌, ◌≤◌, ◌⊎◌}
 use Rattle.link_laws.proofs.places.Joined.{idle_after, left}
 use Rattle.link_laws.proofs.sessions.Quiet.{few_room}
 use Rattle.lines_told.proofs.fragments.Turns.{Answers, Brings, Differs, Turned, answers_no_act, brings_no_act, turned_up}
@@ -173,10 +173,7 @@ prefix_within {X} (x ∷ xs) (y ∷ ys) zs p q i = go zs p q (λ us a b. prefix_
         → IsPrefix (x ∷ xs) (y ∷ ys)
     go [] a b later = absurd (let z = a.1 in cc)
     go (u ∷ us) a b later =
-        let head : x ≡ y = (let e : x ∷ (xs ++ a.0) ≡ u ∷ us = a.1 in let f : y ∷ (ys ++ b.0) ≡ u ∷ us = b.1 in cc) in
-        let one : xs ++ a.0 ≡ us = (let e : x ∷ (xs ++ a.0) ≡ u ∷ us = a.1 in cc) in
-        let two : ys ++ b.0 ≡ us = (let f : y ∷ (ys ++ b.0) ≡ u ∷ us = b.1 in cc) in
-        let r = later us (a.0, one) (b.0, two) in
+        let r = later us (a.0, (let e : x ∷ (xs ++ a.0) ≡ u ∷ us = a.1 in cc)) (b.0, (let f : y ∷ (ys ++ b.0) ≡ u ∷ us = b.1 in cc)) in
         (r.0, let e = r.1 in cc)
 
 -- ### The place a
@@ -371,9 +368,6 @@ fragment_stands P no_act (d ∷ ds) (suc m) n e l info q i answers none is p =
 
 -- ### Where no RNR is due
 
-no_rnr_rest : (d : Due) (ds : List Due) → NoRnr (d ∷ ds) → NoRnr ds
-no_rnr_rest d ds h = grind arith
-
 sent_no_rnr : (k m : ℕ) (e : EndState) (l : ShdlcLink) → AnswersOnly e.due → NoRnr e.due → NoRnrBehind k l.to_host
     → NoRnrBehind k (shdlc_put_all l (frames_of m e)).to_host
 sent_no_rnr k m e l answers none h =
@@ -386,7 +380,7 @@ sent_no_rnr k m e l answers none h =
         let put : NoRnrBehind k (fits (with_frame l.to_host c)) =
         behind_fits k (with_frame l.to_host c)
         (behind_push k l.to_host (record { frame = c; age = 0; number = 0 }) (grind arith) g.2) in
-        (fetched_answers e g.0, fetch_cases (λ f o. NoRnr f.due) e (λ d ds p. no_rnr_rest d ds (rw p at g.1)) (λ p q. g.1) (λ info p q. g.1), rw plain put)
+        (fetched_answers e g.0, fetch_cases (λ f o. NoRnr f.due) e (λ d ds p. (grind arith)) (λ p q. g.1) (λ info p q. g.1), rw plain put)
 
 -- ## One end of a link has become e, has its turns and sends all that is due: how far this brings its own places, and those of the other end
 -- The controller's end is the near one.
@@ -485,14 +479,12 @@ module _ {a c t : ℕ} {m l : ShdlcLink} {e : EndState} (ts : List ShdlcTurn) (n
 
           sends : StartsAgain g.session → Sent a (shdlc_becomes l g)
           sends s =
-              let inside : g.session.next < length e.session.out = omega (arith, s.next, turned.acked, same, ap (length {A = Fragment}) h.out) in
-              let some = get_some e.session.out g.session.next inside in
+              let some = get_some e.session.out g.session.next (omega (arith, s.next, turned.acked, same, ap (length {A = Fragment}) h.out)) in
               let is : slice_get g.session.out g.session.next ≡ Some some.0 =
               rw turned.out (slice_get-append e.session.out turned.more g.session.next some.0 some.1) in
               let due : fragment_due g.session ≡ Some some.0 = grind arith in
               let few : length g.due < 12 = omega (arith, few_turns ts e h.up (few_room e h.few)) in
-              let place : g.session.next ≡ a = s.next ∙ (turned.acked ∙ same) in
-              inl (fragment_stands (Brings a) (brings_no_act a) g.due 12 n g l some.0 refl few answers none due (ap (λ (k : ℕ). k % 8) place))
+              inl (fragment_stands (Brings a) (brings_no_act a) g.due 12 n g l some.0 refl few answers none due (ap (λ (k : ℕ). k % 8) (grind arith)))
 
           go : CountedAt m.controller.side.timer t e ⊎ StartsAgain e.session
               → Counted m.controller.side.timer t (shdlc_becomes l g) ⊎ Sent a (shdlc_becomes l g)
@@ -557,9 +549,7 @@ module _ {a c : ℕ} {m l : ShdlcLink} {e : EndState} (ts : List ShdlcTurn) (n :
       replies : ((ds : List Due) × (e.due ≡ Rr_due ∷ ds)) → Differs (length e.session.acc) a → Stands (Answers a) to_host
       replies d other =
           let r = turned.first Rr_due d.0 d.1 in
-          let is : frame_due g ≡ Some (S Rr (expected g.session)) = rw r.1 refl in
-          let told : Answers a (S Rr (expected g.session)) = rw turned.acc other in
-          first_stands (Answers a) (answers_no_act a) 11 n g l (S Rr (expected g.session)) answers none is told
+          first_stands (Answers a) (answers_no_act a) 11 n g l (S Rr (expected g.session)) answers none (rw r.1 refl) (rw turned.acc other)
 
       sent : (k : ℕ) → StandsIn (Brings a) k l.to_controller
           ⊎ ((a < m.host.side.session.acked) ⊎ (((ds : List Due) × (e.due ≡ Rr_due ∷ ds)) × Differs (length e.session.acc) a))

@@ -101,8 +101,5 @@ then_time l a n b = (a, n, b)
 abbrev taken : ShdlcLink
 taken = shdlc_happens before (AtHost (Deliver []))
 
-eleventh_rest : AreUndisturbed taken time
-eleventh_rest = grind arith
-
 eleventh_undisturbed : AreUndisturbed before (AtHost (Deliver []) ∷ time)
-eleventh_undisturbed = (all_ready before refl refl refl refl, refl, eleventh_rest)
+eleventh_undisturbed = (all_ready before refl refl refl refl, refl, (grind arith))

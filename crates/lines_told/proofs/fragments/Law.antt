@@ -37,10 +37,6 @@ did_aged n m none =
       stands = λ P plain j k i s. in_aged P plain k w kept (in_more P j k w (omega arith) s);
     }
 
--- nothing happens
-did_nothing : (m : ShdlcLink) → Did 0 0 0 0 m m
-did_nothing m = did_wires 0 0 m m.to_controller m.to_host (leaves_same m.to_controller) (leaves_same m.to_host)
-
 -- ### At one end
 
 sound_from : {kn kf kn' kf' c d tn tf : ℕ} {m n : ShdlcLink} → Sound kn kf m → Did c d tn tf m n → SafeLink kn' kf' n → n.controller.side.phase ≡ Up
@@ -79,13 +75,9 @@ here_lost m (Acts acts ts) es n o none =
     (out_lost (frames_of 12 (shdlc_turned m.controller.side ts)) (noted_all n m (map act_frame acts)) (shdlc_put_all m (map act_frame acts)) none)
 here_lost m _ es n o none = absurd o
 
-rest_ordinary : (e : ShdlcEndEvent) (es : List ShdlcEndEvent) → AreOrdinaryTurns (e ∷ es) → AreOrdinaryTurns es
-rest_ordinary e es o = grind arith
-
 turns_lost : (es : List ShdlcEndEvent) (m : ShdlcLink) (n : Losses) → AreOrdinaryTurns es → (noted_turns n m es).lost ≡ false → n.lost ≡ false
 turns_lost [] m n o none = none
-turns_lost (e ∷ es) m n o none =
-    here_lost m e es n o (turns_lost es (shdlc_happens_at_controller m e) (noted_here n m e) (rest_ordinary e es o) none)
+turns_lost (e ∷ es) m n o none = here_lost m e es n o (turns_lost es (shdlc_happens_at_controller m e) (noted_here n m e) (grind arith) none)
 
 -- the link after one of them
 one_turned : {kf : ℕ} {m : ShdlcLink} (e : ShdlcEndEvent) (es : List ShdlcEndEvent) → AreOrdinaryTurns (e ∷ es) → Sound 0 kf m → (n : Losses)
@@ -109,9 +101,9 @@ one_turned _ es o h n none = absurd o
 
 all_turned : {kf : ℕ} (es : List ShdlcEndEvent) {m : ShdlcLink} → AreOrdinaryTurns es → Sound 0 kf m → (n : Losses) → (noted_turns n m es).lost ≡ false
     → Did 0 0 0 0 m (shdlc_all_at_controller m es) × Sound 0 kf (shdlc_all_at_controller m es)
-all_turned [] {m} o h n none = (did_nothing m, h)
+all_turned [] {m} o h n none = ((did_wires 0 0 m m.to_controller m.to_host (leaves_same m.to_controller) (leaves_same m.to_host)), h)
 all_turned (e ∷ es) {m} o h n none =
-    let later : AreOrdinaryTurns es = rest_ordinary e es o in
+    let later : AreOrdinaryTurns es = grind arith in
     let one = one_turned e es o h n (turns_lost es (shdlc_happens_at_controller m e) (noted_here n m e) later none) in
     let rest = all_turned es later one.1 (noted_here n m e) none in
     (did_then one.0 rest.0, rest.1)
@@ -146,8 +138,7 @@ did_tick {l} ts us es h o n none up far_up =
     let c : Losses = noted_turns b near es in
     let kept_c : c.lost ≡ false = tick_lost there us c none in
     let kept_b : b.lost ≡ false = turns_lost es near b o kept_c in
-    let kept_a : a.lost ≡ false = tick_lost m ts a kept_b in
-    let aged = did_aged n l kept_a in
+    let aged = did_aged n l (tick_lost m ts a kept_b) in
     let old : Sound 1 1 m = sound_from h aged (safe_aged l h.safe) h.near_up h.far_up in
     let then_up : then.controller.side.phase ≡ Up = sym (ap (λ (x : NumberedShdlc). x.side.phase) (tick_host there us)) ∙ up in
     let near_up : near.controller.side.phase ≡ Up = sym (turns_phase es near o) ∙ then_up in
@@ -155,8 +146,7 @@ did_tick {l} ts us es h o n none up far_up =
     let ticked : Sound 0 1 near =
     sound_from old one (tick_or_cut 1 (Some ts) m old.safe) near_up (ap (λ (x : NumberedShdlc). x.side.phase) (tick_host m ts) ∙ old.far_up) in
     let turned = all_turned es o ticked b kept_c in
-    let two : Did 0 0 1 0 there (shdlc_ticks_at_controller there us) = did_ticks (sound_exchanged turned.1) us c none far_up in
-    did_then aged (did_then one (did_then turned.0 (did_exchanged two)))
+    did_then aged (did_then one (did_then turned.0 (did_exchanged (did_ticks (sound_exchanged turned.1) us c none far_up))))
 
 -- ## A stretch of events, and a round: how far they bring the places of both ends
 
@@ -171,7 +161,7 @@ began (e ∷ es) u = u.0
 
 did_stretch : (es : List ShdlcLinkEvent) {l : ShdlcLink} → Sound 0 0 l → AreUndisturbed l es → AllOrdinary es
     → Did (taken_at_controller es) (taken_at_host es) (ticks_among es) (ticks_among es) l (shdlc_after l es) × Sound 0 0 (shdlc_after l es)
-did_stretch [] {l} h u o = (did_nothing l, h)
+did_stretch [] {l} h u o = ((did_wires 0 0 l l.to_controller l.to_host (leaves_same l.to_controller) (leaves_same l.to_host)), h)
 did_stretch (AtController e ∷ es) {l} h u o =
     let did = did_here h u.0.controller_ready e o.0 no_losses u.1 in
     let next = began es u.2 in
@@ -182,9 +172,7 @@ did_stretch (AtController e ∷ es) {l} h u o =
 did_stretch (AtHost e ∷ es) {l} h u o =
     let did = did_exchanged (did_here (sound_exchanged h) u.0.host_ready e o.0 no_losses u.1) in
     let next = began es u.2 in
-    let sound : Sound 0 0 (shdlc_happens l (AtHost e)) =
-    sound_from h did (safe_event l (AtHost e) [] (allowed e o.0, tt) h.safe).0 next.controller_up next.host_up in
-    let rest = did_stretch es sound u.2 o.1 in
+    let rest = did_stretch es (sound_from h did (safe_event l (AtHost e) [] (allowed e o.0, tt) h.safe).0 next.controller_up next.host_up) u.2 o.1 in
     (did_as (omega arith) refl (omega arith) (omega arith) (did_then did rest.0), rest.1)
 did_stretch (Tick (Some ts) turns (Some us) ∷ es) {l} h u o =
     let next = began es u.2 in
@@ -293,18 +281,14 @@ round_passes : {l : ShdlcLink} {events : List ShdlcLinkEvent} → Sound 0 0 l �
     × Sound 0 0 (shdlc_after l events)
 round_passes {l} {events} h u is =
     let m : ShdlcLink = shdlc_after l is.first in
-    let o : ShdlcLink = shdlc_after m is.second in
-    let all : AreUndisturbed l (is.first ++ (is.second ++ is.third)) = rw (← is.parts) u in
-    let one = undisturbed_parts is.first (is.second ++ is.third) l all in
+    let one = undisturbed_parts is.first (is.second ++ is.third) l (rw (← is.parts) u) in
     let two = undisturbed_parts is.second is.third m one.1 in
     let a = stretch_is h one.0 is.to_controller in
     let b = stretch_is a.1 two.0 is.to_host in
     let c = stretch_is b.1 two.1 is.ticks in
-    let end : shdlc_after l events ≡ shdlc_after o is.third =
-    ap (shdlc_after l) is.parts ∙ (after-append l is.first (is.second ++ is.third) ∙ after-append m is.second is.third) in
     let P : ShdlcLink → Type 0 =
     λ n. ((a : ℕ) → Passes a l n) × ((a : ℕ) → Passes a (shdlc_exchanged l) (shdlc_exchanged n)) × Sound 0 0 n in
-    subst P (sym end)
+    subst P (sym (ap (shdlc_after l) is.parts ∙ (after-append l is.first (is.second ++ is.third) ∙ after-append m is.second is.third)))
     ((λ k. passes_near (a.0.own k) (b.0.own k) (c.0.own k)), (λ k. passes_far (a.0.other k) (b.0.other k) (c.0.other k)), c.1)
 
 -- the last moment of undisturbed events
@@ -383,9 +367,8 @@ settles_calm (suc f) z k l n rnr idle i more fits e = go (cases_lt l.controller.
         let grown : Grown l.controller.side.session.acked m =
         waits_grows m l.controller.side.session.acked 12 l (omega arith) (omega arith) (omega arith) (omega (arith, more)) rnr idle cut.1 in
         let calm = calm_still m 12 l rnr idle cut.1 in
-        let front = out_still m 12 l cut.1 in
         later (k - 12) m n calm.0 calm.1 (omega (arith, grown, i)) (omega
-        (arith, more, prefix_length l.controller.side.session.out m.controller.side.session.out front)) (omega (arith, fits)) cut.2
+        (arith, more, prefix_length l.controller.side.session.out m.controller.side.session.out (out_still m 12 l cut.1))) (omega (arith, fits)) cut.2
 
 settles : (z k : ℕ) (l n : ShdlcLink) → z ≤ length l.controller.side.session.out → 12 * (z - l.controller.side.session.acked) + 1 ≤ k → Lead k l n
     → z ≤ n.controller.side.session.acked
@@ -399,14 +382,12 @@ rounds_lead : (k : ℕ) (events : List ShdlcLinkEvent) (l : ShdlcLink) → Sound
     → Lead k l (shdlc_after l events) × Lead k (shdlc_exchanged l) (shdlc_exchanged (shdlc_after l events)) × Sound 0 0 (shdlc_after l events)
 rounds_lead zero events l h u is = grind arith
 rounds_lead (suc k) events l h u (first, rest, parts, one, more) =
-    let all : AreUndisturbed l (first ++ rest) = rw (← parts) u in
-    let cut = undisturbed_parts first rest l all in
+    let cut = undisturbed_parts first rest l (rw (← parts) u) in
     let m : ShdlcLink = shdlc_after l first in
     let a = round_passes h cut.0 one in
     let b = rounds_lead k rest m a.2 cut.1 more in
-    let end : shdlc_after l events ≡ shdlc_after m rest = ap (shdlc_after l) parts ∙ after-append l first rest in
     let P : ShdlcLink → Type 0 = λ n. Lead (suc k) l n × Lead (suc k) (shdlc_exchanged l) (shdlc_exchanged n) × Sound 0 0 n in
-    subst P (sym end) ((m, a.0, b.0), (shdlc_exchanged m, a.1, b.1), b.2)
+    subst P (sym (ap (shdlc_after l) parts ∙ after-append l first rest)) ((m, a.0, b.0), (shdlc_exchanged m, a.1, b.1), b.2)
 
 -- ## The law, for links that came about in any way
 

@@ -1,5 +1,5 @@
 -- Each thing that the near end of a link does, where both ends are up in one session: how far it brings the places of both ends.
-use Rattle.std.specs.Prelude.{nat_lt, slice_get}
+use Rattle.std.specs.Prelude.{nat_lt}
 use Rattle.lines_told.proofs.Words.{Activation, Acts, Bool, Control, Deliver, Due, EndState, IsData, List, Lose, Losses, None, NumberedShdlc, OnWire, Pair}
 use Rattle.lines_told.proofs.Words.{Rr_due, SafeLink, Session, ShdlcLink, ShdlcTurn, Some, TakenUp, Turns, Ua, Up, [], act_frame, ap, arith, came_up, cases_lt}
 use Rattle.lines_told.proofs.Words.{counts_first, drop, false, fetch_cases, fragment_due, frame_cases, frame_due, frames_of, inl, inr, is_act, is_some, length}
@@ -103,10 +103,8 @@ runs_of_idle e wide from more idle = go (cases_lt s.acked s.next)
     by_busy : (b : Bool) → e.session.peer_busy ≡ b → e.session.next ≡ e.session.acked → runs_timer e.session ≡ true
     by_busy true q same = grind arith
     by_busy false q same =
-        let some = get_some e.session.out e.session.next (omega arith) in
         let inside : nat_lt e.session.next (e.session.acked + e.session.window) ≡ true = grind arith in
-        let past : slice_get e.session.out e.session.next ≡ None = rw (q, inside) at none in
-        absurd (let z = sym some.1 ∙ past in cc)
+        absurd (let z = sym (get_some e.session.out e.session.next (omega arith)).1 ∙ (rw (q, inside) at none) in cc)
 
     go : (e.session.acked < e.session.next) ⊎ (e.session.next ≤ e.session.acked) → runs_timer e.session ≡ true
     go (inl i) = rw (lt-ltb e.session.acked e.session.next i) refl
@@ -193,9 +191,8 @@ acts_no_rnr k (x ∷ acts) l r =
 pub did_acts : {kn kf : ℕ} {m : ShdlcLink} → Sound kn kf m → (acts : List Activation) (ts : List ShdlcTurn) (n : Losses)
     → (noted_here n m (Acts acts ts)).lost ≡ false → Did 0 0 0 0 m (shdlc_happens_at_controller m (Acts acts ts))
 did_acts {m = m} h acts ts n none =
-    let l : ShdlcLink = shdlc_put_all m (map act_frame acts) in
     let p : Losses = noted_all n m (map act_frame acts) in
-    let kept : p.lost ≡ false = out_lost (frames_of 12 (shdlc_turned m.controller.side ts)) p l none in
+    let kept : p.lost ≡ false = out_lost (frames_of 12 (shdlc_turned m.controller.side ts)) p (shdlc_put_all m (map act_frame acts)) none in
     let same = put_all_same (map act_frame acts) m in
     idle_becomes h
     (record {
@@ -235,10 +232,6 @@ gone l xs ended took =
     let m : ShdlcLink = with_shdlc_ended (record l { to_controller = xs }) ended in
     record m { controller = record m.controller { took = took } }
 
-gone_wires : (l : ShdlcLink) (xs : List OnWire) (b : Bool) (t : ℕ)
-    → ((gone l xs b t).to_controller ≡ xs) × ((gone l xs b t).to_host ≡ l.to_host) × ((gone l xs b t).host ≡ l.host)
-gone_wires l xs b t = grind arith
-
 -- the near end, which is ready, takes the first frame on its way to it
 pub did_delivers : {m : ShdlcLink} → Sound 0 0 m → m.controller.side.ready ≡ true → (ts : List ShdlcTurn) (n : Losses)
     → (noted_here n m (Deliver ts)).lost ≡ false → Did 1 0 0 0 m (shdlc_happens_at_controller m (Deliver ts))
@@ -261,7 +254,7 @@ did_delivers {m} h ready ts n none = go m.to_controller h none
         left = gone full xs (is_some (take_answer m.controller.side x.frame).ended) (took_with m.controller.took x)
 
         wires : (left.to_controller ≡ xs) × (left.to_host ≡ m.to_host) × (left.host ≡ m.host)
-        wires = gone_wires full xs (is_some (take_answer m.controller.side x.frame).ended) (took_with m.controller.took x)
+        wires = grind arith
 
         by_sides : ((a : ℕ) → Sends a 1 0 full left (taken m.controller.side x.frame)) → ((a : ℕ) → Receives a 1 full left (taken m.controller.side x.frame))
             → (taken m.controller.side x.frame).session.window ≡ m.controller.side.session.window

@@ -1,5 +1,5 @@
 -- What an end that is up has become when it took a frame, and what the turns of its node leave of it.
-use Rattle.lines_told.proofs.Words.{AnswersOnly, Bool, Control, Counts, Due, EndState, Fragment, I, IsData, Kind, List, NoRnr, Offer, OnWire, Option, Pair, Rej}
+use Rattle.lines_told.proofs.Words.{AnswersOnly, Bool, Control, Counts, Due, EndState, Fragment, I, IsData, List, NoRnr, Offer, OnWire, Option, Pair, Rej}
 use Rattle.lines_told.proofs.Words.{Rej_due, Rnr, Rnr_due, Rr, Rr_due, Rset, S, Session, SetReady, ShdlcTurn, ShowsAct, Some, Up, [], accepted, acknowledged}
 use Rattle.lines_told.proofs.Words.{ahead, answers_more, ap, append-nil, append_assoc, arith, counts_le, false, is_act, is_rnr, length, length-append, offer_up}
 use Rattle.lines_told.proofs.Words.{place_of, ready_cases, received, refl, repeated, shdlc_turn, shdlc_turned, subst, sym, taken, taken_I, true, turn-phase, ℕ}
@@ -87,10 +87,6 @@ module _ (e : EndState) (ready : e.ready ≡ true) (due : e.due ≡ []) (up : e.
           → Took e (record f { due = ds; session = record f.session { acc = acc; gap_open = gap } }) c
       from acc ds zs gap q answers few none placed = grind arith
 
-  -- a control frame
-  took_S : (k : Kind) (n : ℕ) → place_of s (n % 8) ≡ Some n → s.acked ≤ n → Took e (taken e (S k (n % 8))) (S k (n % 8))
-  took_S k n place low = grind arith
-
   -- a frame on its way to it
   pub took : {r : Session} {x : OnWire} {here : List OnWire} {there : Option (List OnWire)} → IsData x.frame → Pair e.session r (x ∷ here) there
       → Took e (taken e x.frame) x.frame
@@ -104,7 +100,7 @@ module _ (e : EndState) (ready : e.ready ≡ true) (due : e.due ≡ []) (up : e.
       go : (ms : List Control) → ShowsAct (x ∷ here) ms → Counts e.session.acked (length r.acc) ms → Took e (taken e x.frame) x.frame
       go [] shows counts = absurd (let k : IsData (Rset shows.0.0 shows.0.1) = rw shows.0.2 at d in k)
       go (I p n info ∷ ms) shows counts = rw shows.0 (took_I p n info (number n ms counts.1 counts.0) counts.0)
-      go (S k n ∷ ms) shows counts = rw shows.0 (took_S k n (number n ms counts.1 counts.0) counts.0)
+      go (S k n ∷ ms) shows counts = rw shows.0 (let h0 = number n ms counts.1 counts.0 in grind arith)
       go _ shows counts = absurd counts
 
 -- ## What the turns of its node leave of an end that is up
@@ -141,9 +137,6 @@ ready_so : (e : EndState) (ready noted : Bool) → Turned e (record e { ready = 
 ready_so e ready noted =
     turned_so e ready noted e.session.out [] e.due (sym (append-nil e.session.out)) (λ a. a) (λ a. a) (λ d ds q. (ds, q))
 
-unturned : (e : EndState) → Turned e e
-unturned e = ready_so e e.ready e.session.answered_rnr
-
 then_turned : {d e f : EndState} → Turned d e → Turned e f → Turned d f
 then_turned {d} a b =
     record {
@@ -167,10 +160,10 @@ one_turn e (Offer fragments) up =
     subst (Turned e) (sym (offer_up e fragments up))
     (turned_so e e.ready e.session.answered_rnr (e.session.out ++ fragments) fragments e.due refl (λ a. a) (λ a. a) (λ d ds q. (ds, q)))
 one_turn e (SetReady r) up =
-    ready_cases (Turned e) e r (unturned e) (ready_so e r false)
+    ready_cases (Turned e) e r (ready_so e e.ready e.session.answered_rnr) (ready_so e r false)
     (turned_so e r false e.session.out [] (e.due ++ Rr_due ∷ []) (sym (append-nil e.session.out)) (answers_more e.due) (no_rnr_more e.due)
     (λ d ds q. (ds ++ Rr_due ∷ [], ap (λ l. l ++ Rr_due ∷ []) q)))
 
 pub turned_up : (ts : List ShdlcTurn) (e : EndState) → e.phase ≡ Up → Turned e (shdlc_turned e ts)
-turned_up [] e up = unturned e
+turned_up [] e up = ready_so e e.ready e.session.answered_rnr
 turned_up (t ∷ ts) e up = then_turned (one_turn e t up) (turned_up ts (shdlc_turn e t) (turn-phase e t ∙ up))

@@ -28,8 +28,7 @@ turned-window (t ∷ ts) e = turned-window ts (shdlc_turn e t) ∙ (grind arith)
 wide_becomes : (l : ShdlcLink) (ts : List ShdlcTurn) (e : EndState) → IsWide e → IsWide (shdlc_becomes l (shdlc_turned e ts)).controller.side
 wide_becomes l ts e h up =
     let s = sent_same 12 (shdlc_turned e ts) in
-    let was : e.phase ≡ Up = sym (turned-phase ts e) ∙ (sym s.phase ∙ up) in
-    let w : 0 < e.session.window = h was in
+    let w : 0 < e.session.window = h (sym (turned-phase ts e) ∙ (sym s.phase ∙ up)) in
     omega (arith, s.window, turned-window ts e)
 
 not_up : (e : EndState) (p : LinkState) → e.phase ≡ p → (p ≡ Up → ⊥) → IsWide e
@@ -122,9 +121,6 @@ wide_tick_or_cut : (c : Option (List ShdlcTurn)) (l : ShdlcLink) → IsWide l.co
 wide_tick_or_cut (Some ts) l h = wide_tick l ts h
 wide_tick_or_cut None l h = wide_silent l _ refl
 
-wide_if_waiting : (l : ShdlcLink) → IsWide l.controller.side → WideHere l (ticks_if_waiting l)
-wide_if_waiting l h = let h0 = ticks_if_waiting l in let h1 = wide_tick l [] h in grind arith
-
 -- ## Events
 
 -- both ends after the far end's tick
@@ -132,8 +128,7 @@ wide_there : (l near : ShdlcLink) (es : List ShdlcEndEvent) (d : Option (List Sh
     → BothWide (shdlc_exchanged (ticks_or_cut d (shdlc_exchanged (shdlc_all_at_controller near es))))
 wide_there l near es d a h one =
     let all = then_wide one (wide_turns es near a one.wide) in
-    let far : IsWide (shdlc_all_at_controller near es).host.side = subst (λ (x : NumberedShdlc). IsWide x.side) (sym all.host) h.host in
-    let two = wide_tick_or_cut d (shdlc_exchanged (shdlc_all_at_controller near es)) far in
+    let two = wide_tick_or_cut d (shdlc_exchanged (shdlc_all_at_controller near es)) (grind arith) in
     record { controller = subst (λ (x : NumberedShdlc). IsWide x.side) (sym two.host) all.wide; host = two.wide }
 
 pub wide_event : (l : ShdlcLink) (e : ShdlcLinkEvent) (es : List ShdlcLinkEvent) → AllShdlcAllowed (e ∷ es) → SafeLink 0 0 l → BothWide l
@@ -149,7 +144,7 @@ wide_event l (Tick c turns d) es a s h =
     (wide_tick_or_cut c (shdlc_aged l) h.controller)
 wide_event l (TickWithout turns d) es a s h =
     wide_there (shdlc_aged l) (ticks_if_waiting (shdlc_aged l)) turns d a.0 (record { controller = h.controller; host = h.host })
-    (wide_if_waiting (shdlc_aged l) h.controller)
+    (let h0 = ticks_if_waiting (shdlc_aged l) in let h1 = wide_tick (shdlc_aged l) [] h.controller in grind arith)
 
 wide_after : (events : List ShdlcLinkEvent) (l : ShdlcLink) → AllShdlcAllowed events → SafeLink 0 0 l → BothWide l → BothWide (shdlc_after l events)
 wide_after [] l a s h = h

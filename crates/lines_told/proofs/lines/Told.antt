@@ -78,15 +78,13 @@ pub few_with_said : (plays : List Play) (line : Line) → AreFewPlays plays → 
 few_with_said plays line few room =
     let said = one_said plays line in
     let rounds = no_more_rounds plays line in
-    let most = few.rounds in
-    record { said = omega (arith, said, room); rounds = omega (arith, rounds, most) }
+    record { said = omega (arith, said, room); rounds = omega (arith, rounds, few.rounds) }
 
 pub few_with_round : (plays : List Play) → AreFewPlays plays → rounds_played plays < 400000000 → AreFewPlays (plays ++ Round ∷ [])
 few_with_round plays few room =
     let said = no_more_said plays in
     let rounds = one_round plays in
-    let most = few.said in
-    record { said = omega (arith, said, most); rounds = omega (arith, rounds, room) }
+    record { said = omega (arith, said, few.said); rounds = omega (arith, rounds, room) }
 
 -- ### Which they may be
 
@@ -128,25 +126,19 @@ module _ (header : Header) where
   lines_few [] before = omega arith
   lines_few (line ∷ lines) before =
       let more : List Play = plays_of_line header before line in
-      let rest = lines_few lines (before ++ more) in
-      let sum = said-append before more in
-      let one = line_few before line in
-      omega (arith, rest, sum, one)
+      omega (arith, (lines_few lines (before ++ more)), (said-append before more), (line_few before line))
 
   pub few_said : (lines : List Line) → lines_said (plays_of header lines) ≤ length lines
   few_said lines = let all = lines_few lines [] in omega (arith, all)
 
   -- ### A schedule in which no line lets the links settle
 
-  stays_said : (before : List Play) (line : Line) → is_settling line ≡ false → plays_of_line header before line ≡ Said line ∷ []
-  stays_said before line stays = grind arith
-
   lines_stay : (lines said : List Line) (before : List Play) → AllByRecursion (λ (line : Line). is_settling line ≡ false) lines
       → lines_played header before ≡ said
       → lines_played header (fold (λ (ps : List Play) (line : Line). ps ++ plays_of_line header ps line) before lines) ≡ said ++ lines
   lines_stay [] said before stays is = is ∙ sym (append-nil said)
   lines_stay (line ∷ lines) said before stays is =
-      let one : plays_of_line header before line ≡ Said line ∷ [] = stays_said before line stays.0 in
+      let one : plays_of_line header before line ≡ Said line ∷ [] = grind arith in
       let now : lines_played header (before ++ plays_of_line header before line) ≡ said ++ line ∷ [] =
       ap (λ (ps : List Play). lines_played header (before ++ ps)) one
       ∙ (played_more header before (Said line) ∙ ap (λ (ls : List Line). ls ++ line ∷ []) is) in
@@ -311,9 +303,8 @@ round_tells : (ends : List End) (w : NodeWorld) → told_in w (round_in w ends) 
 round_tells [] w = append-nil (entries_in (all_happen w (Ticks ∷ [])).1)
 round_tells (e ∷ ends) w =
     let v : NodeWorld = world_after w (taking_in w e) in
-    let u : NodeWorld = (end_takes_all w e).0 in
     let now : List Entry = entries_in (end_takes_all w e).1 in
-    let taken : NodeWorld × List Occurrence = ends_take_all u ends in
+    let taken : NodeWorld × List Occurrence = ends_take_all ((end_takes_all w e).0) ends in
     let last : List Entry = entries_in (all_happen taken.0 (Ticks ∷ [])).1 in
     told-append (taking_in w e) (round_in v ends) w
     ∙ (ap (λ (es : List Entry). es ++ told_in v (round_in v ends)) (takes_so w e).told
@@ -412,9 +403,6 @@ module _ (header : Header) where
   one_taken : (b : Bool) (e : End) → IsEndOf header e → AllByRecursion (IsRoundLine header) (if b then saying.Deliver e None ∷ [] else [])
   one_taken b e known = grind arith
 
-  none_or_taken : (b : Bool) (e : End) → IsEndOf header e → AllByRecursion (IsRoundLine header) (if b then [] else saying.Deliver e None ∷ [])
-  none_or_taken b e known = grind arith
-
   lines_in : (ends : List End) (w : NodeWorld) → AllByRecursion (IsEndOf header) ends → AllByRecursion (IsRoundLine header) (round_in w ends)
   lines_in [] w known = (tt, tt)
   lines_in (e ∷ ends) w known =
@@ -427,7 +415,7 @@ module _ (header : Header) where
   lines_on h (e ∷ ends) l known =
       let m : Link = link_after_lines h l (taking_on l e) in
       all-append (IsRoundLine header) (taking_on l e) (round_on h m ends)
-      (none_or_taken (is_clear (frames_to l e)) e known.0) (lines_on h ends m known.1)
+      (grind arith) (lines_on h ends m known.1)
 
 -- ### The ends of a world
 
@@ -551,11 +539,7 @@ module _ (header : Header) (plays : List Play) (n : ℕ) where
 
 module _ (header : Header) where
   line_rounds : (before : List Play) (line : Line) → MayFollow header line → rounds_played (plays_of_line header before line) ≤ 20000
-  line_rounds before (saying.Settle n) may =
-      let many = so_many_rounds (rounds_to_rest header before n) in
-      let most = at_most header before n in
-      let top = may.1 in
-      omega (arith, many, most, top)
+  line_rounds before (saying.Settle n) may = omega (arith, (so_many_rounds (rounds_to_rest header before n)), (at_most header before n), may.1)
   line_rounds before line may = omega arith
 
   lines_rounds : (lines : List Line) (before : List Play) → AllByRecursion (MayFollow header) lines
@@ -564,10 +548,7 @@ module _ (header : Header) where
   lines_rounds [] before may = omega arith
   lines_rounds (line ∷ lines) before may =
       let more : List Play = plays_of_line header before line in
-      let rest = lines_rounds lines (before ++ more) may.1 in
-      let sum = played-append before more in
-      let one = line_rounds before line may.0 in
-      omega (arith, rest, sum, one)
+      omega (arith, (lines_rounds lines (before ++ more) may.1), (played-append before more), (line_rounds before line may.0))
 
   pub few_rounds : (lines : List Line) → AllByRecursion (MayFollow header) lines → rounds_played (plays_of header lines) ≤ 20000 * length lines
   few_rounds lines may = let all = lines_rounds lines [] may in omega (arith, all)
@@ -595,11 +576,8 @@ module _ (header : Header) (nodes : header.hci ≡ true) where
   pub told_nodes : (lines before : List Line) → told_behind header before lines ≡ told_in (nodes_behind header before) lines
   told_nodes [] before = refl
   told_nodes (line ∷ lines) before =
-      let w : NodeWorld = nodes_behind header before in
-      let now : List Entry = entries_below (noted_below (line_step w line).1) in
-      let one : told_below header before line ≡ now = grind arith in
-      ap (λ (es : List Entry). es ++ told_behind header (before ++ line ∷ []) lines) one
-      ∙ ap (λ (es : List Entry). now ++ es)
+      ap (λ (es : List Entry). es ++ told_behind header (before ++ line ∷ []) lines) (grind arith)
+      ∙ ap (λ (es : List Entry). (entries_below (noted_below (line_step (nodes_behind header before) line).1)) ++ es)
       (told_nodes lines (before ++ line ∷ [])
       ∙ ap (λ (v : NodeWorld). told_in v lines) (after-append before (line ∷ []) (new_world header.hosts.items)))
 
@@ -614,12 +592,10 @@ module _ (header : Header) (nodes : header.hci ≡ true) where
   told_rounds zero plays = refl
   told_rounds (suc n) plays =
       let w : NodeWorld = nodes_behind header (lines_played header plays) in
-      let v : NodeWorld = (world_round w).0 in
-      let now : List Entry = entries_in (world_round w).1 in
       ap (λ (es : List Entry). es ++ told_of_rounds header (plays ++ Round ∷ []) n) (told_round (lines_played header plays))
-      ∙ (ap (λ (es : List Entry). now ++ es)
+      ∙ (ap (λ (es : List Entry). (entries_in (world_round w).1) ++ es)
       (told_rounds n (plays ++ Round ∷ []) ∙ ap (λ (u : NodeWorld). entries_in (rounds_of_world n u).1) (played_round header nodes plays))
-      ∙ sym (flat_map-append (λ (o : Occurrence). o.entries) (world_round w).1 (rounds_of_world n v).1))
+      ∙ sym (flat_map-append (λ (o : Occurrence). o.entries) (world_round w).1 (rounds_of_world n ((world_round w).0)).1))
 
   pub told_settling : (n : ℕ) (plays : List Play) → told_of_line header plays (saying.Settle n)
       ≡ entries_in (world_settling n (nodes_behind header (lines_played header plays))).1

@@ -8,11 +8,11 @@ use Rattle.lines_told.proofs.Words.{IsLinkStretch, IsLinkUndisturbed, IsOrdinary
 use Rattle.lines_told.proofs.Words.{LinkEvent, List, Message, NumberedEnd, Option, Reached, Some, Talk, Turn, Up, [], after_input, after_link_events, aged, ap}
 use Rattle.lines_told.proofs.Words.{append_assoc, arith, come_to_controller, come_to_host, core_after, core_all, core_event, core_events, core_of, core_tick}
 use Rattle.lines_told.proofs.Words.{core_tick_rest, core_turns, eqb-true, event_step, false, fragments_left, happens, happens_at_controller, is_open}
-use Rattle.lines_told.proofs.Words.{length, length-append, length-map, link_rests, map, messages_got, nat_le, reached_more, refl, run, steps_to_rest, subst}
+use Rattle.lines_told.proofs.Words.{length, length-append, length-map, link_rests, map, nat_le, reached_more, refl, run, steps_to_rest, subst}
 use Rattle.lines_told.proofs.Words.{suc, sym, take, take_all, taken_at_controller, taken_at_host, taken_here, talk_now, ticks_among, ticks_at_controller}
 use Rattle.lines_told.proofs.Words.{times_among, to_deliver, true, whole_acked, whole_among, zero, ℕ, ◌*◌, ◌++◌, ◌+◌, ◌-◌, ◌∙◌, ◌∷◌, ◌≡◌, ◌≤◌}
 use Rattle.hcp_packet.proofs.Joining.{joined_again, packets_are_counted, whole_messages_have_come}
-use Rattle.hcp_packet.specs.Packets.{IsFrontOf, fragments_of, good_messages_of, good_of, messages_after, messages_of, packet_bytes}
+use Rattle.hcp_packet.specs.Packets.{IsFrontOf, fragments_of, good_of, messages_after, messages_of, packet_bytes}
 use Rattle.hcp_packet.specs.Packets.{packet_count, packet_of, packets_in, packets_of}
 use Rattle.hcp_packet.specs.declared.Packet.{Packet}
 use Rattle.link_laws.proofs.machine.Sound.{whole_acked_before}
@@ -163,8 +163,7 @@ all_does (e ∷ es) l a k u o =
     let next = known_next l e a.0 k in
     let first =
     event_does l e o.0 (open_up l.controller k.good.controller.now.closed now.controller_up) (open_up l.host k.good.host.now.closed now.host_up) in
-    let P : CoreLink → Type 0 = λ c. AreUndisturbed c (core_events (happens l e) es) in
-    let rest = all_does es (happens l e) a.1 next.0 (subst P (sym next.1) parts.1) o.1 in
+    let rest = all_does es (happens l e) a.1 next.0 (subst (λ c. AreUndisturbed c (core_events (happens l e) es)) (sym next.1) parts.1) o.1 in
     does_as (sym (grind arith)) (sym (grind arith)) (sym (grind arith))
     (does_then (core_event l e) (core_events (happens l e) es) first rest)
 
@@ -201,12 +200,10 @@ pub record Parts (es fs : List LinkEvent) (l : Link) : Type 0 where
 
 pub in_parts : (es fs : List LinkEvent) (l : Link) → AllAllowed l (es ++ fs) → Known l → IsLinkUndisturbed l (es ++ fs) → Parts es fs l
 in_parts es fs l a k u =
-    let allowed = allowed_parts es fs l a in
-    let after = known_after es l allowed.0 k in
+    let after = known_after es l (allowed_parts es fs l a).0 k in
     let all : AreUndisturbed (core_of l) (core_events l es ++ core_events (after_link_events l es) fs) =
     subst (AreUndisturbed (core_of l)) (events-append es fs l) u in
     let calm = undisturbed_parts (core_events l es) (core_events (after_link_events l es) fs) (core_of l) all in
-    let P : CoreLink → Type 0 = λ c. AreUndisturbed c (core_events (after_link_events l es) fs) in
     grind arith
 
 stretch_core : (es : List LinkEvent) (l : Link) {c h t : ℕ} → AllAllowed l es → Known l → IsLinkUndisturbed l es → IsLinkStretch l es c h t
@@ -225,7 +222,6 @@ round_core l events a k u is =
     let o : Link = after_link_events m is.second in
     let one = in_parts is.first rest l all.0 k all.1 in
     let two = in_parts is.second is.third m one.second one.known one.calm_second in
-    let length_there : length m.to_host ≡ length (core_after (core_of l) (core_events l is.first)).to_host = grind arith in
     let Q : ℕ → Type 0 = λ n. IsStretch (core_events m is.second) 0 n 0 in
     record {
       first = core_events l is.first;
@@ -234,7 +230,7 @@ round_core l events a k u is =
       parts = ap (core_events l) is.parts
           ∙ (events-append is.first rest l ∙ ap (λ cs. core_events l is.first ++ cs) (events-append is.second is.third m));
       to_controller = stretch_core is.first l one.first k one.calm_first is.to_controller;
-      to_host = subst Q length_there (stretch_core is.second m two.first one.known two.calm_first is.to_host);
+      to_host = subst Q (grind arith) (stretch_core is.second m two.first one.known two.calm_first is.to_host);
       ticks = stretch_core is.third o two.second two.known two.calm_second is.time;
     }
 
@@ -277,9 +273,8 @@ sent_front early late a b front =
 -- how many fragments messages have
 pub fragments_counted : (m : Message) (ms : List Message) → length (fragments_of (m ∷ ms)) ≡ packet_count (length m.1) + length (fragments_of ms)
 fragments_counted m ms =
-    let a = length-append (map packet_bytes (packets_of m.0 m.1)) (fragments_of ms) in
     let b = length-map (packets_of m.0 m.1) packet_bytes ∙ packets_are_counted m.0 m.1 in
-    omega (arith, a, b)
+    omega (arith, (length-append (map packet_bytes (packets_of m.0 m.1)) (fragments_of ms)), b)
 
 -- messages of which all fragments are among so many are whole
 whole_front : (early later : List Message) (n : ℕ) → length (fragments_of early) ≤ n → length early ≤ whole_among (early ++ later) n
@@ -292,17 +287,12 @@ whole_front (m ∷ ms) later n i =
 in_messages : (before now other : Talk) → Says before → Says now → CoreInOrder now.session other.session
     → CoreEarlierDelivered before.session now.session other.session → EarlierGot before now other
 in_messages before now other was says order d =
-    let front = d.given in
     let accepted = order.front in
-    let of_late : IsFrontOf (fragments_of before.sent) (fragments_of now.sent) = grind arith in
-    let of_acc : IsFrontOf (fragments_of before.sent) other.session.acc = grind arith in
-    let within : IsFrontOf other.session.acc (fragments_of now.sent) = (accepted.0, accepted.1 ∙ says.out) in
-    let given : messages_got other.session ≡ good_messages_of other.session.acc = ap good_of (all_given now.sent other.session.acc says.short within) in
-    let got = whole_messages_have_come before.sent other.session.acc (sendable before.sent was.short) of_acc in
-    let sent = sent_front before.sent now.sent was.short says.short of_late in
+    let got = whole_messages_have_come before.sent other.session.acc (sendable before.sent was.short) (grind arith) in
+    let sent = sent_front before.sent now.sent was.short says.short (grind arith) in
     let few : length (fragments_of before.sent) ≤ now.session.acked = grind arith in
     record {
-      got = (got.0, got.1 ∙ sym given);
+      got = (got.0, got.1 ∙ sym (ap good_of (all_given now.sent other.session.acc says.short (accepted.0, accepted.1 ∙ says.out))));
       acked = let w = whole_front before.sent sent.0 now.session.acked few in subst (λ ms. length before.sent ≤ whole_among ms now.session.acked) sent.1 w;
     }
 
@@ -395,13 +385,10 @@ module _ (l : Link) (s : IsStart l) (before : List LinkEvent) (a : AllAllowed l 
   -- behind many rounds
   pub got_by_host : 24 * (fragments_left m + 1) ≤ k → EarlierGot (talk_now m.controller.side) (talk_now n.controller.side) (talk_now n.host.side)
   got_by_host i =
-      let P : CoreLink → Type 0 = λ c. length m.controller.side.shdlc.session.out ≤ c.controller.side.session.acked in
-      got_there (subst P (sym now.1) (done.enough_there i))
+      got_there (subst (λ c. length m.controller.side.shdlc.session.out ≤ c.controller.side.session.acked) (sym now.1) (done.enough_there i))
 
   pub got_by_controller : 24 * (fragments_left m + 1) ≤ k → EarlierGot (talk_now m.host.side) (talk_now n.host.side) (talk_now n.controller.side)
-  got_by_controller i =
-      let P : CoreLink → Type 0 = λ c. length m.host.side.shdlc.session.out ≤ c.host.side.session.acked in
-      got_here (subst P (sym now.1) (done.enough_here i))
+  got_by_controller i = got_here (subst (λ c. length m.host.side.shdlc.session.out ≤ c.host.side.session.acked) (sym now.1) (done.enough_here i))
 
   -- behind rounds that leave the link at rest
   ends : BothTakeFragments (core_of n)
@@ -409,14 +396,12 @@ module _ (l : Link) (s : IsStart l) (before : List LinkEvent) (a : AllAllowed l 
 
   pub rest_at_host : link_rests n ≡ true → EarlierGot (talk_now m.controller.side) (talk_now n.controller.side) (talk_now n.host.side)
   rest_at_host q =
-      let all = all_acked n.controller.side now.0.good.controller.now.says ends.controller_up (rests_parts n q).0 in
       let P : CoreLink → Type 0 = λ c. IsPrefix m.controller.side.shdlc.session.out c.controller.side.session.out in
       let given = prefix_length m.controller.side.shdlc.session.out n.controller.side.shdlc.session.out (subst P (sym now.1) done.given_there) in
-      got_there (omega (arith, all, given))
+      got_there (omega (arith, (all_acked n.controller.side now.0.good.controller.now.says ends.controller_up (rests_parts n q).0), given))
 
   pub rest_at_controller : link_rests n ≡ true → EarlierGot (talk_now m.host.side) (talk_now n.host.side) (talk_now n.controller.side)
   rest_at_controller q =
-      let all = all_acked n.host.side now.0.good.host.now.says ends.host_up (rests_parts n q).1 in
       let P : CoreLink → Type 0 = λ c. IsPrefix m.host.side.shdlc.session.out c.host.side.session.out in
       let given = prefix_length m.host.side.shdlc.session.out n.host.side.shdlc.session.out (subst P (sym now.1) done.given_here) in
-      got_here (omega (arith, all, given))
+      got_here (omega (arith, (all_acked n.host.side now.0.good.host.now.says ends.host_up (rests_parts n q).1), given))

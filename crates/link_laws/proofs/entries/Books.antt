@@ -267,20 +267,17 @@ told_input t who h k ended began r i d b n = go i.becomes.shift
 
     go : Shift h.side.shdlc k.side.shdlc ended began → read result who n ≡ book_of (talk_of k n)
     go (Stays p q g) =
-        let same : j ≡ number_of h = i.same g.was p in
         let sent = sent_false p in
         let low : whole_acked h.side ≤ whole_acked k.side =
         let z = whole_more h.side.sent h.side.shdlc.session.acked k.side.shdlc.session.acked g.low in
-        let w : whole_acked k.side ≡ whole_among h.side.sent k.side.shdlc.session.acked = ap (λ ms. whole_among ms k.side.shdlc.session.acked) sent in
-        omega (arith, z, w) in
+        omega (arith, z, (ap (λ ms. whole_among ms k.side.shdlc.session.acked) sent)) in
         let now : plus (book_of (talk_now h.side)) (told_book r (whole_acked k.side)) ≡ book_of (talk_now k.side) =
         book_is (append-nil h.side.sent ∙ sym sent) (ap (λ ms. messages_got h.side.shdlc.session ++ ms) (i.becomes.got)
         ∙ got_more h.side.shdlc.session k.side.shdlc g.more g.acc)
         (ap (λ x. max (whole_acked h.side) (cond (nat_lt 0 x) (whole_acked k.side) 0)) i.acked ∙ grows (whole_acked h.side) (whole_acked k.side) low) in
-        let old : read t who n ≡ book_of (cond (n == j) (talk_now h.side) (ended_talk h.past n)) = grind arith in
         let new : talk_of k n ≡ cond (n == j) (talk_now k.side) (ended_talk h.past n) = grind arith in
         noted t who j r (whole_acked k.side) n
-        ∙ (ap (λ z. plus z (pick (j == n) (told_book r (whole_acked k.side)))) old ∙ (by (n == j) refl now ∙ ap book_of (sym new)))
+        ∙ (ap (λ z. plus z (pick (j == n) (told_book r (whole_acked k.side)))) (grind arith) ∙ (by (n == j) refl now ∙ ap book_of (sym new)))
       where
         by : (x : Bool) → (n == j) ≡ x → plus (book_of (talk_now h.side)) (told_book r (whole_acked k.side)) ≡ book_of (talk_now k.side)
             → plus (book_of (cond (n == j) (talk_now h.side) (ended_talk h.past n))) (pick (j == n) (told_book r (whole_acked k.side)))
@@ -338,9 +335,8 @@ told_given t who h m s up d b n =
 
     whole : whole_among (h.side.sent ++ m ∷ []) h.side.shdlc.session.acked ≡ whole_acked h.side
     whole =
-        let len = ap (λ (xs : List (List ℕ)). length xs) d.out in
         let i = d.acked in let r = d.reached in
-        whole_given h.side.sent m h.side.shdlc.session.acked count (omega (arith, len, i, r))
+        whole_given h.side.sent m h.side.shdlc.session.acked count (omega (arith, (ap (λ (xs : List (List ℕ)). length xs) d.out), i, r))
 
     now : plus (book_of (talk_now h.side)) (record { sent = m ∷ []; got = []; acked = 0 }) ≡ book_of (talk_now (given h.side m))
     now = rw (append-nil (messages_got h.side.shdlc.session), max_zero (whole_acked h.side), whole) refl
@@ -382,6 +378,5 @@ turn_far t who k e (Give m) h b = go (give_refusal e m)
     go : (o : Option Refused) → Told (t ++ sent_unless o who k m) (far who) h
     go (Some why) = told_nothing t (far who) h b
     go None = λ n.
-        let w = same_far who in
-        let none : read (Sent who k m ∷ []) (far who) n ≡ blank = rw w refl in
+        let none : read (Sent who k m ∷ []) (far who) n ≡ blank = rw (same_far who) refl in
         read-append t (Sent who k m ∷ []) (far who) n ∙ (ap (plus (read t (far who) n)) none ∙ (plus-blank (read t (far who) n) ∙ b n))

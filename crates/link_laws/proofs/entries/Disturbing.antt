@@ -3,23 +3,21 @@ use Rattle.std.specs.Prelude.{◌+◌, ◌||◌}
 use Rattle.link_laws.proofs.Words.{Acked, Act, ActEvent, ActTake, Activate, Activation, Active, AllAllowed, AreOwn, AreSendableTurns, Asked, AsksReset}
 use Rattle.link_laws.proofs.Words.{AtController, AtHost, Bool, ByAct, Cause, Chain, Clt, Comes, Control, Controller, CoreActs, CoreDeliver, CoreLink, CoreLose}
 use Rattle.link_laws.proofs.Words.{CoreReset, CoreTurn, CutOff, Down as IsDown, Emit, End, EndEvent, EndState, Ending, Entry, GaveUp, GoesOut, Got, HasTick}
-use Rattle.link_laws.proofs.Words.{Host, Ignore as CoreIgnore, IsEvent, IsOwn, IsStart, Link, LinkEnd, LinkEvent, LinkInput, List, Lose, Loss, Losses, Message}
-use Rattle.link_laws.proofs.Words.{NextFrame, NoInput, Node, None, NumberedEnd, OnWire, Option, Report, Reset, Role, Some, Start, Starts, Step, Stop, Stops}
-use Rattle.link_laws.proofs.Words.{Take, Ticks, TicksWithout, TooMany, Turn, Turns as CoreTurns, [], act_answer, activated, after_input, aged, aged_entries}
-use Rattle.link_laws.proofs.Words.{all_at_controller, and_parts, ap, arith, began_by, came_up, cond, core_event, core_happens_here, core_of, core_take}
-use Rattle.link_laws.proofs.Words.{core_turned, core_turns, core_with_ended, counts_first, disturbs, drop, ended_by, ending_entries, entries, entries_of_events}
-use Rattle.link_laws.proofs.Words.{event_entries, exchanged, false, far, first_entries, first_lost, frames_of, frames_out, happens, happens_at_controller}
-use Rattle.link_laws.proofs.Words.{here_entries, if_so, if_up, inl, inr, is_act, is_open, is_rnr, is_rset, is_some, is_up, left_after, length, length-append}
+use Rattle.link_laws.proofs.Words.{Host, Ignore as CoreIgnore, IsEvent, IsOwn, IsStart, Link, LinkEnd, LinkEvent, LinkInput, List, Lose, Losses, Message}
+use Rattle.link_laws.proofs.Words.{NextFrame, NoInput, Node, None, NumberedEnd, OnWire, Option, Report, Reset, Some, Start, Starts, Step, Stop, Stops}
+use Rattle.link_laws.proofs.Words.{Take, Ticks, TicksWithout, Turn, Turns as CoreTurns, [], act_answer, activated, after_input, aged, aged_entries}
+use Rattle.link_laws.proofs.Words.{all_at_controller, ap, arith, began_by, came_up, cond, core_event, core_happens_here, core_of, core_take}
+use Rattle.link_laws.proofs.Words.{core_turned, core_turns, core_with_ended, disturbs, drop, ended_by, ending_entries, entries, entries_of_events}
+use Rattle.link_laws.proofs.Words.{event_entries, exchanged, false, far, first_entries, frames_of, frames_out, happens, happens_at_controller}
+use Rattle.link_laws.proofs.Words.{here_entries, if_so, if_up, inl, inr, is_act, is_open, is_rnr, is_rset, is_some, left_after, length, length-append}
 use Rattle.link_laws.proofs.Words.{list_any, ltb-true, map, nat_lt, noted_all, noted_here, noted_loss, noted_out, noted_turns, number_of, option_to_list}
 use Rattle.link_laws.proofs.Words.{overflows, pushed_out, put, put_entries, puts_entries, refl, report, reset_by, reset_refusal, reset_with, rest_entries}
-use Rattle.link_laws.proofs.Words.{role_after, shdlc_put as core_put, shdlc_put_all as core_put_all, silent, step_entries, steps_at_controller, subst, sym}
+use Rattle.link_laws.proofs.Words.{shdlc_put as core_put, shdlc_put_all as core_put_all, silent, step_entries, steps_at_controller, subst, sym}
 use Rattle.link_laws.proofs.Words.{take_answer, taken, taken_entries, tick_entries, ticks_at_controller, told, told_of, took, took_with, trace, true}
 use Rattle.link_laws.proofs.Words.{true≢false, turn, turn_entries, turn_entry, turned, whole_acked, wire_with, with_ended, ℕ, ◌&&◌, ◌++◌, ◌∙◌, ◌∷◌, ◌≡◌, ◌⊎◌}
 use Rattle.link_laws.specs.entries.Entries.Entry.{Down, Up}
 use Rattle.link_laws.specs.entries.Order.{is_noted_chain_fault}
 use Rattle.link_laws.proofs.Cases.{by_list, by_phase, by_test}
-use Rattle.link_laws.proofs.machine.Reports.{shdlc_is as shdlc_moved}
-use Rattle.link_laws.proofs.messages.Finishing.{reset_tells}
 use Rattle.link_laws.proofs.messages.Project.{Now, Tells, among_now, due_now, frames_now, put-core, turns_mid}
 use Rattle.link_laws.proofs.messages.Runs.{Good, Reached, event_step, from_controller, from_host, not_chain, reached_more, start_good, start_reached}
 use Rattle.link_laws.proofs.messages.Steps.{ComesFirst, FromHost, Heard, act_mid, core_first, counted_is, heard_end, heard_is, is_shdlc, mid_counted}
@@ -40,14 +38,8 @@ more (e ∷ t) u a b = (a.0, more t u a.1 b)
 abbrev IsOther : Option Cause → Type 0
 IsOther o = o ≡ Some Chain → ⊥
 
-chain_ended : (who : End) (o : Option Cause) → IsOther o → NoChain (map (Down who) (option_to_list o))
-chain_ended who o n = grind arith
-
 chain_so : (b : Bool) (e : Entry) → is_noted_chain_fault e ≡ false → NoChain (if_so b e)
 chain_so b e p = grind arith
-
-chain_option : {A : Type 0} (f : A → Entry) (o : Option A) → ((x : A) → is_noted_chain_fault (f x) ≡ false) → NoChain (map f (option_to_list o))
-chain_option f o p = grind arith
 
 chain_got : (who : End) (k : ℕ) (ms : List Message) → NoChain (map (Got who k) ms)
 chain_got who k [] = tt
@@ -58,43 +50,30 @@ chain_told who k r acked n =
     let e : List Entry = if_so (nat_lt 0 r.acked) (Acked who k acked) ++ map (Got who k) r.got in
     let d : List Entry = map (GaveUp who) (option_to_list r.gave_up) ++ e in
     let c : List Entry = if_so r.became_active (Active who) ++ d in
-    more (map (Down who) (option_to_list r.ended)) (if_so r.began (Up who k) ++ c) (chain_ended who r.ended n)
+    more (map (Down who) (option_to_list r.ended)) (if_so r.began (Up who k) ++ c) (grind arith)
     (more (if_so r.began (Up who k)) c (chain_so r.began (Up who k) refl)
     (more (if_so r.became_active (Active who)) d (chain_so r.became_active (Active who) refl)
-    (more (map (GaveUp who) (option_to_list r.gave_up)) e (chain_option (GaveUp who) r.gave_up (λ x. refl))
+    (more (map (GaveUp who) (option_to_list r.gave_up)) e (grind arith)
     (more (if_so (nat_lt 0 r.acked) (Acked who k acked)) (map (Got who k) r.got) (chain_so (nat_lt 0 r.acked) (Acked who k acked) refl)
     (chain_got who k r.got)))))
 
-chain_turn : (who : End) (k : ℕ) (e : LinkEnd) (t : Turn) → NoChain (turn_entry who k e t)
-chain_turn who k e t = grind arith
-
 chain_turns : (who : End) (k : ℕ) (e : LinkEnd) (ts : List Turn) → NoChain (turn_entries who k e ts)
 chain_turns who k e [] = tt
-chain_turns who k e (t ∷ ts) = more (turn_entry who k e t) (turn_entries who k (turn e t) ts) (chain_turn who k e t) (chain_turns who k (turn e t) ts)
-
-chain_lost : (who : End) (why : Loss) (w : List OnWire) → NoChain (first_lost who why w)
-chain_lost who why w = grind arith
-
-chain_pushed : (who : End) (w : List OnWire) → NoChain (pushed_out who w)
-chain_pushed who w = by_test (nat_lt 64 (length w)) (λ q. rw q (chain_lost who TooMany w)) (λ q. rw q tt)
+chain_turns who k e (t ∷ ts) = more (turn_entry who k e t) (turn_entries who k (turn e t) ts) (grind arith) (chain_turns who k (turn e t) ts)
 
 chain_puts : (cs : List Control) (who : End) (l : Link) → NoChain (puts_entries who l cs)
 chain_puts [] who l = tt
-chain_puts (c ∷ cs) who l =
-    more (put_entries who l c) (puts_entries who (put l c) cs) (refl, chain_pushed (far who) (wire_with l c)) (chain_puts cs who (put l c))
+chain_puts (c ∷ cs) who l = more (put_entries who l c) (puts_entries who (put l c) cs) (refl, (grind arith)) (chain_puts cs who (put l c))
 
 chain_ending : (who : End) (l : Link) (e : LinkEnd) (ending : Ending) → NoChain (ending_entries who l e ending)
 chain_ending who l e GoesOut = chain_puts (frames_out e) who l
 chain_ending who l e CutOff = (refl, tt)
 
-chain_rest : (who : End) (l : Link) (e : LinkEnd) (ts : List Turn) (ending : Ending) → NoChain (rest_entries who l e ts ending)
-chain_rest who l e ts ending = grind (arith, more, number_of, turned, chain_turns, chain_ending)
-
 chain_input : (who : End) (k : Link) (h : NumberedEnd) (i : LinkInput) (e : LinkEnd) (ts : List Turn) (ending : Ending) → IsOther (ended_by h.side i)
     → NoChain (told_of who h i ++ rest_entries who k e ts ending)
 chain_input who k h i e ts ending n =
     more (told_of who h i) (rest_entries who k e ts ending) (chain_told who (number_of h) (report h.side i) (whole_acked (after_input h.side i)) n)
-    (chain_rest who k e ts ending)
+    (grind (arith, more, number_of, turned, chain_turns, chain_ending))
 
 -- ### Causes
 
@@ -144,7 +123,7 @@ chain_step who l Stops ts ending j = (
   chain_input who (silent l (after_input l.controller.side Stop)) l.controller Stop (after_input l.controller.side Stop) ts ending
       (if_up_other l.controller.side.shdlc ByAct (λ z. cc)),
 )
-chain_step who l NoInput ts ending j = chain_rest who l l.controller.side ts ending
+chain_step who l NoInput ts ending j = grind (arith, more, number_of, turned, chain_turns, chain_ending)
 
 chain_here : (who : End) (l : Link) (e : EndEvent) → Joins l → NoChain (here_entries who l e)
 chain_here who l (Step NextFrame ts ending) j = chain_step who l NextFrame ts ending j
@@ -152,7 +131,7 @@ chain_here who l (Step (AsksReset window) ts ending) j = chain_step who l (AsksR
 chain_here who l (Step (Starts v) ts ending) j = chain_step who l (Starts v) ts ending tt
 chain_here who l (Step Stops ts ending) j = chain_step who l Stops ts ending tt
 chain_here who l (Step NoInput ts ending) j = chain_step who l NoInput ts ending tt
-chain_here who l (Lose why) j = chain_lost who why l.to_controller
+chain_here who l (Lose why) j = grind arith
 
 chain_own : (who : End) (l : Link) (e : EndEvent) → IsOwn e → NoChain (here_entries who l e)
 chain_own who l (Step NextFrame ts ending) o = absurd o
@@ -225,9 +204,6 @@ chain_events (e ∷ es) l a g r =
     let next : Reached (core_of (happens l e)) = subst Reached (sym st.core) (reached_more (core_of l) (core_event l e) st.allowed r) in
     more (event_entries l e) (entries (happens l e) es) (chain_event l e a.0 g r) (chain_events es (happens l e) a.1 st.good next)
 
-first_chain : (r : Role) → NoChain (first_entries r)
-first_chain r = grind arith
-
 none_any : (t : List Entry) → NoChain t → list_any is_noted_chain_fault t ≡ false
 none_any [] a = refl
 none_any (e ∷ t) a = rw (a.0) (none_any t a.1)
@@ -235,7 +211,7 @@ none_any (e ∷ t) a = rw (a.0) (none_any t a.1)
 pub no_chain_noted : (l : Link) → IsStart l → (events : List LinkEvent) → AllAllowed l events → list_any is_noted_chain_fault (trace l events) ≡ false
 no_chain_noted l s events a =
     none_any (trace l events)
-    (more (first_entries l.controller.side.role) (entries l events) (first_chain l.controller.side.role)
+    (more (first_entries l.controller.side.role) (entries l events) (grind arith)
     (chain_events events l a (start_good l s) (start_reached l s)))
 
 -- ## Where a frame of a step is lost on the link over fragments, or an RNR made, it is noted
@@ -250,11 +226,7 @@ Disturbed t = list_any disturbs t ≡ true
 
 any-append : (t u : List Entry) → list_any disturbs (t ++ u) ≡ (list_any disturbs t || list_any disturbs u)
 any-append [] u = refl
-any-append (e ∷ t) u = go (disturbs e) (any-append t u)
-  where
-    go : (b : Bool) → list_any disturbs (t ++ u) ≡ (list_any disturbs t || list_any disturbs u)
-        → (b || list_any disturbs (t ++ u)) ≡ ((b || list_any disturbs t) || list_any disturbs u)
-    go b q = grind arith
+any-append (e ∷ t) u = let h0 = disturbs e in let h1 = any-append t u in grind arith
 
 or_left : (a b : Bool) → a ≡ true → (a || b) ≡ true
 or_left a b q = rw q refl
@@ -272,20 +244,15 @@ disturbed_right t u d = any-append t u ∙ or_right (list_any disturbs t) (list_
 abbrev pub Grows : Losses → Losses → List Entry → Type 0
 Grows n m u = bad m ≡ true → (bad n ≡ true) ⊎ Disturbed u
 
-rnr_disturbs : (who : End) (c : Control) → is_rnr c ≡ true → disturbs (Emit who c) ≡ true
-rnr_disturbs who c q = grind arith
-
 push_lost : (who : End) (l : Link) (c : Control) → overflows (l.to_host ++ record { frame = c; age = 0; number = 0 } ∷ [])
     ≡ true → Disturbed (pushed_out (far who) (wire_with l c))
 push_lost who l c q = go (nat_lt 64 (length (wire_with l c))) refl (wire_with l c) refl
   where
     long : nat_lt 64 (length (wire_with l c)) ≡ true
     long =
-        let a = (and_parts (nat_lt 64 (length (l.to_host ++ record { frame = c; age = 0; number = 0 } ∷ [])))
-        (counts_first (l.to_host ++ record { frame = c; age = 0; number = 0 } ∷ [])) q).0 in
         let x = length-append l.to_host (record { frame = c; age = 0; number = 0 } ∷ []) in
         let y = length-append l.to_host (record { frame = c; age = 0; number = cond (is_rset c) (l.resets + 1) 0 } ∷ []) in
-        ap (nat_lt 64) (y ∙ sym x) ∙ a
+        ap (nat_lt 64) (y ∙ sym x) ∙ (grind arith)
 
     go : (b : Bool) → nat_lt 64 (length (wire_with l c)) ≡ b → (w : List OnWire) → wire_with l c ≡ w → Disturbed (pushed_out (far who) (wire_with l c))
     go false p w r = absurd (true≢false (sym long ∙ p))
@@ -301,7 +268,7 @@ put_grows n who l c q = go (n.lost) (n.rnr) (overflows (l.to_host ++ record { fr
     go true b x y p r s t = inl (rw p refl)
     go false true x y p r s t = inl (rw (p, r) refl)
     go false false true y p r s t = inr (or_right (disturbs (Emit who c)) (list_any disturbs (pushed_out (far who) (wire_with l c))) (push_lost who l c s))
-    go false false false true p r s t = inr (or_left (disturbs (Emit who c)) (list_any disturbs (pushed_out (far who) (wire_with l c))) (rnr_disturbs who c t))
+    go false false false true p r s t = inr (or_left (disturbs (Emit who c)) (list_any disturbs (pushed_out (far who) (wire_with l c))) (grind arith))
     go false false false false p r s t = absurd (let z : false ≡ true = rw (p, r, s, t) at q in cc)
 
 grows_then : (n m k : Losses) (u v : List Entry) → Grows n m u → Grows m k v → Grows n k (u ++ v)
@@ -312,9 +279,8 @@ pub flush_grows : (cs : List Control) (n : Losses) (who : End) (l : Link) → Gr
 flush_grows [] n who l = λ q. inl q
 flush_grows (c ∷ cs) n who l =
     let m : Losses = noted_loss n (core_of l) c in
-    let P : CoreLink → Type 0 = λ k. Grows m (noted_all m k cs) (puts_entries who (put l c) cs) in
     grows_then n m (noted_all m (core_put (core_of l) c) cs) (put_entries who l c) (puts_entries who (put l c) cs) (put_grows n who l c)
-    (subst P (put-core l c) (flush_grows cs m who (put l c)))
+    (subst (λ k. Grows m (noted_all m k cs) (puts_entries who (put l c) cs)) (put-core l c) (flush_grows cs m who (put l c)))
 
 -- ### The frames of an end
 
@@ -335,13 +301,6 @@ abbrev pub left_core : Link → OnWire → List OnWire → Bool → CoreLink
 left_core l x xs b =
     let m : CoreLink = core_with_ended (record (core_of l) { to_controller = xs }) b in
     record m { controller = record m.controller { took = took_with l.controller.took x } }
-
--- an end that isn't active passes over it
-ignore_noted : (n : Losses) (c : CoreLink) (ts : List CoreTurn) (x : OnWire) (xs : List OnWire) → c.controller.side.phase ≡ IsDown → c.to_controller ≡ x ∷ xs
-    → noted_here n c (CoreIgnore ts)
-    ≡ noted_out n (record c { to_controller = xs; controller = record c.controller { took = took_with c.controller.took x } })
-    (core_turned c.controller.side ts)
-ignore_noted n c ts x xs p q = rw (p, q) refl
 
 -- what is lost as a frame is taken
 pub take_noted : (n : Losses) (l : Link) (ts : List Turn) (x : OnWire) (xs : List OnWire) → AreSendableTurns ts → ComesFirst l x xs
@@ -397,7 +356,7 @@ take_noted n l ts x xs a comes = go x.frame refl
         let shdlc : (turned f ts).shdlc ≡ s = tm.is ∙ ap (λ z. core_turned z us) same in
         let beg : began_by e (Take x.frame) ≡ false = ap (λ z. z && (take_answer e.shdlc x.frame).began) o in
         let down = comes.tells.now.closed o in
-        let first : noted_here n c (CoreIgnore us) ≡ noted_out n (left_core l x xs false) s = ignore_noted n c us x xs down comes.first in
+        let first : noted_here n c (CoreIgnore us) ≡ noted_out n (left_core l x xs false) s = grind arith in
         ap (noted_turns n c) (take_closed x.frame q o ∙ ap (λ g. CoreIgnore (core_turns g ts) ∷ []) is)
         ∙ (grind arith)
 
@@ -421,9 +380,8 @@ take_noted n l ts x xs a comes = go x.frame refl
         let event : ActEvent = ActTake act again in
         let down = polite e x xs act again q comes.polite in
         let o : Option Activation = (act_answer e.role event).send in
-        let closed : is_open (role_after e.role event) ≡ false → e.shdlc.phase ≡ IsDown = λ z. by (role_closes e.role act again z) in
         let f : LinkEnd = activated e event in
-        let m = act_mid e event comes.tells.now comes.rests.due down closed in
+        let m = act_mid e event comes.tells.now comes.rests.due down (λ z. by (role_closes e.role act again z)) in
         let is : took e x.frame ≡ f = ap (took e) q in
         let us : List CoreTurn = core_turns f ts in
         let tm = turns_mid o f ts a m.mid in
@@ -434,12 +392,9 @@ take_noted n l ts x xs a comes = go x.frame refl
         let gone : CoreLink = record c { to_controller = xs } in
         let k_is : k ≡ gone = left false ends ∙ ap (λ z. record (record c { to_controller = xs }) { controller = record c.controller { took = z } }) counts in
         let beg : began_by e (Take x.frame) ≡ false = grind arith in
-        let list : core_take e x.frame ts ≡ CoreLose ∷ CoreActs (option_to_list o) us ∷ [] = ap (λ y. core_take e y ts) q in
-        let lost : noted_here n c CoreLose ≡ n = grind arith in
-        let link : core_happens_here c CoreLose ≡ gone = ap (λ z. record c { to_controller = drop 1 z }) comes.first in
-        ap (noted_turns n c) list
-        ∙ (ap (λ z. noted_here z (core_happens_here c CoreLose) (CoreActs (option_to_list o) us)) lost
-        ∙ (ap (λ z. noted_here n z (CoreActs (option_to_list o) us)) link
+        ap (noted_turns n c) (ap (λ y. core_take e y ts) q)
+        ∙ (ap (λ z. noted_here z (core_happens_here c CoreLose) (CoreActs (option_to_list o) us)) (grind arith)
+        ∙ (ap (λ z. noted_here n z (CoreActs (option_to_list o) us)) (ap (λ z. record c { to_controller = drop 1 z }) comes.first)
         ∙ (out_noted n gone o (turned f ts) s tm.mid.acts same
         ∙ (ap (λ z. noted_all n z (frames_out (turned f ts))) (sym k_is)
         ∙ (ap (λ z. noted_all (came_up n k z) k (frames_out (turned f ts))) (sym beg)
@@ -477,11 +432,7 @@ reset_noted n l w ts a h q =
     let e : LinkEnd = l.controller.side in
     let b : Bool = is_some (if_up e.shdlc Asked) in
     let f : LinkEnd = reset_by e w in
-    let t = reset_tells e q in
     let us : List CoreTurn = core_turns f ts in
-    let now : Now f = grind arith in
-    let tm = turns_mid None f ts a now in
+    let tm = turns_mid None f ts a (grind arith) in
     let s : EndState = core_turned (reset_with e.shdlc w) us in
-    let is : (turned f ts).shdlc ≡ s = tm.is ∙ ap (λ z. core_turned z us) (shdlc_moved e b (reset_with e.shdlc w)) in
-    let link : core_with_ended (core_of l) (is_up e.shdlc.phase) ≡ core_of (with_ended l b) = grind arith in
-    ap (λ z. noted_out n z s) link ∙ out_noted n (core_of (with_ended l b)) None (turned f ts) s tm.mid.acts is
+    ap (λ z. noted_out n z s) (grind arith) ∙ out_noted n (core_of (with_ended l b)) None (turned f ts) s tm.mid.acts (grind arith)

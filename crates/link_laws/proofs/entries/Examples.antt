@@ -1,9 +1,8 @@
 -- The definitions compute worked examples, entry by entry. Further ones are computed from text to text, in `node_examples`.
 use Rattle.link_laws.proofs.Words.{Act, ActReady as Ready, Active, Asked, AtController, AtHost, ByAct, Control, Controller, Cut, CutOff, Emit, Entry, GaveUp}
 use Rattle.link_laws.proofs.Words.{Give, Got, Host, I, IsQuietSince, IsSettledSince, LinkEvent, List, Lose, Lost, NextFrame, None, OnDemand, Peer, PowerMode}
-use Rattle.link_laws.proofs.Words.{Restarted, Rset, Sent, Some, Step, SyncId, TooOld, Took, Ua, [], acked_noted, after_link_events, arith, disturbs}
-use Rattle.link_laws.proofs.Words.{drop, entries}
-use Rattle.link_laws.proofs.Words.{false, got_noted, list_any, refl, sent_noted, session_in, since, trace, true, withholds, ◌++◌, ◌∷◌, ◌≡◌}
+use Rattle.link_laws.proofs.Words.{Restarted, Rset, Sent, Some, Step, SyncId, TooOld, Took, Ua, [], acked_noted, after_link_events, arith, disturbs, drop}
+use Rattle.link_laws.proofs.Words.{entries, false, got_noted, list_any, refl, sent_noted, session_in, since, trace, true, withholds, ◌++◌, ◌∷◌, ◌≡◌}
 use Rattle.link_laws.specs.entries.Entries.Entry.{Up, Down, Tick}
 use Rattle.link_laws.proofs.messages.Examples.{bare, line, takes, resets, gives, ticks, activates, active, up, one}
 

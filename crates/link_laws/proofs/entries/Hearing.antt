@@ -1,24 +1,23 @@
 -- What is noted of the steps of an end, and of a link, says which session each end has.
 use Rattle.std.proofs.lemmas.List.Sums.{fold-append}
 use Rattle.std.specs.List.{fold}
-use Rattle.link_laws.proofs.Words.{Acked, ActEvent, Activate, Active, AllAllowed, AreOwn, AsksReset, AtController, AtHost, Bool, CanStart}
-use Rattle.link_laws.proofs.Words.{Control, Controller, Cut, CutOff, End, EndEvent, Ending, Entry, GaveUp, GoesOut, Got, HasTick, Host, IsAllowed, IsEvent}
-use Rattle.link_laws.proofs.Words.{IsNode, IsOwn, IsSettledSince, IsStart, IsUicc, Link, LinkEnd, LinkEvent, LinkInput, List, Lose, NextFrame, NoInput, Node}
-use Rattle.link_laws.proofs.Words.{None, NumberedEnd, OnWire, Option, Report, Reset, Seen, Some, Starts, Step, Stops, Take, Ticks, TicksWithout, Turn}
-use Rattle.link_laws.proofs.Words.{Up as IsUpNow, [], after_input, after_link_events, aged, aged_entries, all_at_controller, ap, arith, becomes, core_event}
-use Rattle.link_laws.proofs.Words.{core_of, ended_by, entries, entries_of_events, event_entries, exchanged, false, far, finished, first_entries}
-use Rattle.link_laws.proofs.Words.{frames_out, happens, happens_at_controller, has_taken, here_entries, if_so, if◌then◌else◌, input_entries, is_some, is_up}
-use Rattle.link_laws.proofs.Words.{left_after, map, max, most_frames, nat_lt, number_now, number_of, option_to_list, put, put_entries, puts_entries, refl}
-use Rattle.link_laws.proofs.Words.{report, rest_entries, restart_entries, session_in, silent, step_entries, subst, sym, taken_entries, tick_entries}
-use Rattle.link_laws.proofs.Words.{ticks_at_controller, told, told_of, took, took_with, trace, turn, turn_entries, turn_entry, turned, whole_acked}
-use Rattle.link_laws.proofs.Words.{with_ended, ℕ, ◌++◌, ◌∙◌, ◌∷◌, ◌≡◌}
+use Rattle.link_laws.proofs.Words.{Acked, ActEvent, Activate, Active, AllAllowed, AreOwn, AsksReset, AtController, AtHost, Bool, CanStart, Control, Controller}
+use Rattle.link_laws.proofs.Words.{Cut, CutOff, End, EndEvent, Ending, Entry, GaveUp, GoesOut, Got, HasTick, Host, IsAllowed, IsEvent, IsNode, IsOwn}
+use Rattle.link_laws.proofs.Words.{IsSettledSince, IsStart, IsUicc, Link, LinkEnd, LinkEvent, LinkInput, List, Lose, NextFrame, NoInput, Node, None}
+use Rattle.link_laws.proofs.Words.{NumberedEnd, OnWire, Option, Report, Reset, Seen, Some, Starts, Step, Stops, Take, Ticks, TicksWithout, Turn, Up as IsUpNow}
+use Rattle.link_laws.proofs.Words.{[], after_input, after_link_events, aged, aged_entries, all_at_controller, ap, arith, becomes, core_event, core_of, ended_by}
+use Rattle.link_laws.proofs.Words.{entries, entries_of_events, event_entries, exchanged, false, far, finished, first_entries, frames_out, happens}
+use Rattle.link_laws.proofs.Words.{happens_at_controller, has_taken, here_entries, if_so, if◌then◌else◌, input_entries, is_some, is_up, left_after, map, max}
+use Rattle.link_laws.proofs.Words.{most_frames, nat_lt, number_now, number_of, option_to_list, put, put_entries, puts_entries, refl, report, rest_entries}
+use Rattle.link_laws.proofs.Words.{restart_entries, session_in, silent, step_entries, subst, sym, taken_entries, tick_entries, ticks_at_controller, told}
+use Rattle.link_laws.proofs.Words.{told_of, took, took_with, trace, turn, turn_entries, turn_entry, turned, whole_acked, with_ended, ℕ, ◌++◌, ◌∙◌, ◌∷◌, ◌≡◌}
 use Rattle.link_laws.specs.entries.Entries.Entry.{Down, Tick, Up}
 use Rattle.link_laws.specs.entries.Sessions.{hear}
 use Rattle.link_laws.specs.entries.Settled.{AreNotedUpTogether}
 use Rattle.link_laws.specs.places.Wire.{sans}
 use Rattle.link_laws.proofs.Cases.{by_list}
 use Rattle.link_laws.proofs.entries.Seeing.{read_off}
-use Rattle.link_laws.proofs.entries.Books.{same_far, same_self, with_side}
+use Rattle.link_laws.proofs.entries.Books.{same_far, with_side}
 use Rattle.link_laws.proofs.entries.Noting.{Frame, Frames, IsQuietEnd, IsRestart, Near, ended_number, idle_finishes, reset_finishes, restart_finishes}
 use Rattle.link_laws.proofs.entries.Noting.{start_restarts, stop_restarts, take_finishes, tick_finishes, turned_same}
 use Rattle.link_laws.proofs.entries.Running.{Before, IsInTick, IsUnderWay, Sounds, after_tick, all_in_tick, before_here, before_there, frame_facts, goes_on}
@@ -147,9 +146,7 @@ rest_heard : (who : End) (l : Link) (e : LinkEnd) (ts : List Turn) (ending : End
 rest_heard who l e ts GoesOut finishes = passes_out who who l e ts (number_now (with_side l.controller e)) ∙ sym (rest_session l e ts finishes.quiet)
 rest_heard who l e ts CutOff finishes =
     let s : Option ℕ = number_now (with_side l.controller e) in
-    let us : List Entry = turn_entries who (number_of l.controller) e ts in
-    let last : heard who s (Cut who ∷ []) ≡ None = let q = same_self who in rw q refl in
-    heard-append who s us (Cut who ∷ [])
+    heard-append who s (turn_entries who (number_of l.controller) e ts) (Cut who ∷ [])
     ∙ (grind arith)
 
 -- ### Steps
@@ -206,9 +203,8 @@ restart_heard who l {i} ts ending a n r =
 taken_heard : (who : End) (l : Link) (x : OnWire) (xs : List OnWire) (ts : List Turn) (ending : Ending) → IsNode l ts ending → Near l → Frame l x ts
     → Heard who l (has_taken l x xs ts ending) (taken_entries who l x xs ts ending)
 taken_heard who l x xs ts ending a n fr =
-    let e : LinkEnd = l.controller.side in
     let i : LinkInput = Take x.frame in
-    let h = input_heard who l (left_after l x xs) (took_with l.controller.took x) i (take_so e x.frame n.sound) (grind arith)
+    let h = input_heard who l (left_after l x xs) (took_with l.controller.took x) i (take_so l.controller.side x.frame n.sound) (grind arith)
     (λ up q. ap (max l.controller.emitted) (fr.same up q)) (take_finishes l x ts ending a n fr) in
     record { here = h.here; there = h.there }
 
@@ -228,10 +224,8 @@ frame_heard : (who : End) (l : Link) (ts : List Turn) (ending : Ending) → IsNo
 frame_heard who l ts ending a n frames =
     by_list {P = Heard who l m u} l.to_controller (grind arith)
     (λ x xs q.
-    let some : u ≡ taken_entries who l x xs ts ending = rw q refl in
-    let next : m ≡ has_taken l x xs ts ending = rw q refl in
     let Q : List Entry → Type 0 = λ z. Heard who l (has_taken l x xs ts ending) z in
-    subst P (sym next) (subst Q (sym some) (taken_heard who l x xs ts ending a n (frames x xs q))))
+    subst P (sym (rw q refl)) (subst Q (sym (rw q refl)) (taken_heard who l x xs ts ending a n (frames x xs q))))
   where
     m : Link
     m = happens_at_controller l (Step NextFrame ts ending)
@@ -286,9 +280,8 @@ all_heard (e ∷ es) l a s =
 starts : (who : End) (x : Option ℕ) (l : Link) (rest : List Entry)
     → heard who x (Tick ∷ (aged_entries Controller l.to_controller ++ (aged_entries Host l.to_host ++ rest))) ≡ heard who x rest
 starts who x l rest =
-    let ps : List Entry = aged_entries Controller l.to_controller in
     let bs : List Entry = aged_entries Host l.to_host in
-    then_heard who x x (heard who x rest) ps (bs ++ rest) (passes_aged who Controller l.to_controller x)
+    then_heard who x x (heard who x rest) (aged_entries Controller l.to_controller) (bs ++ rest) (passes_aged who Controller l.to_controller x)
     (then_heard who x x (heard who x rest) bs rest (passes_aged who Host l.to_host x) refl)
 
 -- ### Events
@@ -304,15 +297,13 @@ event_heard l (AtHost e) a g r s =
     let host : (happens_at_controller k e).host ≡ k.host = (step_here k e a b.tells b.host b.in_order (rests_of 0 0 (core_of k) b.safe) b.from).host in
     record { controller = h.there (number_now l.controller) ∙ sym (ap number_now host); host = h.here }
 event_heard l (Ticks c es h) a g r s =
-    let s0 = safe_aged (core_of l) (safe_reached (core_of l) r) in
     let old : Link = aged l in
-    let rests = rests_of 1 1 (core_of old) s0 in
+    let rests = rests_of 1 1 (core_of old) (safe_aged (core_of l) (safe_reached (core_of l) r)) in
     let near : Link = ticks_at_controller old c.turns c.ending in
-    let one = step_tick old c.turns c.ending a.0.0 a.0.1 g.controller rests in
     let stands = after_tick l c a.0 g r s in
     let all = all_step 1 near es a.1 stands.tells stands.safe in
     let m : Link = all_at_controller near es in
-    let host_is : m.host ≡ l.host = all.step.host ∙ one.host in
+    let host_is : m.host ≡ l.host = all.step.host ∙ (step_tick old c.turns c.ending a.0.0 a.0.1 g.controller rests).host in
     let k : Link = ticks_at_controller (exchanged m) h.turns h.ending in
     let cs : List Entry = tick_entries Controller old c in
     let ds : List Entry = entries_of_events Controller near es in
@@ -334,9 +325,8 @@ event_heard l (Ticks c es h) a g r s =
 event_heard l (TicksWithout es h) a g r s =
     let near : Link = aged l in
     let stands = without_tick l a.0 g r s in
-    let all = all_step 1 near es a.1 stands.tells stands.safe in
     let m : Link = all_at_controller near es in
-    let host_is : m.host ≡ l.host = all.step.host in
+    let host_is : m.host ≡ l.host = (all_step 1 near es a.1 stands.tells stands.safe).step.host in
     let k : Link = ticks_at_controller (exchanged m) h.turns h.ending in
     let ds : List Entry = entries_of_events Controller near es in
     let fs : List Entry = tick_entries Host (exchanged m) h in
@@ -364,8 +354,7 @@ event_heard l (Activate power c id h) a g r s =
     let there : Q near.host = subst Q (sym host) (a.1, a.3) in
     let can : CanStart near.host.side.role near.controller.side.role =
     can_start near.host.side.role near.controller.side.role there.0 (started_clf l power c.turns c.ending a.0) in
-    let H : NumberedEnd → Type 0 = λ z. Sound z.side in
-    let sounds : Sounds near = record { controller = sound_here l x (clf, a.2) s.controller; host = subst H (sym host) s.host } in
+    let sounds : Sounds near = record { controller = sound_here l x (clf, a.2) s.controller; host = subst (λ z. Sound z.side) (sym host) s.host } in
     let u : List Entry = here_entries Controller l x in
     let v : List Entry = here_entries Host k y in
     let b = before_there near one.good next sounds in

@@ -1,11 +1,11 @@
 -- What is noted of runs and steps says what is kept of the sessions of both ends, at each moment, too.
 use Rattle.std.proofs.lemmas.List.{take-append-le}
 use Rattle.link_laws.proofs.Words.{ActEvent, ActStart, ActStop, ActTick, AreSendableTurns, AsksReset, Bool, ByAct, CanEnd, Comes, Controller, CoreInOrder}
-use Rattle.link_laws.proofs.Words.{CutOff, Down as IsDown, End, EndState, Ending, Entry, GoesOut, HasTick, Host, InOrder, InOrderIn, IsFrontOf, IsNode, Link}
+use Rattle.link_laws.proofs.Words.{CutOff, End, EndState, Ending, Entry, GoesOut, HasTick, Host, InOrder, InOrderIn, IsFrontOf, IsNode, Link}
 use Rattle.link_laws.proofs.Words.{LinkEnd, LinkInput, List, Message, NextFrame, NoInput, Node, None, NumberedEnd, OnWire, Option, Reset, Restarted, Role}
-use Rattle.link_laws.proofs.Words.{Session, Start, Starts, Stop, Stops, Take, Talk, Took, Turn, Up as IsUpNow, [], acked_noted, act_answer, activated}
+use Rattle.link_laws.proofs.Words.{Session, Start, Starts, Stop, Stops, Take, Talk, Took, Turn, Up as IsUpNow, [], acked_noted, activated}
 use Rattle.link_laws.proofs.Words.{after_input, ap, append-nil, append_assoc, arith, began_by, core_end, core_of, ended_by, false, far, filter-append, finished}
-use Rattle.link_laws.proofs.Words.{frames_out, good_of, got_noted, has_taken, if_up, inl, inr, is_good, is_open, is_some, is_up, is_waiting, left_after, length}
+use Rattle.link_laws.proofs.Words.{frames_out, good_of, got_noted, has_taken, if_up, inl, inr, is_good, is_open, is_some, is_waiting, left_after, length}
 use Rattle.link_laws.proofs.Words.{max, moved, no_talk, number_of, refl, reset_by, reset_refusal, rest_entries, restart_entries, role_after, sent_noted}
 use Rattle.link_laws.proofs.Words.{shdlc_session_of, silent, step_entries, steps_at_controller, stopped, subst, suc, sym, take, taken_entries, talk_of}
 use Rattle.link_laws.proofs.Words.{tick_answer, tick_entries, ticked, ticks_at_controller, told_of, took, took_with, true, true≢false, turn, turned, window_of}
@@ -15,9 +15,9 @@ use Rattle.link_laws.proofs.entries.Books.{Book, Silent, book_of, past_after, pl
 use Rattle.link_laws.proofs.entries.Stepping.{AllFew, CanFinish, Few, OfOne, Out, TakesInput, Tolds, few_more, few_then, few_told, front_parts, front_read}
 use Rattle.link_laws.proofs.entries.Stepping.{input_told, rest_told, sound_sent, sound_turns}
 use Rattle.link_laws.proofs.machine.Reports.{Reports, good-append, reset_so, shdlc_is as shdlc_moved, start_so, stop_so, take_so, tick_so}
-use Rattle.link_laws.proofs.machine.Runs.{Sound, opened, sound_input}
+use Rattle.link_laws.proofs.machine.Runs.{Sound, sound_input}
 use Rattle.link_laws.proofs.machine.Sound.{IsNotUp}
-use Rattle.link_laws.proofs.messages.Project.{NoAsk, NoRset, Now, Tells, host_ended as ended_host, mid_moved, moved_role, none_due, ticked_asks, ticked_keeps}
+use Rattle.link_laws.proofs.messages.Project.{NoAsk, NoRset, Now, Tells, host_ended as ended_host, moved_role, none_due}
 use Rattle.link_laws.proofs.messages.Finishing.{can_after, can_end, none_out, restart_mid, tick_closed, tick_open, tick_role, took_can, waiting_phase}
 use Rattle.link_laws.proofs.messages.Steps.{Rests, act_mid, activated_role, says_of, session-core, tick_closes}
 use Rattle.link_laws.proofs.messages.Runs.{in_messages}
@@ -67,8 +67,7 @@ quiet_tick l ts a h r =
     by_test {P = IsQuietEnd (after_input e HasTick) ts} (is_open e.role) (λ o. let t = tick_open e o in subst P (sym t.0) (open_one o (is_waiting s) refl))
     (λ o.
     let t = tick_closed e o in
-    let down : (act_answer e.role ActTick).ended_link ≡ true → e.shdlc.phase ≡ IsDown = λ z. absurd (true≢false (sym z ∙ tick_closes e.role o)) in
-    let m = act_mid e ActTick h.now r.due down (λ z. h.now.closed (tick_role e.role z)) in
+    let m = act_mid e ActTick h.now r.due (λ z. absurd (true≢false (sym z ∙ tick_closes e.role o))) (λ z. h.now.closed (tick_role e.role z)) in
     let still : IsNotUp (activated e ActTick).shdlc = λ u. let z = sym (ap (λ (x : EndState). x.phase) m.same ∙ h.now.closed o) ∙ u in cc in
     subst P (sym t.0) (not_up_quiet (activated e ActTick) ts still))
   where
@@ -90,9 +89,8 @@ quiet_tick l ts a h r =
     open_one : is_open e.role ≡ true → (c : Bool) → is_waiting s ≡ c → IsQuietEnd (moved e b s) ts
     open_one o true w = not_up_quiet (moved e b s) ts (still w)
     open_one o false w =
-        let k : Now (moved e b s) = mid_moved e b s h.now (ticked_keeps e.shdlc h.now.idle) (opened e.role (s.phase ≡ IsDown) o) in
         let Q : EndState → Type 0 = λ z. NoAsk z.due in
-        λ _. none_out None (moved e b s) ts a k (subst Q (sym (shdlc_moved e b s)) (ticked_asks e.shdlc w (none_due e.shdlc r.due)))
+        λ _. none_out None (moved e b s) ts a (grind arith) (subst Q (sym (shdlc_moved e b s)) (let h0 = none_due e.shdlc r.due in grind arith))
 
 -- ### Frames
 
@@ -116,9 +114,6 @@ pub record Near (l : Link) : Type 0 where
 
 pub ended_number : (l : Link) (b : Bool) → number_of (with_ended l b).controller ≡ number_of l.controller
 ended_number l b = grind arith
-
-ended_past : (l : Link) (b : Bool) → (with_ended l b).controller.past ≡ past_after b l.controller
-ended_past l b = grind arith
 
 -- l becomes k in front of an input by which no session begins
 pub record IsPlainInput (l k : Link) (i : LinkInput) : Type 0 where
@@ -215,14 +210,13 @@ pub restart_finishes : (l : Link) {i : LinkInput} {event : ActEvent} (ts : List 
     → IsRestart l.controller.side i event → CanFinish (after_input l.controller.side i) ts ending
 restart_finishes l {i} {event} ts ending a n r =
     let e : LinkEnd = l.controller.side in
-    let g : LinkEnd = activated (moved e true (stopped e.shdlc)) event in
     let role : (after_input e i).role ≡ role_after e.role event =
     ap (λ (z : LinkEnd). z.role) r.becomes ∙ activated_role (moved e true (stopped e.shdlc)) event in
     let P : LinkEnd → Type 0 = λ z. IsQuietEnd z ts in
     record {
       sendable = a.0;
       can = moved_can e i ts ending (role_after e.role event) role (can_after e.role event ending a.1);
-      quiet = subst P (sym r.becomes) (not_up_quiet g ts (restarted_down e event n.tells.now));
+      quiet = subst P (sym r.becomes) (not_up_quiet (activated (moved e true (stopped e.shdlc)) event) ts (restarted_down e event n.tells.now));
       sound = r.sound;
     }
 
@@ -230,7 +224,7 @@ pub tick_told : (t : List Entry) (who : End) (l : Link) (node : Node) → IsNode
     → Out t (tick_entries who l node) who (ticks_at_controller l node.turns node.ending)
 tick_told t who l node a n b =
     let c : Bool = is_some (ended_by l.controller.side HasTick) in
-    input_told HasTick (plain_input (plain_ended l c (tick_so l.controller.side n.sound) refl) (ended_past l c)) (tick_finishes l node a n) n.sound b
+    input_told HasTick (plain_input (plain_ended l c (tick_so l.controller.side n.sound) refl) (grind arith)) (tick_finishes l node a n) n.sound b
 
 restart_told : {t : List Entry} {who : End} {l : Link} {i : LinkInput} {event : ActEvent} (ts : List Turn) (ending : Ending) → IsNode l ts ending → Near l
     → IsRestart l.controller.side i event → Tolds t who l
@@ -238,19 +232,16 @@ restart_told : {t : List Entry} {who : End} {l : Link} {i : LinkInput} {event : 
 restart_told {t} {who} {l} {i} ts ending a n r b =
     let e : LinkEnd = l.controller.side in
     let f : LinkEnd = after_input e i in
-    let c : Bool = is_up e.shdlc.phase in
     let k : Link = silent l f in
-    let past : k.controller.past ≡ past_after (is_some (ended_by e i)) l.controller = grind arith in
     let first : Tolds (t ++ Restarted who ∷ []) who l =
     record {
       here = told_silent t (Restarted who ∷ []) who l.controller (λ x m. refl) b.here;
       there = told_silent t (Restarted who ∷ []) (far who) l.host (λ x m. refl) b.there;
     } in
-    let out = input_told i (plain_input (plain_silent l f r.reports r.none) past) (restart_finishes l ts ending a n r) n.sound first in
+    let out = input_told i (plain_input (plain_silent l f r.reports r.none) (grind arith)) (restart_finishes l ts ending a n r) n.sound first in
     let vs : List Entry = told_of who l.controller i ++ rest_entries who k f ts ending in
-    let Q : List Entry → Type 0 = λ z. Tolds z who (finished k (turned f ts) ending) in
     record {
-      tolds = subst Q (append_assoc t (Restarted who ∷ []) vs) out.tolds;
+      tolds = subst (λ z. Tolds z who (finished k (turned f ts) ending)) (append_assoc t (Restarted who ∷ []) vs) out.tolds;
       few = few_then t who (Restarted who ∷ []) vs (few_more t who (Restarted who ∷ []) (few_told t who l.controller b.here) ((λ w m. refl), tt)) out.few;
     }
 
@@ -283,9 +274,8 @@ taken_told {t} {who} l x xs ts ending a n fr b =
     } in
     let out = input_told i takes (take_finishes l x ts ending a n fr) n.sound first in
     let vs : List Entry = told_of who h i ++ rest_entries who k f ts ending in
-    let Q : List Entry → Type 0 = λ z. Tolds z who (finished k (turned f ts) ending) in
     record {
-      tolds = subst Q (append_assoc t (Took who x.frame ∷ []) vs) out.tolds;
+      tolds = subst (λ z. Tolds z who (finished k (turned f ts) ending)) (append_assoc t (Took who x.frame ∷ []) vs) out.tolds;
       few = few_then t who (Took who x.frame ∷ []) vs (few_more t who (Took who x.frame ∷ []) (few_told t who l.controller b.here) ((λ w m. refl), tt)) out.few;
     }
   where
@@ -311,7 +301,7 @@ pub step_told : (t : List Entry) (who : End) (l : Link) (comes : Comes) (ts : Li
     → Tolds t who l → Out t (step_entries who l comes ts ending) who (steps_at_controller l comes ts ending)
 step_told t who l (AsksReset window) ts ending a n fr b =
     let c : Bool = is_some (ended_by l.controller.side (Reset window)) in
-    input_told (Reset window) (plain_input (plain_ended l c (reset_so l.controller.side window n.sound) refl) (ended_past l c))
+    input_told (Reset window) (plain_input (plain_ended l c (reset_so l.controller.side window n.sound) refl) (grind arith))
     (reset_finishes l window ts ending a n) n.sound b
 step_told t who l (Starts v) ts ending a n fr b = restart_told ts ending a n (start_restarts l.controller.side v n.sound) b
 step_told t who l Stops ts ending a n fr b = restart_told ts ending a n (stop_restarts l.controller.side n.sound) b
@@ -444,30 +434,22 @@ mine t u p who n before after one few f =
     let here = as_read (t ++ p) who n (plus (read t who n) (read p who n)) (read-append t p who n) in
     let all = as_read (t ++ u) who n (plus (read t who n) (read u who n)) (read-append t u who n) in
     let parts = as_read u who n (plus (read p who n) (read f.0 who n)) (ap (λ z. read z who n) (sym f.1) ∙ read-append p f.0 who n) in
-    let there = as_read (t ++ p) (far who) n (read t (far who) n) other in
     let there_all = as_read (t ++ u) (far who) n (read t (far who) n) other_all in
-    let b = before who n in
-    let a = after who n in
     let s : List Message = sent_noted t who n ++ sent_noted p who n in
     let k : ℕ = max (acked_noted t who n) (acked_noted p who n) in
-    let limit = few p f n in
-    let length_s = ap (λ (ms : List Message). length ms) here.0 in
-    let k_few : k ≤ length s = omega (arith, limit, here.2, length_s) in
+    let k_few : k ≤ length s = omega (arith, (few p f n), here.2, (ap (λ (ms : List Message). length ms) here.0)) in
     let whole : sent_noted (t ++ u) who n ≡ s ++ sent_noted f.0 who n =
     all.0 ∙ (ap (λ ms. sent_noted t who n ++ ms) parts.0 ∙ sym (append_assoc (sent_noted t who n) (sent_noted p who n) (sent_noted f.0 who n))) in
-    let k_less : k ≤ acked_noted (t ++ u) who n = omega (arith, all.2, parts.2) in
     let less : IsFrontOf (take k s) (take (acked_noted (t ++ u) who n) (sent_noted (t ++ u) who n)) =
     let P : List Message → Type 0 = λ z. IsFrontOf z (take (acked_noted (t ++ u) who n) (sent_noted (t ++ u) who n)) in
     subst P (ap (take k) whole ∙ take-append-le k s (sent_noted f.0 who n) k_few)
-    (take_front k (acked_noted (t ++ u) who n) (sent_noted (t ++ u) who n) k_less) in
+    (take_front k (acked_noted (t ++ u) who n) (sent_noted (t ++ u) who n) (omega (arith, all.2, parts.2))) in
     let G : List Message → Type 0 = λ z. IsFrontOf (good_of (take (acked_noted (t ++ u) who n) (sent_noted (t ++ u) who n))) z in
-    let done : IsFrontOf (good_of (take (acked_noted (t ++ u) who n) (sent_noted (t ++ u) who n))) (got_noted t (far who) n) = subst G there_all.1 a.acked in
-    let H : List Message → Type 0 = λ z. IsFrontOf (got_noted t (far who) n) z in
-    in_order_as (t ++ p) who n here.0 here.2 there.1
-    (subst H (sym (good-append (sent_noted t who n) (sent_noted p who n)))
-    (front_more (got_noted t (far who) n) (good_of (sent_noted t who n)) (good_of (sent_noted p who n)) b.got))
+    in_order_as (t ++ p) who n here.0 here.2 (as_read (t ++ p) (far who) n (read t (far who) n) other).1
+    (subst (λ z. IsFrontOf (got_noted t (far who) n) z) (sym (good-append (sent_noted t who n) (sent_noted p who n)))
+    (front_more (got_noted t (far who) n) (good_of (sent_noted t who n)) (good_of (sent_noted p who n)) (before who n).got))
     (front_then (good_of (take k s)) (good_of (take (acked_noted (t ++ u) who n) (sent_noted (t ++ u) who n))) (got_noted t (far who) n)
-    (good_front (take k s) (take (acked_noted (t ++ u) who n) (sent_noted (t ++ u) who n)) less) done)
+    (good_front (take k s) (take (acked_noted (t ++ u) who n) (sent_noted (t ++ u) who n)) less) (subst G there_all.1 (after who n).acked))
     k_few
 
 far_far : (who : End) → far (far who) ≡ who
@@ -486,10 +468,8 @@ theirs t u p who n before after one f =
     let there = as_read (t ++ p) (far who) n (read t (far who) n) other in
     let there_all = as_read (t ++ u) (far who) n (read t (far who) n) other_all in
     let b = before (far who) n in
-    let a = after (far who) n in
     let g : List Message = got_noted t who n ++ got_noted p who n in
     let back = far_far who in
-    let got_here : got_noted (t ++ p) (far (far who)) n ≡ g = ap (λ w. got_noted (t ++ p) w n) back ∙ here.1 in
     let got_all : got_noted (t ++ u) (far (far who)) n ≡ g ++ got_noted f.0 who n =
     ap (λ w. got_noted (t ++ u) w n) back
     ∙ (all.1 ∙ (ap (λ ms. got_noted t who n ++ ms) parts.1 ∙ sym (append_assoc (got_noted t who n) (got_noted p who n) (got_noted f.0 who n)))) in
@@ -497,11 +477,11 @@ theirs t u p who n before after one f =
     let X : List Message → Type 0 = λ z. IsFrontOf z (good_of (sent_noted (t ++ u) (far who) n)) in
     let Y : List Message → Type 0 = λ z. IsFrontOf (g ++ got_noted f.0 who n) (good_of z) in
     let got_front : IsFrontOf g (good_of (sent_noted t (far who) n)) =
-    front_less g (got_noted f.0 who n) (good_of (sent_noted t (far who) n)) (subst Y there_all.0 (subst X got_all a.got)) in
+    front_less g (got_noted f.0 who n) (good_of (sent_noted t (far who) n)) (subst Y there_all.0 (subst X got_all (after (far who) n).got)) in
     let Z : List Message → Type 0 = λ z. IsFrontOf (good_of (take (acked_noted t (far who) n) (sent_noted t (far who) n))) z in
     let acked_front : IsFrontOf (good_of (take (acked_noted t (far who) n) (sent_noted t (far who) n))) g =
     front_more (good_of (take (acked_noted t (far who) n) (sent_noted t (far who) n))) (got_noted t who n) (got_noted p who n) (subst Z got_before b.acked) in
-    in_order_as (t ++ p) (far who) n there.0 there.2 got_here got_front acked_front b.few
+    in_order_as (t ++ p) (far who) n there.0 there.2 (ap (λ w. got_noted (t ++ p) w n) back ∙ here.1) got_front acked_front b.few
 
 pub between : (t u : List Entry) (who : End) → Ok t → Ok (t ++ u) → OfOne who u → AllFew t who u → AllOk t u
 between t u who before after one few p f w n = go who w refl

@@ -1,7 +1,7 @@
 -- A quiet session has delivered all, as it is noted: losses are told, and each step keeps what is known of both ends.
 use Rattle.std.specs.Prelude.{◌||◌}
 use Rattle.link_laws.proofs.Words.{Acked, ActTick, Activation, Active, AreSendableTurns, Asked, AsksReset, Bool, CanEnd, Comes, Controller, CoreActs}
-use Rattle.link_laws.proofs.Words.{CoreEndEvent, CoreLink, CoreTurn, Cut, CutOff, Down as IsDown, End, EndEvent, EndState, Ending, Entry, GaveUp, GoesOut, Got}
+use Rattle.link_laws.proofs.Words.{CoreEndEvent, CoreLink, CoreTurn, Cut, CutOff, End, EndEvent, EndState, Ending, Entry, GaveUp, GoesOut, Got}
 use Rattle.link_laws.proofs.Words.{HasTick, Host, IsAllowed, IsNode, IsOwn, Link, LinkEnd, LinkInput, List, Lose, Loss, Losses, NextFrame, NoInput, Node, None}
 use Rattle.link_laws.proofs.Words.{NumberedEnd, OnWire, Option, Refused, Reset, Some, Start, Starts, Step, Stop, Stops, Take, Took, Turn, Up as IsUpNow}
 use Rattle.link_laws.proofs.Words.{[], act_answer, activated, after_input, aged, aged_entries, ap, append-nil, append_assoc, arith, began_by, came_up}
@@ -23,9 +23,8 @@ use Rattle.link_laws.proofs.entries.Noting.{start_restarts, stop_restarts, take_
 use Rattle.link_laws.proofs.entries.Running.{Before, comes_first, frame_facts, near_of}
 use Rattle.link_laws.proofs.entries.Stepping.{CanFinish, host_finished, puts_number}
 use Rattle.link_laws.proofs.machine.Reports.{Reports, reset_so, shdlc_is as shdlc_moved, take_so, tick_so}
-use Rattle.link_laws.proofs.machine.Runs.{opened}
 use Rattle.link_laws.proofs.machine.Sound.{Shift}
-use Rattle.link_laws.proofs.messages.Project.{Now, Tells, frames_alike, mid_moved, ticked_keeps, turns_mid}
+use Rattle.link_laws.proofs.messages.Project.{Tells, frames_alike, turns_mid}
 use Rattle.link_laws.proofs.messages.Finishing.{core_tick_rests, rests, tick_closed, tick_open, tick_role}
 use Rattle.link_laws.proofs.messages.Steps.{Rests, act_mid, tick_closes}
 
@@ -109,9 +108,8 @@ knows_new {t} pre v who {n} {m} {other} {k} x grows first =
     go false q b = alone (first q b)
     go true q b =
         let o = up_other q in
-        let h : Has j t = let P : ℕ → Type 0 = λ z. Has z t in subst P o.1 (x.has o.0) in
         let P : List Entry → Type 0 = λ z. Disturbed z in
-        subst P (sym (since-append j t u h)) (which o (grows b))
+        subst P (sym (since-append j t u (let P : ℕ → Type 0 = λ z. Has z t in subst P o.1 (x.has o.0)))) (which o (grows b))
       where
         which : (other.side.shdlc.phase ≡ IsUpNow) × (number_of other ≡ j) → (bad n ≡ true) ⊎ Disturbed u → Disturbed (since j t ++ u)
         which o (inl z) = let P : ℕ → Type 0 = λ y. Disturbed (since y t) in disturbed_left (since j t) u (subst P o.1 (x.tells o.0 z))
@@ -195,8 +193,7 @@ reset_grows n who l window ts GoesOut a h =
         → Grows n m (step_entries who l (AsksReset window) ts GoesOut)
     entries_as c f p q g =
         let P : Bool → Type 0 = λ z. Grows n m (told_of who l.controller i ++ rest_entries who (with_ended l z) (after_input e i) ts GoesOut) in
-        let Q : LinkEnd → Type 0 = λ z. Grows n m (told_of who l.controller i ++ rest_entries who (with_ended l c) z ts GoesOut) in
-        subst P (sym p) (subst Q (sym q) g)
+        subst P (sym p) (subst (λ z. Grows n m (told_of who l.controller i ++ rest_entries who (with_ended l c) z ts GoesOut)) (sym q) g)
 
 -- where no frame is taken
 own_grows : (n : Losses) (who : End) (l : Link) (comes : Comes) (ts : List Turn) (ending : Ending) → IsOwn (Step comes ts ending)
@@ -420,11 +417,10 @@ taken_knows {t} {n} who l x xs ts ending w a b both = go (began_by e i) refl
 
         at_j : (number_of m'.controller ≡ j) → Knows (t ++ u) m m'.controller
         at_j r =
-            let P : List Entry → Type 0 = λ z. Knows (t ++ z) m m'.controller in
             let Q : List Entry → Type 0 = λ z. Grows n m z in
             let split : u ≡ pre ++ (Up who (number_of m'.controller) ∷ v) = parts ∙ ap (λ z. pre ++ (Up who z ∷ v)) (sym r) in
             let R : ℕ → Type 0 = λ z. is_up_with (core_end l.host) z ≡ false → bad m ≡ true → Disturbed v in
-            subst P (sym split) (knows_new pre v who both.there (subst Q split grows) (subst R (sym r) first))
+            subst (λ z. Knows (t ++ z) m m'.controller) (sym split) (knows_new pre v who both.there (subst Q split grows) (subst R (sym r) first))
 
 frame_knows : (t : List Entry) (n : Losses) (who : End) (l : Link) (ts : List Turn) (ending : Ending) → IsNode l ts ending → Before l → Both t n l
     → Both (t ++ step_entries who l NextFrame ts ending) (noted_turns n (core_of l) (core_step l NextFrame ts ending))
@@ -489,8 +485,7 @@ tick_grows n who l ts GoesOut a h r = go (is_open e.role) refl
         → Grows n m (told_of who l.controller HasTick ++ rest_entries who (with_ended l b) f ts GoesOut) → Grows n m (tick_entries who l node)
     entries_as b f p q g =
         let P : Bool → Type 0 = λ z. Grows n m (told_of who l.controller HasTick ++ rest_entries who (with_ended l z) (after_input e HasTick) ts GoesOut) in
-        let Q : LinkEnd → Type 0 = λ z. Grows n m (told_of who l.controller HasTick ++ rest_entries who (with_ended l b) z ts GoesOut) in
-        subst P (sym p) (subst Q (sym q) g)
+        subst P (sym p) (subst (λ z. Grows n m (told_of who l.controller HasTick ++ rest_entries who (with_ended l b) z ts GoesOut)) (sym q) g)
 
     go : (o : Bool) → is_open e.role ≡ o → Grows n m (tick_entries who l node)
     go true o =
@@ -498,8 +493,7 @@ tick_grows n who l ts GoesOut a h r = go (is_open e.role) refl
         let b : Bool = is_some (tick_answer e.shdlc).ended in
         let f : LinkEnd = moved e b (ticked e.shdlc) in
         let us : List CoreTurn = core_turns f ts in
-        let now : Now f = mid_moved e b (ticked e.shdlc) h.now (ticked_keeps e.shdlc h.now.idle) (opened e.role ((ticked e.shdlc).phase ≡ IsDown) o) in
-        let tm = turns_mid None f ts a now in
+        let tm = turns_mid None f ts a (grind arith) in
         let s : EndState = core_turned (ticked e.shdlc) us in
         let is : (turned f ts).shdlc ≡ s = tm.is ∙ ap (λ z. core_turned z us) (shdlc_moved e b (ticked e.shdlc)) in
         let first : core_tick e ts GoesOut ≡ Some us = rw o refl ∙ ap (λ (g : LinkEnd). Some (core_turns g ts)) t.0 in
@@ -510,13 +504,11 @@ tick_grows n who l ts GoesOut a h r = go (is_open e.role) refl
         let t = tick_closed e o in
         let f : LinkEnd = activated e ActTick in
         let act : Option Activation = (act_answer e.role ActTick).send in
-        let down : (act_answer e.role ActTick).ended_link ≡ true → e.shdlc.phase ≡ IsDown = λ z. absurd (true≢false (sym z ∙ tick_closes e.role o)) in
-        let mid = act_mid e ActTick h.now r.due down (λ z. h.now.closed (tick_role e.role z)) in
+        let mid = act_mid e ActTick h.now r.due (λ z. absurd (true≢false (sym z ∙ tick_closes e.role o))) (λ z. h.now.closed (tick_role e.role z)) in
         let us : List CoreTurn = core_turns f ts in
         let tm = turns_mid act f ts a mid.mid in
         let s : EndState = core_turned e.shdlc us in
         let is : (turned f ts).shdlc ≡ s = tm.is ∙ ap (λ z. core_turned z us) mid.same in
-        let ended : is_some (ended_by e HasTick) ≡ false = ap (λ z. is_some z) t.1 ∙ (rw (tick_closes e.role o) refl) in
         let first : core_tick e ts GoesOut ≡ Some [] = rw o refl in
         let rest : core_tick_rest e ts GoesOut ≡ CoreActs (option_to_list act) us ∷ [] = grind arith in
         let p = h.now.closed o in
@@ -525,7 +517,7 @@ tick_grows n who l ts GoesOut a h r = go (is_open e.role) refl
         ∙ (ap (λ z. noted_here z (core_ticks_here c []) (CoreActs (option_to_list act) us)) (grind arith)
         ∙ (ap (λ z. noted_here n z (CoreActs (option_to_list act) us)) (core_tick_rests c p r)
         ∙ out_noted n c act (turned f ts) s tm.mid.acts is)) in
-        entries_as false f ended t.0 (input_grows n m who l.controller HasTick l f ts flag)
+        entries_as false f (ap (λ z. is_some z) t.1 ∙ (rw (tick_closes e.role o) refl)) t.0 (input_grows n m who l.controller HasTick l f ts flag)
       where
         acts_rest : is_open e.role ≡ false → core_tick_rest e ts GoesOut
             ≡ CoreActs (option_to_list (act_answer e.role ActTick).send) (core_turns (after_input e HasTick) ts) ∷ []
@@ -535,8 +527,7 @@ pub tick_knows : (t : List Entry) (n : Losses) (who : End) (l : Link) (node : No
     → Both (t ++ tick_entries who l node) (tick_flags n l node) (ticks_at_controller l node.turns node.ending)
 tick_knows t n who l node a x b =
     let e : LinkEnd = l.controller.side in
-    let c : Bool = is_some (ended_by e HasTick) in
-    input_knows (tick_entries who l node) HasTick (plain_ended l c (tick_so e x.sound) refl) (tick_finishes l node a x)
+    input_knows (tick_entries who l node) HasTick (plain_ended l (is_some (ended_by e HasTick)) (tick_so e x.sound) refl) (tick_finishes l node a x)
     (tick_grows n who l node.turns node.ending a.0 x.tells x.rests) b
 
 -- a frame that is too old is noted

@@ -9,7 +9,7 @@ use Rattle.link_laws.proofs.Words.{core_tick_rest, core_ticks_or_cut, ended_by, 
 use Rattle.link_laws.proofs.Words.{exchanged, false, far, first_entries, first_lost, frames_out, happens, happens_at_controller, here_entries, is_act}
 use Rattle.link_laws.proofs.Words.{is_faulty, is_open, is_rset, is_some, is_waiting, left_after, max, most_frames, ne_eqb, no_talk, number_of, refl}
 use Rattle.link_laws.proofs.Words.{sans, steps_at_controller, subst, sym, taken, talk_of, tick_entries, ticks_at_controller, took, took_with, trace, true}
-use Rattle.link_laws.proofs.Words.{true≢false, turned, with_ended, ℕ, ◌++◌, ◌<◌, ◌==◌, ◌∙◌, ◌∷◌, ◌≡◌}
+use Rattle.link_laws.proofs.Words.{true≢false, turned, with_ended, ℕ, ◌++◌, ◌==◌, ◌∙◌, ◌∷◌, ◌≡◌}
 use Rattle.link_laws.proofs.sessions.Hand.{IsRset, rset_told}
 use Rattle.link_laws.proofs.sessions.Safe.{Safe}
 use Rattle.link_laws.proofs.sessions.Sending.{SafeLink}
@@ -76,8 +76,7 @@ frame_facts l ts a b x xs w = record { quiet = none ts a; same = same; fresh = f
         here : Safe 0 0 (core_end l.controller) (core_end l.host) (x ∷ sans xs) (sans l.to_host) l.resets
         here =
             let P : List OnWire → Type 0 = λ z. Safe 0 0 (core_end l.controller) (core_end l.host) z (sans l.to_host) l.resets in
-            let first : sans l.to_controller ≡ x ∷ sans xs = ap sans w ∙ ap (λ c. cond (is_act c) (sans xs) (x ∷ sans xs)) q in
-            subst P first b.safe
+            subst P (ap sans w ∙ ap (λ c. cond (is_act c) (sans xs) (x ∷ sans xs)) q) b.safe
 
         not_zero : (v == 0) ≡ false
         not_zero = ne_eqb v 0 (λ z. omega (arith, z, let is : IsRset x = record { window = v; caps = caps; frame = q } in (rset_told here.hand is).wide))
@@ -117,8 +116,7 @@ frame_facts l ts a b x xs w = record { quiet = none ts a; same = same; fresh = f
         let m : NumberedEnd = (becomes k f).controller in
         let is : steps_at_controller l NextFrame [] GoesOut ≡ becomes k f = rw w refl in
         let P : Link → Type 0 = λ z. SafeLink 0 0 (core_of z) in
-        let safe : SafeLink 0 0 (core_of (becomes k f)) = subst P is b.next in
-        let old = new_number m ((frames_alike most_frames f.shdlc).phase ∙ up) safe.n_past in
+        let old = new_number m ((frames_alike most_frames f.shdlc).phase ∙ up) (subst P is b.next).n_past in
         let past : m.past ≡ past_after c l.controller = (beside-put_all (frames_out f) k).past ∙ (left c).0 in
         let number : number_of m ≡ n = puts_number k (frames_out f) (none [] tt) ∙ (left c).1 in
         sym (ap (λ p. ended_talk p (number_of m)) past ∙ ap (ended_talk (past_after c l.controller)) number) ∙ old
@@ -234,14 +232,11 @@ all_told {kf} (e ∷ es) t l a s g b ok =
     let v : List Entry = entries_of_events Controller m es in
     let far_tells : Tells m.host = tells_same m.host l.host one.host g in
     let next : Ok (t ++ u) = ok_link (t ++ u) 0 kf m then.safe then.tells far_tells out.tolds in
-    let first : AllOk t u = between t u Controller ok next (one_here Controller l e) out.few in
     let more = all_told es (t ++ u) m a.2 then far_tells out.tolds next in
-    let Q : List Entry → Type 0 = λ z. Tolds z Controller (all_at_controller m es) in
-    let R : List Entry → Type 0 = λ z. Ok z in
     record {
-      tolds = subst Q (append_assoc t u v) more.tolds;
-      ok = subst R (append_assoc t u v) more.ok;
-      all = all_then t u v first more.all;
+      tolds = subst (λ z. Tolds z Controller (all_at_controller m es)) (append_assoc t u v) more.tolds;
+      ok = subst (λ z. Ok z) (append_assoc t u v) more.ok;
+      all = all_then t u v (between t u Controller ok next (one_here Controller l e) out.few) more.all;
       stands = more.stands;
       host = more.host ∙ one.host;
     }
@@ -318,9 +313,8 @@ before_there l g r s =
     let e : EndEvent = EndStep NextFrame [] GoesOut in
     let st = event_step l (AtHost e) (tt, (tt, tt)) g r in
     let m : Link = happens l (AtHost e) in
-    let P : CoreLink → Type 0 = λ c. SafeLink 0 0 c in
     let next : SafeLink 0 0 (core_of m) =
-    subst P (sym st.core) (safe_reached _ (reached_more (core_of l) (core_event l (AtHost e)) st.allowed r)) in
+    subst (λ c. SafeLink 0 0 c) (sym st.core) (safe_reached _ (reached_more (core_of l) (core_event l (AtHost e)) st.allowed r)) in
     record {
       tells = g.host;
       host = g.controller;
@@ -342,7 +336,6 @@ reached_ok t l g r b = ok_link t 0 0 l (safe_reached (core_of l) r) g.controller
 note_here : (t : List Entry) (l : Link) (e : EndEvent) → IsAllowed l e → Good l → Reached (core_of l) → Noted t l
     → Notes t (here_entries Controller l e) (happens_at_controller l e)
 note_here t l e a g r n =
-    let P : NumberedEnd → Type 0 = λ z. Sound z.side in
     let u : List Entry = here_entries Controller l e in
     let out = here_told t Controller l e a (before_here l g r n.sounds) n.tolds in
     let st = event_step l (AtController e) a g r in
@@ -354,7 +347,7 @@ note_here t l e a g r n =
         tolds = out.tolds;
         sounds = record {
           controller = sound_here l e a n.sounds.controller;
-          host = subst P (sym (host_here l e a g r)) n.sounds.host;
+          host = subst (λ z. Sound z.side) (sym (host_here l e a g r)) n.sounds.host;
         };
         ok = ok;
       };
@@ -370,7 +363,6 @@ note_there t l e a g r n =
     let out = here_told t Host k e a b (swap_tolds t l n.tolds) in
     let tolds = swap_back (t ++ u) (happens_at_controller k e) out.tolds in
     let host : (happens_at_controller k e).host ≡ k.host = (step_here k e a b.tells b.host b.in_order (rests_of 0 0 (core_of k) b.safe) b.from).host in
-    let P : NumberedEnd → Type 0 = λ z. Sound z.side in
     let m : Link = happens l (AtHost e) in
     let st = event_step l (AtHost e) a g r in
     let next : Reached (core_of m) = subst Reached (sym st.core) (reached_more (core_of l) (core_event l (AtHost e)) st.allowed r) in
@@ -378,7 +370,7 @@ note_there t l e a g r n =
     record {
       noted = record {
         tolds = tolds;
-        sounds = record { controller = subst P (sym host) n.sounds.controller; host = sound_here k e a n.sounds.host };
+        sounds = record { controller = subst (λ z. Sound z.side) (sym host) n.sounds.controller; host = sound_here k e a n.sounds.host };
         ok = ok;
       };
       all = between t u Host n.ok ok (one_here Host k e) out.few;
@@ -414,9 +406,8 @@ pub note_event : (t : List Entry) (l : Link) (e : LinkEvent) → IsEvent l e →
 note_event t l (AtController e) a g r n = note_here t l e a g r n
 note_event t l (AtHost e) a g r n = note_there t l e a g r n
 note_event t l (Ticks c es h) a g r n =
-    let s0 = safe_aged (core_of l) (safe_reached (core_of l) r) in
     let aged_link : Link = aged l in
-    let rests = rests_of 1 1 (core_of aged_link) s0 in
+    let rests = rests_of 1 1 (core_of aged_link) (safe_aged (core_of l) (safe_reached (core_of l) r)) in
     let ps : List Entry = aged_entries Controller l.to_controller in
     let bs : List Entry = aged_entries Host l.to_host in
     let start : List Entry = Tick ∷ (ps ++ bs) in
@@ -429,7 +420,6 @@ note_event t l (Ticks c es h) a g r n =
       there = told_silent t start Host l.host silent n.tolds.there;
     } in
     let zero_ok : Ok (t ++ start) = ok_silent t start n.ok silent in
-    let zero_all : AllOk t start = quiet_all t start n.ok quiet in
     let near : Link = ticks_at_controller aged_link c.turns c.ending in
     let one = step_tick aged_link c.turns c.ending a.0.0 a.0.1 g.controller rests in
     let one_out = tick_told (t ++ start) Controller aged_link c a.0 (record { tells = g.controller; rests = rests; sound = n.sounds.controller }) zero_told in
@@ -455,19 +445,17 @@ note_event t l (Ticks c es h) a g r n =
     let next : Reached (core_of (happens l (Ticks c es h))) = subst Reached (sym st.core)
     (reached_more (core_of l) (core_event l (Ticks c es h)) st.allowed r) in
     let ok : Ok (t ++ event_entries l (Ticks c es h)) = reached_ok (t ++ event_entries l (Ticks c es h)) (happens l (Ticks c es h)) st.good next tolds in
-    let R : List Entry → Type 0 = λ z. Ok z in
-    let last_all : AllOk u fs = between u fs Host two.ok (subst R (sym all) ok) (one_tick Host (exchanged m) h) three.few in
+    let last_all : AllOk u fs = between u fs Host two.ok (subst (λ z. Ok z) (sym all) ok) (one_tick Host (exchanged m) h) three.few in
     let rest_all : AllOk (t ++ start) (cs ++ (ds ++ fs)) =
     all_then (t ++ start) cs (ds ++ fs) one_all (all_then ((t ++ start) ++ cs) ds fs two.all last_all) in
     let whole : start ++ (cs ++ (ds ++ fs)) ≡ event_entries l (Ticks c es h) = ap (λ z. Tick ∷ z) (append_assoc ps bs (cs ++ (ds ++ fs))) in
-    let S : List Entry → Type 0 = λ z. AllOk t z in
     record {
       noted = record {
         tolds = tolds;
         sounds = record { controller = subst H (sym last.host) two.stands.sound; host = sound_tick (exchanged m) h a.2 there.sound };
         ok = ok;
       };
-      all = subst S whole (all_then t start (cs ++ (ds ++ fs)) zero_all rest_all);
+      all = subst (λ z. AllOk t z) whole (all_then t start (cs ++ (ds ++ fs)) (quiet_all t start n.ok quiet) rest_all);
     }
 note_event t l (TicksWithout es h) a g r n =
     let near : Link = aged l in
@@ -482,9 +470,7 @@ note_event t l (TicksWithout es h) a g r n =
       here = told_silent t start Controller l.controller silent n.tolds.here;
       there = told_silent t start Host l.host silent n.tolds.there;
     } in
-    let one_ok : Ok (t ++ start) = ok_silent t start n.ok silent in
-    let one_all : AllOk t start = quiet_all t start n.ok quiet in
-    let two = all_told es (t ++ start) near a.1 (without_tick l a.0 g r n.sounds) g.host one_told one_ok in
+    let two = all_told es (t ++ start) near a.1 (without_tick l a.0 g r n.sounds) g.host one_told (ok_silent t start n.ok silent) in
     let ds : List Entry = entries_of_events Controller near es in
     let m : Link = all_at_controller near es in
     let H : NumberedEnd → Type 0 = λ z. Sound z.side in
@@ -501,18 +487,15 @@ note_event t l (TicksWithout es h) a g r n =
     let st = event_step l e a g r in
     let next : Reached (core_of (happens l e)) = subst Reached (sym st.core) (reached_more (core_of l) (core_event l e) st.allowed r) in
     let ok : Ok (t ++ event_entries l e) = reached_ok (t ++ event_entries l e) (happens l e) st.good next tolds in
-    let R : List Entry → Type 0 = λ z. Ok z in
-    let last_all : AllOk u fs = between u fs Host two.ok (subst R (sym all) ok) (one_tick Host (exchanged m) h) three.few in
-    let rest_all : AllOk (t ++ start) (ds ++ fs) = all_then (t ++ start) ds fs two.all last_all in
+    let last_all : AllOk u fs = between u fs Host two.ok (subst (λ z. Ok z) (sym all) ok) (one_tick Host (exchanged m) h) three.few in
     let whole : start ++ (ds ++ fs) ≡ event_entries l e = ap (λ z. Tick ∷ z) (append_assoc ps bs (ds ++ fs)) in
-    let S : List Entry → Type 0 = λ z. AllOk t z in
     record {
       noted = record {
         tolds = tolds;
         sounds = record { controller = subst H (sym last.host) two.stands.sound; host = sound_tick (exchanged m) h a.2 there.sound };
         ok = ok;
       };
-      all = subst S whole (all_then t start (ds ++ fs) one_all rest_all);
+      all = subst (λ z. AllOk t z) whole (all_then t start (ds ++ fs) (quiet_all t start n.ok quiet) (all_then (t ++ start) ds fs two.all last_all));
     }
 note_event t l (Activate power c id h) a g r n =
     let x : EndEvent = EndStep (Starts power) c.turns c.ending in
@@ -567,10 +550,9 @@ note_events [] t l a w =
 note_events (e ∷ es) t l a w =
     let u : List Entry = event_entries l e in
     let v : List Entry = entries (happens l e) es in
-    let first = note_event t l e a.0 w.good w.reached w.noted in
     let more = note_events es (t ++ u) (happens l e) a.1 (goes_on l e a.0 w) in
     let P : List Entry → Type 0 = λ z. Noted z (after_link_events (happens l e) es) in
-    record { noted = subst P (append_assoc t u v) more.noted; all = all_then t u v first.all more.all }
+    record { noted = subst P (append_assoc t u v) more.noted; all = all_then t u v (note_event t l e a.0 w.good w.reached w.noted).all more.all }
 
 pub start_noted : (l : Link) → IsStart l → Noted (first_entries l.controller.side.role) l
 start_noted l s = grind arith

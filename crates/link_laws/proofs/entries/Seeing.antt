@@ -46,21 +46,10 @@ plain_map f (x ∷ xs) p s = ap (λ z. see_all z (map f xs)) (p x s) ∙ plain_m
 plain_told : (who : End) (n : ℕ) (r : Report) (acked : ℕ) → Plain (told who n r acked)
 plain_told who n r acked =
     let got = plain_map (Got who n) r.got (λ m s. refl) in
-    let a = plain-append (if_so (nat_lt 0 r.acked) (Acked who n acked)) (map (Got who n) r.got)
-    (plain_so (nat_lt 0 r.acked) (Acked who n acked) (λ s. refl)) got in
-    let b = plain-append (map (GaveUp who) (option_to_list r.gave_up)) (if_so (nat_lt 0 r.acked) (Acked who n acked) ++ map (Got who n) r.got)
-    (plain_map (GaveUp who) (option_to_list r.gave_up) (λ m s. refl)) a in
-    let c = plain-append (if_so r.became_active (Active who))
-    (map (GaveUp who) (option_to_list r.gave_up) ++ (if_so (nat_lt 0 r.acked) (Acked who n acked) ++ map (Got who n) r.got))
-    (plain_so r.became_active (Active who) (λ s. refl)) b in
-    let d = plain-append (if_so r.began (Up who n))
-    (if_so r.became_active (Active who)
-    ++ (map (GaveUp who) (option_to_list r.gave_up) ++ (if_so (nat_lt 0 r.acked) (Acked who n acked) ++ map (Got who n) r.got)))
-    (plain_so r.began (Up who n) (λ s. refl)) c in
     plain-append (map (Down who) (option_to_list r.ended))
     (if_so r.began (Up who n) ++ (if_so r.became_active (Active who)
     ++ (map (GaveUp who) (option_to_list r.gave_up) ++ (if_so (nat_lt 0 r.acked) (Acked who n acked) ++ map (Got who n) r.got))))
-    (plain_map (Down who) (option_to_list r.ended) (λ m s. refl)) d
+    (plain_map (Down who) (option_to_list r.ended) (λ m s. refl)) (grind arith)
 
 plain_turn : (who : End) (n : ℕ) (e : LinkEnd) (t : Turn) → Plain (turn_entry who n e t)
 plain_turn who n e t s = grind arith
@@ -94,9 +83,6 @@ puts_seen who (c ∷ cs) l =
 
 -- ### A step
 
-ended_seen : (who : End) (l : Link) (b : Bool) → seen_as who (with_ended l b) ≡ seen_as who l
-ended_seen who l b = grind arith
-
 -- both wires are empty
 abbrev emptied : Link → Link
 emptied l = record l { to_controller = []; to_host = [] }
@@ -109,10 +95,6 @@ ending_seen : (who : End) (l : Link) (e : LinkEnd) (ending : Ending) → see_all
 ending_seen who l e GoesOut = puts_seen who (frames_out e) l ∙ sym (let h0 = (put_all l (frames_out e)) in let h1 = (sent_all e) in grind arith)
 ending_seen who l e CutOff = grind arith
 
-rest_seen : (who : End) (l : Link) (e : LinkEnd) (ts : List Turn) (ending : Ending)
-    → see_all (seen_as who l) (rest_entries who l e ts ending) ≡ seen_as who (finished l (turned e ts) ending)
-rest_seen who l e ts ending = grind (arith, see_all-append, number_of, turned, plain_turns, ending_seen)
-
 -- after what is told of an input
 told_seen : (who : End) (l k : Link) (h : NumberedEnd) (i : LinkInput) (e : LinkEnd) (ts : List Turn) (ending : Ending) → seen_as who k ≡ seen_as who l
     → see_all (seen_as who l) (told_of who h i ++ rest_entries who k e ts ending) ≡ seen_as who (finished k (turned e ts) ending)
@@ -120,14 +102,14 @@ told_seen who l k h i e ts ending same =
     see_all-append (seen_as who l) (told_of who h i) (rest_entries who k e ts ending)
     ∙ (ap (λ s. see_all s (rest_entries who k e ts ending))
     (plain_told who (number_of h) (report h.side i) (whole_acked (after_input h.side i)) (seen_as who l) ∙ sym same)
-    ∙ rest_seen who k e ts ending)
+    ∙ (grind (arith, see_all-append, number_of, turned, plain_turns, ending_seen)))
 
 pub step_seen : (who : End) (l : Link) (comes : Comes) (ts : List Turn) (ending : Ending)
     → see_all (seen_as who l) (step_entries who l comes ts ending) ≡ seen_as who (steps_at_controller l comes ts ending)
 step_seen who l (AsksReset window) ts ending =
     let i : LinkInput = Reset window in
     told_seen who l (with_ended l (is_some (ended_by l.controller.side i))) l.controller i (after_input l.controller.side i) ts ending
-    (ended_seen who l (is_some (ended_by l.controller.side i)))
+    (grind arith)
 step_seen who l (Starts value) ts ending = restart who
   where
     i : LinkInput
@@ -160,16 +142,15 @@ step_seen who l Stops ts ending = restart who
     restart : (who : End) → see_all (seen_as who l) (step_entries who l Stops ts ending) ≡ seen_as who (steps_at_controller l Stops ts ending)
     restart Controller = rest Controller
     restart Host = rest Host
-step_seen who l NoInput ts ending = rest_seen who l l.controller.side ts ending
+step_seen who l NoInput ts ending = grind (arith, see_all-append, number_of, turned, plain_turns, ending_seen)
 step_seen who l NextFrame ts ending =
     by_list {P = see_all (seen_as who l) (step_entries who l NextFrame ts ending) ≡ seen_as who (steps_at_controller l NextFrame ts ending)} l.to_controller
     (λ q. rw q refl) (λ x xs q.
     let i : LinkInput = Take x.frame in
     let h : NumberedEnd = record l.controller { took = took_with l.controller.took x } in
     let k : Link = left_after l x xs in
-    let rest : List Entry = told_of who h i ++ rest_entries who k (after_input l.controller.side i) ts ending in
     ap (see_all (seen_as who l)) (some x xs q)
-    ∙ (ap (λ s. see_all s rest) (grind arith)
+    ∙ (ap (λ s. see_all s (told_of who h i ++ rest_entries who k (after_input l.controller.side i) ts ending)) (grind arith)
     ∙ (told_seen who (took_link x xs) k h i (after_input l.controller.side i) ts ending (grind arith)
     ∙ ap (seen_as who) (sym (rw q refl)))))
   where
@@ -194,7 +175,7 @@ pub tick_seen : (who : End) (l : Link) (node : Node)
 tick_seen who l node =
     let i : LinkInput = HasTick in
     told_seen who l (with_ended l (is_some (ended_by l.controller.side i))) l.controller i (after_input l.controller.side i) node.turns node.ending
-    (ended_seen who l (is_some (ended_by l.controller.side i)))
+    (grind arith)
 
 -- ## Along each wire the ages of frames don't rise, and what is seen of a link is what it keeps
 
@@ -243,9 +224,7 @@ ages_step l NextFrame ts ending a =
     let y : Young 4 (x ∷ xs) = subst (Young 4) q a.near in
     let less : Ages (record l { to_controller = xs }) = record { near = young_later x.age 4 xs y.0 y.1; there = a.there } in
     let b = ages_ended (record l { to_controller = xs }) (is_some (ended_by l.controller.side (Take x.frame))) less in
-    let c : Ages k = record { near = b.near; there = b.there } in
-    let d = ages_finished k (turned (after_input l.controller.side (Take x.frame)) ts) ending c in
-    rw q d)
+    rw q (ages_finished k (turned (after_input l.controller.side (Take x.frame)) ts) ending (record { near = b.near; there = b.there })))
 ages_step l (AsksReset window) ts ending a =
     ages_finished (with_ended l (is_some (ended_by l.controller.side (Reset window)))) (turned (after_input l.controller.side (Reset window)) ts) ending
     (ages_ended l (is_some (ended_by l.controller.side (Reset window))) a)
@@ -361,8 +340,7 @@ event_seen l (Ticks c es h) a =
     (tick_seen Host (exchanged m) h) in
     let three = then (kept (aged l)) (kept near) (kept (happens l (Ticks c es h))) (tick_entries Controller (aged l) c)
     (entries_of_events Controller near es ++ last) (tick_seen Controller (aged l) c) four in
-    let rest : List Entry = tick_entries Controller (aged l) c ++ (entries_of_events Controller near es ++ last) in
-    behind_aged l rest (kept (happens l (Ticks c es h))) a three
+    behind_aged l (tick_entries Controller (aged l) c ++ (entries_of_events Controller near es ++ last)) (kept (happens l (Ticks c es h))) a three
 event_seen l (TicksWithout es h) a =
     let m : Link = all_at_controller (aged l) es in
     let last : List Entry = tick_entries Host (exchanged m) h in

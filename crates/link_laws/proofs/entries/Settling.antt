@@ -2,15 +2,15 @@
 use Rattle.std.specs.Prelude.{◌+◌, ◌||◌}
 use Rattle.link_laws.proofs.Words.{Act, ActEvent, ActTake, Activation, AreSendableTurns, Asked, AsksReset, Bool, Clt, Control, CoreActs, CoreDeliver}
 use Rattle.link_laws.proofs.Words.{CoreEndEvent, CoreLink, CoreLose, CoreTurn, Cut, CutOff, Down as IsDown, Due, Emit, End, EndEvent, EndState, Entry, Fragment}
-use Rattle.link_laws.proofs.Words.{GoesOut, HasTick, IsAllowed, IsOwn, Link, LinkEnd, LinkState, List, Lose, Loss, Lost, NextFrame, NoInput, None, Offer}
+use Rattle.link_laws.proofs.Words.{GoesOut, HasTick, IsAllowed, IsOwn, Link, LinkEnd, LinkState, List, Lose, Lost, NextFrame, NoInput, None, Offer}
 use Rattle.link_laws.proofs.Words.{OnWire, Option, Refused, Reset, Restarted, Role, Rr_due, Rset_due, SetReady, Some, Starts, Step, Stops, Take, TooMany, Turn}
 use Rattle.link_laws.proofs.Words.{Turns as CoreTurns, [], act_answer, activated, after_input, ap, arith, core_happens_here, core_here, core_of, core_reset}
 use Rattle.link_laws.proofs.Words.{core_step, core_take, core_turned, core_turns, drop, due_left, ended_by, false, first_lost, frames_of, frames_out}
 use Rattle.link_laws.proofs.Words.{happens_at_controller, has_taken, heard, here_entries, if_up, if◌then◌else◌, inl, input_entries, inr, is_open, is_rset}
 use Rattle.link_laws.proofs.Words.{is_some, is_waiting, left_after, length, length-append, list_any, most_frames, moved, nat_lt, not, option_to_list, overflows}
-use Rattle.link_laws.proofs.Words.{put, put_down, put_entries, puts_entries, refl, reset_by, reset_refusal, reset_with, rest_entries, role_after}
+use Rattle.link_laws.proofs.Words.{put, put_down, put_entries, puts_entries, refl, reset_by, reset_refusal, reset_with, rest_entries}
 use Rattle.link_laws.proofs.Words.{shdlc_put as core_put, shdlc_put_all as core_put_all, shdlc_turn as core_turn, step_entries, stopped, subst, suc, sure_all}
-use Rattle.link_laws.proofs.Words.{sure_here, sure_out, sure_put, sure_tick, sure_turns, sym, take_answer, taken, taken_entries, tick_answer, ticked, told_of}
+use Rattle.link_laws.proofs.Words.{sure_here, sure_put, sure_tick, sure_turns, sym, take_answer, taken, taken_entries, tick_answer, ticked, told_of}
 use Rattle.link_laws.proofs.Words.{took, took_with, true, true≢false, turn_entries, turned, window_of, with_ended, withholds, ℕ, ◌&&◌, ◌++◌, ◌∙◌, ◌∷◌, ◌≡◌, ◌⊎◌}
 use Rattle.link_laws.specs.places.Wire.{is_act}
 use Rattle.link_laws.proofs.Cases.{by_list, by_phase, by_test}
@@ -18,9 +18,8 @@ use Rattle.link_laws.proofs.entries.Disturbing.{left_core}
 use Rattle.link_laws.proofs.entries.Noting.{reset_role}
 use Rattle.link_laws.proofs.entries.Running.{Before, comes_first}
 use Rattle.link_laws.proofs.machine.Reports.{shdlc_is as shdlc_moved}
-use Rattle.link_laws.proofs.machine.Runs.{opened}
 use Rattle.link_laws.proofs.messages.ActsInOrder.{ActsInOrder}
-use Rattle.link_laws.proofs.messages.Project.{Now, Tells, among_now, due_now, frames_now, mid_moved, moved_role, put-core, ticked_keeps, turned_role, turns_mid}
+use Rattle.link_laws.proofs.messages.Project.{Tells, among_now, moved_role, put-core, turned_role, turns_mid}
 use Rattle.link_laws.proofs.messages.Finishing.{reset_tells, tick_open}
 use Rattle.link_laws.proofs.messages.Runs.{rests_of}
 use Rattle.link_laws.proofs.messages.Steps.{ComesFirst, Heard, Rests, act_mid, counted_is, heard_end, heard_is, is_shdlc, no_fault_first, polite, role_closes}
@@ -110,17 +109,13 @@ none_over who (y ∷ ys) a b s =
     P : Bool → Type 0
     P z = Spared (if z then first_lost who TooMany (y ∷ (ys ++ a ∷ [])) else [])
 
-put_sure : (s : Bool) (who : End) (l : Link) (c : Control) → s ≡ true → Spared (put_entries who l c) → sure_put s (core_of l) c ≡ true
-put_sure s who l c p q = grind arith
-
 -- all frames that go out
 flush_sure : (cs : List Control) (s : Bool) (who : End) (l : Link) → s ≡ true → Spared (puts_entries who l cs) → sure_all s (core_of l) cs ≡ true
 flush_sure [] s who l p q = p
 flush_sure (c ∷ cs) s who l p q =
     let a = spared_parts (put_entries who l c) (puts_entries who (put l c) cs) q in
     let m : Bool = sure_put s (core_of l) c in
-    let P : CoreLink → Type 0 = λ k. sure_all m k cs ≡ true in
-    subst P (put-core l c) (flush_sure cs m who (put l c) (put_sure s who l c p a.0) a.1)
+    subst (λ k. sure_all m k cs ≡ true) (put-core l c) (flush_sure cs m who (put l c) (grind arith) a.1)
 
 pub rest_sure : (s m : Bool) (who : End) (l : Link) (e : LinkEnd) (ts : List Turn) → m ≡ sure_all s (core_of l) (frames_out (turned e ts)) → s ≡ true
     → Spared (rest_entries who l e ts GoesOut) → m ≡ true
@@ -129,11 +124,6 @@ rest_sure s m who l e ts is p q = grind (arith, spared_parts, turned, flush_sure
 sure_all-append : (s : Bool) (c : CoreLink) (xs ys : List Control) → sure_all (sure_all s c xs) (core_put_all c xs) ys ≡ sure_all s c (xs ++ ys)
 sure_all-append s c [] ys = refl
 sure_all-append s c (x ∷ xs) ys = sure_all-append (sure_put s c x) (core_put c x) xs ys
-
--- what goes out of an end with this frame of activation
-out_sure : (n : Bool) (c : CoreLink) (o : Option Activation) (g : LinkEnd) (s : EndState) → g.acts ≡ due_now o → g.shdlc ≡ s
-    → sure_out (sure_all n c (frames_now o)) (core_put_all c (frames_now o)) s ≡ sure_all n c (frames_out g)
-out_sure n c o g s acts is = grind (arith, sure_all-append, frames_of, among_now)
 
 -- ### Steps
 
@@ -171,7 +161,6 @@ take_sure n l ts x xs a comes open_role = go x.frame refl
         let s : EndState = core_turned (taken e.shdlc x.frame) us in
         let shdlc : (turned f ts).shdlc ≡ s = tm.is ∙ ap (λ z. core_turned z us) heard.shdlc in
         let k_is : left_core l x xs (is_some (take_answer e.shdlc x.frame).ended) ≡ k = ap (left_core l x xs) heard.ended ∙ sym (left b ends) in
-        let first : sure_here n c (CoreDeliver us) ≡ sure_out n (left_core l x xs (is_some (take_answer e.shdlc x.frame).ended)) s = rw comes.first refl in
         ap (sure_turns n c) (take_open x.frame q o ∙ ap (λ g. CoreDeliver (core_turns g ts) ∷ []) is)
         ∙ (grind arith)
 
@@ -189,11 +178,9 @@ take_sure n l ts x xs a comes open_role = go x.frame refl
     acts : (act : Activation) (again : Bool) → x.frame ≡ Act act again → Goal
     acts act again q =
         let event : ActEvent = ActTake act again in
-        let down = polite e x xs act again q comes.polite in
         let o : Option Activation = (act_answer e.role event).send in
-        let closed : is_open (role_after e.role event) ≡ false → e.shdlc.phase ≡ IsDown = λ z. by (role_closes e.role act again z) in
         let f : LinkEnd = activated e event in
-        let m = act_mid e event comes.tells.now comes.rests.due down closed in
+        let m = act_mid e event comes.tells.now comes.rests.due (polite e x xs act again q comes.polite) (λ z. by (role_closes e.role act again z)) in
         let is : took e x.frame ≡ f = ap (took e) q in
         let us : List CoreTurn = core_turns f ts in
         let tm = turns_mid o f ts a m.mid in
@@ -203,13 +190,10 @@ take_sure n l ts x xs a comes open_role = go x.frame refl
         let counts : took_with l.controller.took x ≡ l.controller.took = no_number (ap is_rset q) in
         let gone : CoreLink = record c { to_controller = xs } in
         let k_is : k ≡ gone = left false ends ∙ ap (λ z. record (record c { to_controller = xs }) { controller = record c.controller { took = z } }) counts in
-        let list : core_take e x.frame ts ≡ CoreLose ∷ CoreActs (option_to_list o) us ∷ [] = ap (λ y. core_take e y ts) q in
-        let lost : sure_here n c CoreLose ≡ n = grind arith in
-        let link : core_happens_here c CoreLose ≡ gone = ap (λ z. record c { to_controller = drop 1 z }) comes.first in
-        ap (sure_turns n c) list
-        ∙ (ap (λ z. sure_here z (core_happens_here c CoreLose) (CoreActs (option_to_list o) us)) lost
-        ∙ (ap (λ z. sure_here n z (CoreActs (option_to_list o) us)) link
-        ∙ (out_sure n gone o (turned f ts) s tm.mid.acts same
+        ap (sure_turns n c) (ap (λ y. core_take e y ts) q)
+        ∙ (ap (λ z. sure_here z (core_happens_here c CoreLose) (CoreActs (option_to_list o) us)) (grind arith)
+        ∙ (ap (λ z. sure_here n z (CoreActs (option_to_list o) us)) (ap (λ z. record c { to_controller = drop 1 z }) comes.first)
+        ∙ ((grind (arith, sure_all-append, frames_of, among_now))
         ∙ (ap (λ z. sure_all n z (frames_out (turned f ts))) (sym k_is)
         ∙ ap (λ g. sure_all n k (frames_out (turned g ts))) (sym is)))))
       where
@@ -235,7 +219,7 @@ idle_sure : (n : Bool) (l : Link) (ts : List Turn) → AreSendableTurns ts → T
 idle_sure n l ts a h =
     let e : LinkEnd = l.controller.side in
     let tm = turns_mid None e ts a h.now in
-    out_sure n (core_of l) None (turned e ts) (core_turned e.shdlc (core_turns e ts)) tm.mid.acts tm.is
+    grind arith
 
 -- an end that is open has its tick
 pub tick_sure : (n : Bool) (l : Link) (ts : List Turn) → AreSendableTurns ts → Tells l.controller → is_open l.controller.side.role ≡ true
@@ -243,15 +227,12 @@ pub tick_sure : (n : Bool) (l : Link) (ts : List Turn) → AreSendableTurns ts �
     ≡ sure_all n (core_of (with_ended l (is_some (ended_by l.controller.side HasTick)))) (frames_out (turned (after_input l.controller.side HasTick) ts))
 tick_sure n l ts a h o =
     let e : LinkEnd = l.controller.side in
-    let t = tick_open e o in
     let b : Bool = is_some (tick_answer e.shdlc).ended in
     let f : LinkEnd = moved e b (ticked e.shdlc) in
     let us : List CoreTurn = core_turns f ts in
-    let now : Now f = mid_moved e b (ticked e.shdlc) h.now (ticked_keeps e.shdlc h.now.idle) (opened e.role ((ticked e.shdlc).phase ≡ IsDown) o) in
-    let tm = turns_mid None f ts a now in
-    let s : EndState = core_turned (ticked e.shdlc) us in
-    let is : (turned f ts).shdlc ≡ s = tm.is ∙ ap (λ z. core_turned z us) (shdlc_moved e b (ticked e.shdlc)) in
-    ap (λ g. sure_tick n (Some (core_turns g ts)) (core_of l)) t.0
+    let tm = turns_mid None f ts a (grind arith) in
+    let is : (turned f ts).shdlc ≡ (core_turned (ticked e.shdlc) us) = tm.is ∙ ap (λ z. core_turned z us) (shdlc_moved e b (ticked e.shdlc)) in
+    ap (λ g. sure_tick n (Some (core_turns g ts)) (core_of l)) (tick_open e o).0
     ∙ (grind arith)
 
 -- ## From a reset on that finds the other end active and not waiting its answer is not kept back, where nothing is noted that withholds it
@@ -294,8 +275,7 @@ puts_none : (cs : List Control) (who : End) (l : Link) → Spared (puts_entries 
 puts_none [] who l q = refl
 puts_none (c ∷ cs) who l q =
     let a = spared_parts (put_entries who l c) (puts_entries who (put l c) cs) q in
-    let x = (or_none (is_rset c) _ a.0).0 in
-    rw x (puts_none cs who (put l c) a.1)
+    rw ((or_none (is_rset c) _ a.0).0) (puts_none cs who (put l c) a.1)
 
 -- a reset that isn't refused puts RSET on the link
 reset_puts : (who : End) (l : Link) (window : Option ℕ) (ts : List Turn) → AreSendableTurns ts → Tells l.controller → Rests l.controller.side.shdlc
@@ -305,24 +285,18 @@ reset_puts who l window ts sendable h r q s =
     let w : ℕ = window_of e window in
     let k : Link = with_ended l (is_some (ended_by e (Reset window))) in
     let f : LinkEnd = reset_by e w in
-    let is : after_input e (Reset window) ≡ f = rw q refl in
-    let b : Bool = is_some (if_up e.shdlc Asked) in
-    let t = reset_tells e q in
-    let now : Now f = grind arith in
     let us : List CoreTurn = core_turns f ts in
-    let tm = turns_mid None f ts sendable now in
+    let tm = turns_mid None f ts sendable (grind arith) in
     let z : EndState = core_turned (reset_with e.shdlc w) us in
-    let shdlc : (turned f ts).shdlc ≡ z = tm.is ∙ ap (λ y. core_turned y us) (shdlc_moved e b (reset_with e.shdlc w)) in
+    let shdlc : (turned f ts).shdlc ≡ z = tm.is ∙ ap (λ y. core_turned y us) (shdlc_moved e (is_some (if_up e.shdlc Asked)) (reset_with e.shdlc w)) in
     let frames : frames_out (turned f ts) ≡ frames_of most_frames z = grind arith in
     let a = spared_parts (told_of who l.controller (Reset window)) (rest_entries who k (after_input e (Reset window)) ts GoesOut) s in
     let out =
     spared_parts (turn_entries who _ (after_input e (Reset window)) ts) (puts_entries who k (frames_out (turned (after_input e (Reset window)) ts))) a.1 in
-    let none : list_any is_rset (frames_out (turned (after_input e (Reset window)) ts)) ≡ false =
-    puts_none (frames_out (turned (after_input e (Reset window)) ts)) who k out.1 in
-    let due = first_due us (reset_with e.shdlc w) [] (reset_due e.shdlc w t.1 r.due) in
+    let due = first_due us (reset_with e.shdlc w) [] (reset_due e.shdlc w (reset_tells e q).1 r.due) in
     let some : list_any is_rset (frames_out (turned (after_input e (Reset window)) ts)) ≡ true =
-    ap (λ g. list_any is_rset (frames_out (turned g ts))) is ∙ (ap (λ y. list_any is_rset y) frames ∙ first_rset 11 z due.0 due.1) in
-    true≢false (sym some ∙ none)
+    ap (λ g. list_any is_rset (frames_out (turned g ts))) (rw q refl) ∙ (ap (λ y. list_any is_rset y) frames ∙ first_rset 11 z due.0 due.1) in
+    true≢false (sym some ∙ (puts_none (frames_out (turned (after_input e (Reset window)) ts)) who k out.1))
 
 -- a reset that isn't refused, where the other end isn't waiting
 pub reset_sure : (s : Bool) (l : Link) (window : Option ℕ) (ts : List Turn) → reset_refusal l.controller.side ≡ None → is_waiting l.host.side.shdlc ≡ false
@@ -348,13 +322,12 @@ refused_spares {s} who l window ts q a h p sp =
     let c : CoreLink = core_of l in
     let b : Bool = is_some (ended_by e (Reset window)) in
     let f : LinkEnd = after_input e (Reset window) in
-    let same : f ≡ e = rw q refl in
     let ended : b ≡ false = rw q refl in
     let flag : sure_turns s c (core_here l (Step (AsksReset window) ts GoesOut)) ≡ sure_all s (core_of (with_ended l b)) (frames_out (turned f ts)) =
     ap (λ o. sure_turns s c (core_reset o e (window_of e window) ts GoesOut)) q
     ∙ (idle_sure s l ts a h
     ∙ (ap (λ z. sure_all s (core_of (with_ended l z)) (frames_out (turned e ts))) (sym ended)
-    ∙ ap (λ g. sure_all s (core_of (with_ended l b)) (frames_out (turned g ts))) (sym same))) in
+    ∙ ap (λ g. sure_all s (core_of (with_ended l b)) (frames_out (turned g ts))) (sym (rw q refl)))) in
     rest_sure s (sure_turns s c (core_here l (Step (AsksReset window) ts GoesOut))) who (with_ended l b) f ts flag p
     (spared_parts (told_of who l.controller (Reset window)) (rest_entries who (with_ended l b) f ts GoesOut) sp).1
 
@@ -384,10 +357,6 @@ own_spares s who l (Step (AsksReset window) ts GoesOut) o a h r k st = (
     go (Some why) q p sp = refused_spares who l window ts q a.1.0 h p sp
     go None q p sp = absurd (reset_puts who l window ts a.1.0 h r q sp)
 
-lost_spares : (s : Bool) (who : End) (l : Link) (why : Loss) → s ≡ true → Spared (here_entries who l (Lose why))
-    → sure_turns s (core_of l) (core_here l (Lose why)) ≡ true
-lost_spares s who l why p q = grind arith
-
 -- a frame is taken
 frame_spares : (s : Bool) (who : End) (l : Link) (ts : List Turn) → AreSendableTurns ts → Before l → is_open l.controller.side.role ≡ true
     → Spares (step_entries who l NextFrame ts GoesOut) s (sure_turns s (core_of l) (core_step l NextFrame ts GoesOut))
@@ -402,12 +371,10 @@ frame_spares s who l ts a b k =
     let some : step_entries who l NextFrame ts GoesOut ≡ taken_entries who l x xs ts GoesOut = rw r refl in
     let next : happens_at_controller l (Step NextFrame ts GoesOut) ≡ has_taken l x xs ts GoesOut = rw r refl in
     let m : Link = left_after l x xs in
-    let h = record l.controller { took = m.controller.took } in
-    let u : List Entry = told_of who h (Take x.frame) in
+    let u : List Entry = told_of who (record l.controller { took = m.controller.took }) (Take x.frame) in
     let v : List Entry = rest_entries who m (took e x.frame) ts GoesOut in
     let P : List Entry → Type 0 = λ z. Spared z in
-    let C : List OnWire → Type 0 = λ z. ActsInOrder e.role l.host.side.role z l.to_host in
-    let wires : ActsInOrder e.role l.host.side.role (x ∷ xs) l.to_host = subst C r b.in_order in
+    let wires : ActsInOrder e.role l.host.side.role (x ∷ xs) l.to_host = subst (λ z. ActsInOrder e.role l.host.side.role z l.to_host) r b.in_order in
     let is = take_sure s l ts x xs a (comes_first l x xs r b) k in (
       λ p q. ap (sure_turns s c) list
           ∙ (no_more (core_take e x.frame ts) s c
@@ -431,15 +398,14 @@ cut_spares s who l ts k q =
     by_list l.to_controller (grind arith)
     (λ x xs r.
     let some : step_entries who l NextFrame ts CutOff ≡ taken_entries who l x xs ts CutOff = rw r refl in
-    let P : List Entry → Type 0 = λ z. Stands z in
     let m : Link = left_after l x xs in
     let u : List Entry = told_of who (record l.controller { took = m.controller.took }) (Take x.frame) in
-    absurd (rest_cut u who m (took l.controller.side x.frame) ts (subst P some q)))
+    absurd (rest_cut u who m (took l.controller.side x.frame) ts (subst (λ z. Stands z) some q)))
 
 -- what happens at an end
 pub here_spares : (s : Bool) (who : End) (l : Link) (e : EndEvent) → IsAllowed l e → Before l → is_open l.controller.side.role ≡ true
     → Stands (here_entries who l e) → Spares (here_entries who l e) s (sure_turns s (core_of l) (core_here l e)) (happens_at_controller l e)
-here_spares s who l (Lose why) a b k st = (λ p sp. lost_spares s who l why p sp, k)
+here_spares s who l (Lose why) a b k st = (λ p sp. (grind arith), k)
 here_spares s who l (Step NextFrame ts GoesOut) a b k st = frame_spares s who l ts a.1.0 b k
 here_spares s who l (Step NextFrame ts CutOff) a b k st = cut_spares s who l ts k st
 here_spares s who l (Step (AsksReset window) ts ending) a b k st =

@@ -26,14 +26,8 @@ pub front_parts : {X : Type 0} (p u v : List X) → IsFrontOf p (u ++ v) → IsF
 front_parts p [] v f = inr (p, refl, f)
 front_parts [] (x ∷ u) v f = inl (x ∷ u, refl)
 front_parts (y ∷ p) (x ∷ u) v f =
-    let e = f.1 in
     let same : y ≡ x = cc in
-    let rest : p ++ f.0 ≡ u ++ v = cc in
-    go same (front_parts p u v (f.0, rest))
-  where
-    go : y ≡ x → IsFrontOf p u ⊎ ((q : List _) × (p ≡ u ++ q) × IsFrontOf q v)
-        → IsFrontOf (y ∷ p) (x ∷ u) ⊎ ((q : List _) × (y ∷ p ≡ (x ∷ u) ++ q) × IsFrontOf q v)
-    go same a = grind arith
+    let h0 = front_parts p u v (f.0, cc) in grind arith
 
 -- ### Entries of one end
 
@@ -75,19 +69,10 @@ one_told : (who : End) (k : ℕ) (r : Report) (acked : ℕ) → OfOne who (told 
 one_told who k r acked =
     let e = one-append who (if_so (nat_lt 0 r.acked) (Acked who k acked)) (map (Got who k) r.got)
     (one_so who (nat_lt 0 r.acked) (Acked who k acked) (λ n. let w = same_far who in rw w refl)) (one_got who k r.got) in
-    let d = one-append who (map (GaveUp who) (option_to_list r.gave_up)) (if_so (nat_lt 0 r.acked) (Acked who k acked) ++ map (Got who k) r.got)
-    (one_option who (GaveUp who) r.gave_up (λ x n. refl)) e in
-    let c = one-append who (if_so r.became_active (Active who))
-    (map (GaveUp who) (option_to_list r.gave_up) ++ (if_so (nat_lt 0 r.acked) (Acked who k acked) ++ map (Got who k) r.got))
-    (one_so who r.became_active (Active who) (λ n. refl)) d in
-    let b = one-append who (if_so r.began (Up who k))
-    (if_so r.became_active (Active who)
-    ++ (map (GaveUp who) (option_to_list r.gave_up) ++ (if_so (nat_lt 0 r.acked) (Acked who k acked) ++ map (Got who k) r.got)))
-    (one_so who r.began (Up who k) (λ n. refl)) c in
     one-append who (map (Down who) (option_to_list r.ended))
     (if_so r.began (Up who k) ++ (if_so r.became_active (Active who)
     ++ (map (GaveUp who) (option_to_list r.gave_up) ++ (if_so (nat_lt 0 r.acked) (Acked who k acked) ++ map (Got who k) r.got))))
-    (one_option who (Down who) r.ended (λ x n. refl)) b
+    (one_option who (Down who) r.ended (λ x n. refl)) (grind arith)
 
 one_turn : (who : End) (k : ℕ) (e : LinkEnd) (t : Turn) → OfOne who (turn_entry who k e t)
 one_turn who k e t = grind arith
@@ -109,11 +94,8 @@ AllFew t who u = (p : List Entry) → IsFrontOf p u → Few (t ++ p) who
 pub few_told : (t : List Entry) (who : End) (h : NumberedEnd) → Told t who h → Few t who
 few_told t who h b n =
     let q = b n in
-    let s = ap (λ (z : Book). z.sent) q in
-    let a = ap (λ (z : Book). z.acked) q in
-    let i = whole_few (talk_of h n).sent (talk_of h n).session.acked in
-    let l = ap (λ (ms : List Message). length ms) s in
-    omega (arith, a, l, i)
+    let l = ap (λ (ms : List Message). length ms) (ap (λ (z : Book). z.sent) q) in
+    omega (arith, (ap (λ (z : Book). z.acked) q), l, (whole_few (talk_of h n).sent (talk_of h n).session.acked))
 
 sent-append : (t u : List Entry) (who : End) (n : ℕ) → sent_noted (t ++ u) who n ≡ sent_noted t who n ++ sent_noted u who n
 sent-append t u who n = ap (λ (z : Book). z.sent) (read-append t u who n)
@@ -140,13 +122,9 @@ no_acked_read (e ∷ t) a who n = let q = acked-append (e ∷ []) t who n in let
 
 pub few_more : (t : List Entry) (who : End) (u : List Entry) → Few t who → NoAcked u → AllFew t who u
 few_more t who u f a p q n =
-    let P : List Entry → Type 0 = λ z. NoAcked z in
-    let none = no_acked_read p (no_acked_front p q.0 (subst P (sym q.1) a)) who n in
-    let i = f n in
     let s = ap (λ (ms : List Message). length ms) (sent-append t p who n) in
     let l = length-append (sent_noted t who n) (sent_noted p who n) in
-    let k = acked-append t p who n in
-    omega (arith, none, i, s, l, k)
+    omega (arith, (no_acked_read p (no_acked_front p q.0 (subst (λ z. NoAcked z) (sym q.1) a)) who n), (f n), s, l, (acked-append t p who n))
 
 -- each of these gives no message
 abbrev NoSent : List Entry → Type 0
@@ -167,17 +145,13 @@ no_sent_read (e ∷ t) a who n = sent-append (e ∷ []) t who n ∙ (ap (λ ms. 
 
 few_grown : (t : List Entry) (who : End) (u : List Entry) → Few (t ++ u) who → NoSent u → AllFew t who u
 few_grown t who u f a p q n =
-    let P : List Entry → Type 0 = λ z. NoSent z in
-    let mine = no_sent_read p (no_sent_front p q.0 (subst P (sym q.1) a)) who n in
-    let all = no_sent_read u a who n in
-    let i = f n in
-    let s = ap (λ (ms : List Message). length ms) (sent-append t p who n ∙ ap (λ ms. sent_noted t who n ++ ms) mine) in
-    let v = ap (λ (ms : List Message). length ms) (sent-append t u who n ∙ ap (λ ms. sent_noted t who n ++ ms) all) in
+    let mine = no_sent_read p (no_sent_front p q.0 (subst (λ z. NoSent z) (sym q.1) a)) who n in
+    let v = ap (λ (ms : List Message). length ms) (sent-append t u who n ∙ ap (λ ms. sent_noted t who n ++ ms) (no_sent_read u a who n)) in
     let k = acked-append t p who n in
     let m = acked-append t u who n in
     let w = acked-append p q.0 who n in
     let x = ap (λ z. acked_noted z who n) q.1 in
-    omega (arith, i, s, v, k, m, w, x)
+    omega (arith, (f n), (ap (λ (ms : List Message). length ms) (sent-append t p who n ∙ ap (λ ms. sent_noted t who n ++ ms) mine)), v, k, m, w, x)
 
 pub few_then : (t : List Entry) (who : End) (u v : List Entry) → AllFew t who u → AllFew (t ++ u) who v → AllFew t who (u ++ v)
 few_then t who u v a b p f = go (front_parts p u v f)
@@ -205,19 +179,10 @@ no_sent_told : (who : End) (k : ℕ) (r : Report) (acked : ℕ) → NoSent (told
 no_sent_told who k r acked =
     let e = no_sent-append (if_so (nat_lt 0 r.acked) (Acked who k acked)) (map (Got who k) r.got)
     (no_sent_so (nat_lt 0 r.acked) (Acked who k acked) (λ w n. refl)) (no_sent_got who k r.got) in
-    let d = no_sent-append (map (GaveUp who) (option_to_list r.gave_up)) (if_so (nat_lt 0 r.acked) (Acked who k acked) ++ map (Got who k) r.got)
-    (no_sent_option (GaveUp who) r.gave_up (λ x w n. refl)) e in
-    let c = no_sent-append (if_so r.became_active (Active who))
-    (map (GaveUp who) (option_to_list r.gave_up) ++ (if_so (nat_lt 0 r.acked) (Acked who k acked) ++ map (Got who k) r.got))
-    (no_sent_so r.became_active (Active who) (λ w n. refl)) d in
-    let b = no_sent-append (if_so r.began (Up who k))
-    (if_so r.became_active (Active who)
-    ++ (map (GaveUp who) (option_to_list r.gave_up) ++ (if_so (nat_lt 0 r.acked) (Acked who k acked) ++ map (Got who k) r.got)))
-    (no_sent_so r.began (Up who k) (λ w n. refl)) c in
     no_sent-append (map (Down who) (option_to_list r.ended))
     (if_so r.began (Up who k) ++ (if_so r.became_active (Active who)
     ++ (map (GaveUp who) (option_to_list r.gave_up) ++ (if_so (nat_lt 0 r.acked) (Acked who k acked) ++ map (Got who k) r.got))))
-    (no_sent_option (Down who) r.ended (λ x w n. refl)) b
+    (no_sent_option (Down who) r.ended (λ x w n. refl)) (grind arith)
 
 no_acked_turns : (who : End) (k : ℕ) (e : LinkEnd) (ts : List Turn) → NoAcked (turn_entries who k e ts)
 no_acked_turns who k e [] = tt
@@ -236,9 +201,8 @@ pub told_turns : (ts : List Turn) (t : List Entry) (who : End) (h : NumberedEnd)
 told_turns [] t who h a s b = told_silent t [] who h (λ w n. refl) b
 told_turns (x ∷ ts) t who h a s b =
     let p = sendable_first x ts a in
-    let one = told_turn t who h x p.0 s.is b in
     let k : NumberedEnd = with_side h (turn h.side x) in
-    let more = told_turns ts (t ++ turn_entry who (number_of h) h.side x) who k p.1 (sound_turn h.side x p.2 s) one in
+    let more = told_turns ts (t ++ turn_entry who (number_of h) h.side x) who k p.1 (sound_turn h.side x p.2 s) (told_turn t who h x p.0 s.is b) in
     let P : List Entry → Type 0 = λ u. Told u who (with_side h (turned h.side (x ∷ ts))) in
     subst P (append_assoc t (turn_entry who (number_of h) h.side x) (turn_entries who (number_of h) (turn h.side x) ts)) more
 
@@ -247,8 +211,7 @@ far_turns : (ts : List Turn) (t : List Entry) (who : End) (k : ℕ) (e : LinkEnd
 far_turns [] t who k e h b = told_silent t [] (far who) h (λ w n. refl) b
 far_turns (x ∷ ts) t who k e h b =
     let more = far_turns ts (t ++ turn_entry who k e x) who k (turn e x) h (turn_far t who k e x h b) in
-    let P : List Entry → Type 0 = λ u. Told u (far who) h in
-    subst P (append_assoc t (turn_entry who k e x) (turn_entries who k (turn e x) ts)) more
+    subst (λ u. Told u (far who) h) (append_assoc t (turn_entry who k e x) (turn_entries who k (turn e x) ts)) more
 
 pub sound_turns : (ts : List Turn) (e : LinkEnd) → AreSendableTurns ts → Sound e → Sound (turned e ts)
 sound_turns [] e a s = s
@@ -305,8 +268,7 @@ cut_told t who l e can b n = b n ∙ go e.shdlc.phase refl e.role refl can
     -- the end that is new
     at : Bool → Role → NumberedEnd
     at c r =
-        let m : Link = with_ended (with_controller l f) c in
-        record m.controller { side = new_link_end (renewed r) }
+        record (with_ended (with_controller l f) c).controller { side = new_link_end (renewed r) }
 
     new_down : (c : Bool) (r : Role) → CanEnd r CutOff → talk_of (at c r) n ≡ ended_talk (at c r).past n
     new_down c r can = grind arith
@@ -356,14 +318,11 @@ one_ending : (who : End) (l : Link) (e : LinkEnd) (ending : Ending) → OfOne wh
 one_ending who l e GoesOut = one_puts (frames_out e) who l
 one_ending who l e CutOff = ((λ n. refl), tt)
 
-one_rest : (who : End) (l : Link) (e : LinkEnd) (ts : List Turn) (ending : Ending) → OfOne who (rest_entries who l e ts ending)
-one_rest who l e ts ending = grind (arith, one-append, number_of, turned, one_turns, one_ending)
-
 pub one_input : (who : End) (l k : Link) (h : NumberedEnd) (i : LinkInput) (e : LinkEnd) (ts : List Turn) (ending : Ending)
     → OfOne who (told_of who h i ++ rest_entries who k e ts ending)
 one_input who l k h i e ts ending =
     one-append who (told_of who h i) (rest_entries who k e ts ending) (one_told who (number_of h) (report h.side i) (whole_acked (after_input h.side i)))
-    (one_rest who k e ts ending)
+    (grind (arith, one-append, number_of, turned, one_turns, one_ending))
 
 -- what is noted of a step is of its end
 pub one_step : (who : End) (l : Link) (comes : Comes) (ts : List Turn) (ending : Ending) → OfOne who (step_entries who l comes ts ending)
@@ -392,7 +351,7 @@ one_step who l (Starts v) ts ending = (
 )
 one_step who l Stops ts ending =
     ((λ n. refl), one_input who l (silent l (after_input l.controller.side Stop)) l.controller Stop (after_input l.controller.side Stop) ts ending)
-one_step who l NoInput ts ending = one_rest who l l.controller.side ts ending
+one_step who l NoInput ts ending = grind (arith, one-append, number_of, turned, one_turns, one_ending)
 
 ending_told : (t : List Entry) (who : End) (l : Link) (e : LinkEnd) (ending : Ending) → CanEnd e.role ending → (e.shdlc.phase ≡ IsUpNow → NoRset (frames_out e))
     → Told t who (with_side l.controller e) → Told (t ++ ending_entries who l e ending) who (finished l e ending).controller
@@ -476,17 +435,14 @@ input_told {t} {who} {l} {k} i {h} {ts} {ending} takes finishes s b =
     let here = told_input t who l.controller (with_side k.controller f) (is_some (ended_by e i)) (began_by e i) r takes.input s.is b.here in
     let there = told_far t who (number_of k.controller) r (whole_acked f) k.host (told_at t (far who) l.host k.host takes.host b.there) in
     let out = rest_told (t ++ us) who k f ts ending finishes here there in
-    let same : told_of who h i ≡ us = grind arith in
-    let P : List Entry → Type 0 = λ z. Tolds z who (finished k (turned f ts) ending) in
     let both : Out t (us ++ vs) who (finished k (turned f ts) ending) =
     record {
-      tolds = subst P (append_assoc t us vs) out.tolds;
+      tolds = subst (λ z. Tolds z who (finished k (turned f ts) ending)) (append_assoc t us vs) out.tolds;
       few =
           few_then t who us vs (few_grown t who us (few_told (t ++ us) who (with_side k.controller f) here)
           (no_sent_told who (number_of k.controller) r (whole_acked f))) out.few;
     } in
-    let Q : List Entry → Type 0 = λ z. Out t (z ++ vs) who (finished k (turned f ts) ending) in
-    subst Q (sym same) both
+    subst (λ z. Out t (z ++ vs) who (finished k (turned f ts) ending)) (sym (grind arith)) both
 
 pub one_fetched_acked : (s : EndState) → (fetched s).session.acked ≡ s.session.acked
 one_fetched_acked s = grind arith

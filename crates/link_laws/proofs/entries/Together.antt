@@ -1,7 +1,7 @@
 -- Where nothing disturbed a session all of it was delivered, and where nothing withheld the answer to a reset both ends are up.
 use Rattle.link_laws.proofs.Words.{Activate, AllAllowed, AllDelivered, AreOwn, AsksReset, AtController, AtHost, Bool, CanStart, Controller, CoreAtController}
 use Rattle.link_laws.proofs.Words.{CoreAtHost, CoreEndEvent, CoreLink, CoreTurn, CutOff, End, EndEvent, Ending, Entry, GoesOut, HasTick, Host, IsAllowed}
-use Rattle.link_laws.proofs.Words.{IsEvent, IsNode, IsQuiet, IsQuietSince, IsRead, IsStart, IsUicc, Link, LinkEnd, LinkEvent, LinkTogether, List, Losses, Node}
+use Rattle.link_laws.proofs.Words.{IsEvent, IsNode, IsQuietSince, IsRead, IsStart, IsUicc, Link, LinkEnd, LinkEvent, LinkTogether, List, Losses, Node}
 use Rattle.link_laws.proofs.Words.{NumberedEnd, OnWire, Option, Reset, ShdlcLinkEvent as CoreLinkEvent, Some, Starts, Step, Talk, Tick as CoreTick}
 use Rattle.link_laws.proofs.Words.{TickWithout as CoreTickWithout, Ticks, TicksWithout, Turn, Up as IsUpNow, [], after_input, after_link_events, aged}
 use Rattle.link_laws.proofs.Words.{aged_entries, all_at_controller, ap, append-nil, append_assoc, arith, core_after, core_aged, core_all, core_all_here}
@@ -60,16 +60,14 @@ all_knows : {kf : ℕ} (es : List EndEvent) (t : List Entry) (n : Losses) (l : L
     → Both (t ++ entries_of_events Controller l es) (noted_turns n (core_of l) (core_all l es)) (all_at_controller l es)
 all_knows [] t n l a s b = as_is (t ++ []) t n n l (append-nil t) refl b
 all_knows (e ∷ es) t n l a s b =
-    let one = own_step l e a.0 a.1 s in
     let m : Link = happens_at_controller l e in
     let u : List Entry = here_entries Controller l e in
     let v : List Entry = entries_of_events Controller m es in
     let k : Losses = noted_turns n (core_of l) (core_here l e) in
-    let first = own_step_knows t n l e a.0 a.1 (near_in_tick l s) b in
-    let more = all_knows es (t ++ u) k m a.2 (own_in_tick l e a.0 a.1 s) first in
+    let more = all_knows es (t ++ u) k m a.2 (own_in_tick l e a.0 a.1 s) (own_step_knows t n l e a.0 a.1 (near_in_tick l s) b) in
     as_is (t ++ (u ++ v)) ((t ++ u) ++ v) (noted_turns n (core_of l) (core_here l e ++ core_all m es)) (noted_turns k (core_of m) (core_all m es))
     (all_at_controller m es) (sym (append_assoc t u v))
-    (noted-append n (core_of l) (core_here l e) (core_all m es) ∙ ap (λ c. noted_turns k c (core_all m es)) (sym one.core)) more
+    (noted-append n (core_of l) (core_here l e) (core_all m es) ∙ ap (λ c. noted_turns k c (core_all m es)) (sym (own_step l e a.0 a.1 s).core)) more
 
 event_knows : (t : List Entry) (n : Losses) (l : Link) (e : LinkEvent) → IsEvent l e → Good l → Reached (core_of l) → Sounds l → Both t n l
     → Both (t ++ event_entries l e) (losses_after n (core_of l) (core_event l e)) (happens l e)
@@ -84,11 +82,8 @@ event_knows t n l (AtHost e) a g r s b =
     as_is u u (losses_after n (core_of l) (core_event l (AtHost e))) m (happens l (AtHost e)) refl (there_losses n (core_of l) (core_here k e))
     (swap u m (happens_at_controller k e) (here_knows t n Host k e a (before_there l g r s) (swap t n l b)))
 event_knows t n l (Ticks c es h) a g r s b =
-    let s0 = safe_aged (core_of l) (safe_reached (core_of l) r) in
-    let rests = rests_of 1 1 (core_of (aged l)) s0 in
-    let ps : List Entry = aged_entries Controller l.to_controller in
-    let bs : List Entry = aged_entries Host l.to_host in
-    let start : List Entry = Tick ∷ (ps ++ bs) in
+    let rests = rests_of 1 1 (core_of (aged l)) (safe_aged (core_of l) (safe_reached (core_of l) r)) in
+    let start : List Entry = Tick ∷ ((aged_entries Controller l.to_controller) ++ (aged_entries Host l.to_host)) in
     let n1 : Losses = noted_aged n (core_of l) in
     let b1 : Both (t ++ start) n1 (aged l) = aged_knows t n l b in
     let near : Link = ticks_at_controller (aged l) c.turns c.ending in
@@ -98,13 +93,11 @@ event_knows t n l (Ticks c es h) a g r s b =
     let b2 : Both ((t ++ start) ++ cs) n2 near =
     tick_knows (t ++ start) n1 Controller (aged l) c a.0 (record { tells = g.controller; rests = rests; sound = s.controller }) b1 in
     let t1 : Option (List CoreTurn) = core_tick l.controller.side c.turns c.ending in
-    let rest : List CoreEndEvent = core_tick_rest l.controller.side c.turns c.ending in
     let first : CoreLink = core_ticks_or_cut t1 (core_aged (core_of l)) in
     let stands = after_tick l c a.0 g r s in
     let all = all_step 1 near es a.1 stands.tells stands.safe in
-    let ds : List Entry = entries_of_events Controller near es in
     let n3 : Losses = noted_turns n2 (core_of near) (core_all near es) in
-    let u : List Entry = ((t ++ start) ++ cs) ++ ds in
+    let u : List Entry = ((t ++ start) ++ cs) ++ (entries_of_events Controller near es) in
     let m : Link = all_at_controller near es in
     let b3 : Both u n3 m = all_knows es ((t ++ start) ++ cs) n2 near a.1 stands b2 in
     let host_is : m.host ≡ l.host = all.step.host ∙ one.host in
@@ -113,10 +106,9 @@ event_knows t n l (Ticks c es h) a g r s b =
     let k : Link = ticks_at_controller (exchanged m) h.turns h.ending in
     let b4 : Both (u ++ fs) n4 k =
     tick_knows u n3 Host (exchanged m) h a.2 (host_in_tick l m host_is (all_in_tick near es a.1 stands) g s) (swap u n3 m b3) in
-    let turns : List CoreEndEvent = rest ++ core_all near es in
+    let turns : List CoreEndEvent = (core_tick_rest l.controller.side c.turns c.ending) ++ core_all near es in
     let d : CoreLink = core_all_here first turns in
-    let x : Losses = noted_turns (noted_tick n1 t1 (core_aged (core_of l))) first turns in
-    let x_is : x ≡ n3 = grind arith in
+    let x_is : (noted_turns (noted_tick n1 t1 (core_aged (core_of l))) first turns) ≡ n3 = grind arith in
     let d_is : d ≡ core_of m = grind arith in
     let core : CoreLinkEvent = CoreTick t1 turns (core_tick l.host.side h.turns h.ending) in
     let flag : losses_after n (core_of l) (core_event l (Ticks c es h)) ≡ n4 =
@@ -130,31 +122,25 @@ event_knows t n l (Ticks c es h) a g r s b =
         let t : Option (List CoreTurn) = core_tick z.side h.turns h.ending in
         noted_turns (noted_tick n t (core_exchanged d)) (core_ticks_or_cut t (core_exchanged d)) (core_tick_rest z.side h.turns h.ending)
 event_knows t n l (TicksWithout es h) a g r s b =
-    let ps : List Entry = aged_entries Controller l.to_controller in
-    let bs : List Entry = aged_entries Host l.to_host in
-    let start : List Entry = Tick ∷ (ps ++ bs) in
+    let start : List Entry = Tick ∷ ((aged_entries Controller l.to_controller) ++ (aged_entries Host l.to_host)) in
     let n1 : Losses = noted_aged n (core_of l) in
-    let b1 : Both (t ++ start) n1 (aged l) = aged_knows t n l b in
     let near : Link = aged l in
     let first : CoreLink = core_ticks_if_waiting (core_aged (core_of l)) in
-    let kept : first ≡ core_of near = rw a.0 refl in
     let stands = without_tick l a.0 g r s in
     let all = all_step 1 near es a.1 stands.tells stands.safe in
     let turns : List CoreEndEvent = core_all near es in
-    let ds : List Entry = entries_of_events Controller near es in
     let n3 : Losses = noted_turns n1 (core_of near) turns in
-    let u : List Entry = (t ++ start) ++ ds in
+    let u : List Entry = (t ++ start) ++ (entries_of_events Controller near es) in
     let m : Link = all_at_controller near es in
-    let b3 : Both u n3 m = all_knows es (t ++ start) n1 near a.1 stands b1 in
+    let b3 : Both u n3 m = all_knows es (t ++ start) n1 near a.1 stands (aged_knows t n l b) in
     let host_is : m.host ≡ l.host = all.step.host in
     let fs : List Entry = tick_entries Host (exchanged m) h in
     let n4 : Losses = tick_flags n3 (exchanged m) h in
     let k : Link = ticks_at_controller (exchanged m) h.turns h.ending in
     let b4 : Both (u ++ fs) n4 k =
     tick_knows u n3 Host (exchanged m) h a.2 (host_in_tick l m host_is (all_in_tick near es a.1 stands) g s) (swap u n3 m b3) in
-    let x : Losses = noted_turns (noted_if_waiting n1 (core_aged (core_of l))) first turns in
-    let x_is : x ≡ n3 = rw a.0 refl in
-    let d_is : core_all_here first turns ≡ core_of m = ap (λ z. core_all_here z turns) kept ∙ sym all.step.core in
+    let x_is : (noted_turns (noted_if_waiting n1 (core_aged (core_of l))) first turns) ≡ n3 = rw a.0 refl in
+    let d_is : core_all_here first turns ≡ core_of m = ap (λ z. core_all_here z turns) (rw a.0 refl) ∙ sym all.step.core in
     let core : CoreLinkEvent = CoreTickWithout turns (core_tick l.host.side h.turns h.ending) in
     let flag : losses_after n (core_of l) (core_event l (TicksWithout es h)) ≡ n4 =
     there_losses (noted_event n (core_of l) core) (core_happens (core_of l) core) (core_tick_rest l.host.side h.turns h.ending)
@@ -179,8 +165,7 @@ event_knows t n l (Activate power c id h) a g r s b =
     let there : Q near.host = subst Q (sym host) (a.1, a.3) in
     let starts : CanStart near.host.side.role near.controller.side.role =
     can_start near.host.side.role near.controller.side.role there.0 (started_clf l power c.turns c.ending a.0) in
-    let H : NumberedEnd → Type 0 = λ z. Sound z.side in
-    let sounds : Sounds near = record { controller = sound_here l x (clf, a.2) s.controller; host = subst H (sym host) s.host } in
+    let sounds : Sounds near = record { controller = sound_here l x (clf, a.2) s.controller; host = subst (λ z. Sound z.side) (sym host) s.host } in
     let u : List Entry = here_entries Controller l x in
     let v : List Entry = here_entries Host k y in
     let n1 : Losses = noted_turns n (core_of l) (core_here l x) in
@@ -206,8 +191,7 @@ events_know (e ∷ es) t n l a w b =
     let u : List Entry = event_entries l e in
     let v : List Entry = entries m es in
     let k : Losses = losses_after n (core_of l) (core_event l e) in
-    let first = event_knows t n l e a.0 w.good w.reached w.noted.sounds b in
-    let more = events_know es (t ++ u) k m a.1 (goes_on l e a.0 w) first in
+    let more = events_know es (t ++ u) k m a.1 (goes_on l e a.0 w) (event_knows t n l e a.0 w.good w.reached w.noted.sounds b) in
     as_is (t ++ (u ++ v)) ((t ++ u) ++ v) (losses_after n (core_of l) (core_event l e ++ core_events m es)) (losses_after k (core_of m) (core_events m es))
     (after_link_events m es) (sym (append_assoc t u v))
     (losses-append n (core_of l) (core_event l e) (core_events m es) ∙ ap (λ c. losses_after k c (core_events m es)) (sym st.core)) more
@@ -217,10 +201,6 @@ knows l s events a =
     events_know events (first_entries l.controller.side.role) no_losses l a (start_under_way l s) (grind arith)
 
 -- ### A quiet session
-
-is_quiet : (l : Link) → IsStart l → (events : List LinkEvent) → AllAllowed l events → IsQuietSince (trace l events) (after_link_events l events)
-    → IsQuiet (after_link_events l events) (losses_of l events)
-is_quiet l s events a q = let h0 = knows l s events a in grind arith
 
 -- the session that goes on at an end that is up
 up_now : (h : NumberedEnd) (n : ℕ) → h.side.shdlc.phase ≡ IsUpNow → n ≡ number_of h → talk_of h n ≡ talk_now h.side
@@ -242,7 +222,7 @@ quiet_here l s events a q =
     let one = one_number l s events a q.controller q.host in
     delivered t Controller n (talk_now m.controller.side) (talk_now m.host.side)
     (subst P (up_now m.controller n q.controller refl) (read_here l s events a n)) (subst Q (up_now m.host n q.host one) (read_there l s events a n))
-    (delivered_here l s events a (is_quiet l s events a q))
+    (delivered_here l s events a (let h0 = knows l s events a in grind arith))
 
 pub quiet_there : (l : Link) → IsStart l → (events : List LinkEvent) → AllAllowed l events → IsQuietSince (trace l events) (after_link_events l events)
     → IsDeliveredOnLink (trace l events) Host (number_of (after_link_events l events).controller)
@@ -255,7 +235,7 @@ quiet_there l s events a q =
     let one = one_number l s events a q.controller q.host in
     delivered t Host n (talk_now m.host.side) (talk_now m.controller.side)
     (subst Q (up_now m.host n q.host one) (read_there l s events a n)) (subst P (up_now m.controller n q.controller refl) (read_here l s events a n))
-    (delivered_there l s events a (is_quiet l s events a q))
+    (delivered_there l s events a (let h0 = knows l s events a in grind arith))
 
 -- ## A reset whose answer nothing withheld has brought both ends up
 
@@ -282,7 +262,6 @@ all_spares : {kf : ℕ} (es : List EndEvent) (s : Bool) (l : Link) → AreOwn l 
     → Spares (entries_of_events Controller l es) s (sure_turns s (core_of l) (core_all l es)) (all_at_controller l es)
 all_spares [] s l a i k st = (λ p sp. p, k)
 all_spares (e ∷ es) s l a i k st =
-    let one = own_step l e a.0 a.1 i in
     let m : Link = happens_at_controller l e in
     let u : List Entry = here_entries Controller l e in
     let v : List Entry = entries_of_events Controller m es in
@@ -292,7 +271,7 @@ all_spares (e ∷ es) s l a i k st =
     let more = all_spares es n m a.2 (own_in_tick l e a.0 a.1 i) first.1 y.1 in (
       λ p sp. let x = spared_parts u v sp in
           turns-append s (core_of l) (core_here l e) (core_all m es)
-          ∙ (ap (λ c. sure_turns n c (core_all m es)) (sym one.core) ∙ more.0 (first.0 p x.0) x.1),
+          ∙ (ap (λ c. sure_turns n c (core_all m es)) (sym (own_step l e a.0 a.1 i).core) ∙ more.0 (first.0 p x.0) x.1),
       more.1,
     )
 
@@ -305,10 +284,7 @@ none_aged who (x ∷ xs) q = let h0 = none_aged who xs in grind arith
 
 aged_sure : (s : Bool) (l : Link) → s ≡ true → Spared (aged_entries Controller l.to_controller) → Spared (aged_entries Host l.to_host)
     → sure_aged s (core_of l) ≡ true
-aged_sure s l p a b =
-    let x = none_aged Controller l.to_controller a in
-    let y = none_aged Host l.to_host b in
-    rw (x, y, p) refl
+aged_sure s l p a b = rw ((none_aged Controller l.to_controller a), (none_aged Host l.to_host b), p) refl
 
 -- how far it is kept back after the tick of an end
 abbrev tick_flag : Bool → Link → Node → Bool
@@ -338,19 +314,12 @@ tick_spares s who l node a h k st = go node.ending refl
 
     go : (ending : Ending) → node.ending ≡ ending → Spares (tick_entries who l node) s (tick_flag s l node) (ticks_at_controller l ts node.ending)
     go CutOff q =
-        let P : Ending → Type 0 = λ z. Stands (tick_entries who l (as_named z)) in
-        absurd (rest_cut (told_of who l.controller HasTick) who m f ts (subst P q st))
+        absurd (rest_cut (told_of who l.controller HasTick) who m f ts (subst (λ z. Stands (tick_entries who l (as_named z))) q st))
     go GoesOut q =
-        let Q : Ending → Type 0 = λ z. Spares (tick_entries who l (as_named z)) s (tick_flag s l (as_named z)) (ticks_at_controller l ts z) in
-        let first : core_tick e ts GoesOut ≡ Some (core_turns f ts) = rw k refl in
-        let rest : core_tick_rest e ts GoesOut ≡ [] = rw k refl in
-        let flag : tick_flag s l (as_named GoesOut) ≡ sure_tick s (Some (core_turns f ts)) (core_of l) = grind arith in
-        let role : (turned f ts).role ≡ e.role =
-        turned_role f ts ∙ (ap (λ (z : LinkEnd). z.role) (tick_open e k).0 ∙ moved_role e _ _) in
-        subst Q (sym q) (
-          λ p sp. flag ∙ rest_sure s (sure_tick s (Some (core_turns f ts)) (core_of l)) who m f ts (tick_sure s l ts a.0 h k) p
+        subst (λ z. Spares (tick_entries who l (as_named z)) s (tick_flag s l (as_named z)) (ticks_at_controller l ts z)) (sym q) (
+          λ p sp. (grind arith) ∙ rest_sure s (sure_tick s (Some (core_turns f ts)) (core_of l)) who m f ts (tick_sure s l ts a.0 h k) p
               (spared_parts (told_of who l.controller HasTick) (rest_entries who m f ts GoesOut) sp).1,
-          ap is_open role ∙ k,
+          ap is_open (turned_role f ts ∙ (ap (λ (z : LinkEnd). z.role) (tick_open e k).0 ∙ moved_role e _ _)) ∙ k,
         )
       where
         flags : Option (List CoreTurn) → List CoreEndEvent → Bool
@@ -401,8 +370,7 @@ event_goes t s l (Ticks c es h) a g r n o st =
     let ds : List Entry = entries_of_events Controller near es in
     let m : Link = all_at_controller near es in
     let fs : List Entry = tick_entries Host (exchanged m) h in
-    let q1 = stands_parts ps (bs ++ (cs ++ (ds ++ fs))) st in
-    let q2 = stands_parts bs (cs ++ (ds ++ fs)) q1.1 in
+    let q2 = stands_parts bs (cs ++ (ds ++ fs)) (stands_parts ps (bs ++ (cs ++ (ds ++ fs))) st).1 in
     let q3 = stands_parts cs (ds ++ fs) q2.1 in
     let q4 = stands_parts ds fs q3.1 in
     let n1 : Bool = sure_aged s (core_of l) in
@@ -410,22 +378,17 @@ event_goes t s l (Ticks c es h) a g r n o st =
     let n2 : Bool = tick_flag n1 (aged l) c in
     let k2 = tick_spares n1 Controller (aged l) c a.0 g.controller o.controller q3.0 in
     let t1 : Option (List CoreTurn) = core_tick l.controller.side c.turns c.ending in
-    let rest : List CoreEndEvent = core_tick_rest l.controller.side c.turns c.ending in
     let first : CoreLink = core_ticks_or_cut t1 (core_aged (core_of l)) in
     let stands = after_tick l c a.0 g r n.sounds in
     let all = all_step 1 near es a.1 stands.tells stands.safe in
     let n3 : Bool = sure_turns n2 (core_of near) (core_all near es) in
     let k3 = all_spares es n2 near a.1 stands k2.1 q4.0 in
     let host_is : m.host ≡ l.host = all.step.host ∙ one.host in
-    let n4 : Bool = tick_flag n3 (exchanged m) h in
     let k4 = tick_spares n3 Host (exchanged m) h a.2 (tells_same m.host l.host host_is g.host) (open_as m.host l.host host_is o.host) q4.1 in
-    let turns : List CoreEndEvent = rest ++ core_all near es in
+    let turns : List CoreEndEvent = (core_tick_rest l.controller.side c.turns c.ending) ++ core_all near es in
     let d : CoreLink = core_all_here first turns in
-    let x : Bool = sure_turns (sure_tick n1 t1 (core_aged (core_of l))) first turns in
-    let x_is : x ≡ n3 = grind arith in
-    let d_is : d ≡ core_of m = grind arith in
-    let core : CoreLinkEvent = CoreTick t1 turns (core_tick l.host.side h.turns h.ending) in
-    let flag : sure_after s (core_of l) (core_event l (Ticks c es h)) ≡ n4 = grind arith in
+    let x_is : (sure_turns (sure_tick n1 t1 (core_aged (core_of l))) first turns) ≡ n3 = grind arith in
+    let flag : sure_after s (core_of l) (core_event l (Ticks c es h)) ≡ (tick_flag n3 (exchanged m) h) = grind arith in
     record {
       sure = λ p sp. let p1 = spared_parts ps (bs ++ (cs ++ (ds ++ fs))) sp in
           let p2 = spared_parts bs (cs ++ (ds ++ fs)) p1.1 in
@@ -449,30 +412,23 @@ event_goes t s l (TicksWithout es h) a g r n o st =
     let ds : List Entry = entries_of_events Controller near es in
     let m : Link = all_at_controller near es in
     let fs : List Entry = tick_entries Host (exchanged m) h in
-    let q1 = stands_parts ps (bs ++ (ds ++ fs)) st in
-    let q2 = stands_parts bs (ds ++ fs) q1.1 in
-    let q4 = stands_parts ds fs q2.1 in
+    let q4 = stands_parts ds fs (stands_parts bs (ds ++ fs) (stands_parts ps (bs ++ (ds ++ fs)) st).1).1 in
     let n1 : Bool = sure_aged s (core_of l) in
     let first : CoreLink = core_ticks_if_waiting (core_aged (core_of l)) in
-    let kept : first ≡ core_of near = rw a.0 refl in
     let stands = without_tick l a.0 g r n.sounds in
     let all = all_step 1 near es a.1 stands.tells stands.safe in
     let turns : List CoreEndEvent = core_all near es in
     let n3 : Bool = sure_turns n1 (core_of near) turns in
     let k3 = all_spares es n1 near a.1 stands o.controller q4.0 in
     let host_is : m.host ≡ l.host = all.step.host in
-    let n4 : Bool = tick_flag n3 (exchanged m) h in
     let k4 = tick_spares n3 Host (exchanged m) h a.2 (tells_same m.host l.host host_is g.host) (open_as m.host l.host host_is o.host) q4.1 in
-    let x : Bool = sure_turns (sure_if_waiting n1 (core_aged (core_of l))) first turns in
-    let x_is : x ≡ n3 = rw a.0 refl in
-    let d_is : core_all_here first turns ≡ core_of m = ap (λ z. core_all_here z turns) kept ∙ sym all.step.core in
-    let core : CoreLinkEvent = CoreTickWithout turns (core_tick l.host.side h.turns h.ending) in
-    let flag : sure_after s (core_of l) (core_event l (TicksWithout es h)) ≡ n4 = grind arith in
+    let x_is : (sure_turns (sure_if_waiting n1 (core_aged (core_of l))) first turns) ≡ n3 = rw a.0 refl in
+    let d_is : core_all_here first turns ≡ core_of m = ap (λ z. core_all_here z turns) (rw a.0 refl) ∙ sym all.step.core in
     record {
       sure = λ p sp. let p1 = spared_parts ps (bs ++ (ds ++ fs)) sp in
           let p2 = spared_parts bs (ds ++ fs) p1.1 in
           let p4 = spared_parts ds fs p2.1 in
-          flag ∙ k4.0 (k3.0 (aged_sure s l p p1.0 p2.0) p4.0) p4.1;
+          (grind arith) ∙ k4.0 (k3.0 (aged_sure s l p p1.0 p2.0) p4.0) p4.1;
       active = record {
         controller = open_as (ticks_at_controller (exchanged m) h.turns h.ending).host m.controller (ticks_host (exchanged m) h.turns h.ending) k3.1;
         host = k4.1;
@@ -514,10 +470,9 @@ behind_sure (e ∷ es) t s l a w o p none =
     let u : List Entry = event_entries l e in
     let v : List Entry = entries m es in
     let first : NoneWithholds u = none_first u v none in
-    let rest : NoneWithholds v = none_behind u v none in
     let k : Bool = sure_after s (core_of l) (core_event l e) in
     let one = event_goes t s l e a.0 w.good w.reached w.noted o first.stands in
-    sure_first s l e es ev.core ∙ behind_sure es (t ++ u) k m a.1 (goes_on l e a.0 w) one.active (one.sure p first.spared) rest
+    sure_first s l e es ev.core ∙ behind_sure es (t ++ u) k m a.1 (goes_on l e a.0 w) one.active (one.sure p first.spared) (none_behind u v none)
 
 -- a reset at the controller's end, and one at the host's
 asked_here : (s : Bool) (l : Link) (window : Option ℕ) (ts : List Turn) → IsAllowed l (Step (AsksReset window) ts GoesOut) → FindsReady l
@@ -538,7 +493,6 @@ asked_in_tick : {t : List Entry} (s : Bool) (l : Link) (window : Option ℕ) (ts
 asked_in_tick s l window ts es h a w f none =
     let near : Link = aged l in
     let first : CoreLink = core_ticks_if_waiting (core_aged (core_of l)) in
-    let kept : first ≡ core_of near = rw a.0 refl in
     let x : EndEvent = Step (AsksReset window) ts GoesOut in
     let stands = without_tick l a.0 w.good w.reached w.noted.sounds in
     let one = own_step near x tt a.1.1 stands in
@@ -556,15 +510,13 @@ asked_in_tick s l window ts es h a w f none =
     let n3 : Bool = sure_turns n2 (core_of m) (core_all m es) in
     let k3 = all_spares es n2 m a.1.2 (own_in_tick near x tt a.1.1 stands) asked.1 q.0 in
     let host_is : last.host ≡ l.host = all.step.host in
-    let n4 : Bool = tick_flag n3 (exchanged last) h in
     let k4 = tick_spares n3 Host (exchanged last) h a.2 (tells_same last.host l.host host_is w.good.host) (open_as last.host l.host host_is f.active) q.1 in
-    let y : Bool = sure_turns (sure_if_waiting n1 (core_aged (core_of l))) first turns in
-    let y_is : y ≡ n3 =
+    let y_is : (sure_turns (sure_if_waiting n1 (core_aged (core_of l))) first turns) ≡ n3 =
     (rw a.0 refl)
     ∙ (turns-append n1 (core_of near) (core_here near x) (core_all m es) ∙ ap (λ z. sure_turns n2 z (core_all m es)) (sym one.core)) in
-    let d_is : core_all_here first turns ≡ core_of last = ap (λ z. core_all_here z turns) kept ∙ sym all.step.core in
+    let d_is : core_all_here first turns ≡ core_of last = ap (λ z. core_all_here z turns) (rw a.0 refl) ∙ sym all.step.core in
     let core : CoreLinkEvent = CoreTickWithout turns (core_tick l.host.side h.turns h.ending) in
-    let flag : sure_after s (core_of l) (core_event l (TicksWithout (x ∷ es) h)) ≡ n4 =
+    let flag : sure_after s (core_of l) (core_event l (TicksWithout (x ∷ es) h)) ≡ (tick_flag n3 (exchanged last) h) =
     sure_there (sure_event s (core_of l) core) (core_happens (core_of l) core) (core_tick_rest l.host.side h.turns h.ending)
     ∙ (ap (λ z. flags z (core_all_here first turns) l.host) y_is ∙ (ap (λ z. flags n3 z l.host) d_is ∙ ap (flags n3 (core_of last)) (sym host_is))) in (
       flag ∙ k4.0 (k3.0 asked.0 p.0) p.1,
@@ -606,15 +558,13 @@ run_sure [] e behind t s l a w is none =
     let m : Link = happens l e in
     let u : List Entry = rest_of l e in
     let v : List Entry = entries m behind in
-    let first : NoneWithholds u = none_first u v none in
     let rest : NoneWithholds v = none_behind u v none in
-    let one = asked_goes s l e a.0 w is first in
+    let one = asked_goes s l e a.0 w is (none_first u v none) in
     sure_first s l e behind (event_step l e a.0 w.good w.reached).core
     ∙ behind_sure behind (t ++ event_entries l e) (sure_after s (core_of l) (core_event l e)) m a.1 (goes_on l e a.0 w) one.1 one.0 rest
 run_sure (x ∷ before) e behind t s l a w is none =
-    let m : Link = happens l x in
     sure_first s l x (before ++ e ∷ behind) (event_step l x a.0 w.good w.reached).core
-    ∙ run_sure before e behind (t ++ event_entries l x) (sure_after s (core_of l) (core_event l x)) m a.1 (goes_on l x a.0 w) is none
+    ∙ run_sure before e behind (t ++ event_entries l x) (sure_after s (core_of l) (core_event l x)) (happens l x) a.1 (goes_on l x a.0 w) is none
 
 -- where nothing withheld the answer to a reset, and both wires hold no frames now but of activation
 pub together : (l : Link) → IsStart l → (before : List LinkEvent) (reset : LinkEvent) (behind : List LinkEvent) → AllAllowed l (before ++ reset ∷ behind)

@@ -221,14 +221,6 @@ no_srej_push (Clt ∷ ms) m e h = no_srej_push ms m e h
 
 -- ## Wires whose first mark is taken
 
-pub no_srej_rest : (m : Control) (ms : List Control) → NoSrej (m ∷ ms) → NoSrej ms
-no_srej_rest m ms h = grind arith
-
--- what one that only acknowledges leaves
-pub only_acks : (m : Control) (n a : ℕ) (ms : List Control) → OnlyAcks m n
-    → (Answers a m → a < n) × (RewindBy (m ∷ ms) → RewindBy ms) × (last_count a (m ∷ ms) ≡ last_count n ms)
-only_acks m n a ms e = grind arith
-
 -- ## The course
 
 pub course_from : (r : ℕ) (ms : List Control) → r ≤ course_of r ms
@@ -272,14 +264,8 @@ pub last_answers : (a b r : ℕ) (wire : List OnWire) (ms : List Control) → Sh
 last_answers a b r [] [] e s i h = inl h
 last_answers a b r [] (_ ∷ ms) e s i h = absurd e
 last_answers a b r (x ∷ xs) [] e s i h = absurd e
-last_answers a b r (x ∷ xs) (I p n info ∷ ms) e s i h = go (last_answers a n r xs ms e.1 s i h)
-  where
-    go : (n ≡ r) ⊎ AnswerBy a 0 xs ms → (b ≡ r) ⊎ AnswerBy a 0 (x ∷ xs) (I p n info ∷ ms)
-    go a = grind arith
-last_answers a b r (x ∷ xs) (S Rr n ∷ ms) e s i h = go (last_answers a n r xs ms e.1 s i h)
-  where
-    go : (n ≡ r) ⊎ AnswerBy a 0 xs ms → (b ≡ r) ⊎ AnswerBy a 0 (x ∷ xs) (S Rr n ∷ ms)
-    go a = grind arith
+last_answers a b r (x ∷ xs) (I p n info ∷ ms) e s i h = let h0 = last_answers a n r xs ms e.1 s i h in grind arith
+last_answers a b r (x ∷ xs) (S Rr n ∷ ms) e s i h = let h0 = last_answers a n r xs ms e.1 s i h in grind arith
 last_answers a b r (x ∷ xs) (S Rej n ∷ ms) e s i h = inr (inl (tt, omega arith))
 last_answers a b r (x ∷ xs) (S Rnr n ∷ ms) e s i h = inr (inl (tt, omega arith))
 last_answers a b r (x ∷ xs) (S Srej n ∷ ms) e s i h = absurd s

@@ -1,16 +1,15 @@
 -- Two ends that are Up in one session, and the wires between them, where nothing was lost: the marks of the wires, and the timers in time.
 use Rattle.std.proofs.Common.{max, not, ◌&&◌, ◌==◌}
-use Rattle.std.proofs.lemmas.Bool.{le-ltb, or_right}
+use Rattle.std.proofs.lemmas.Bool.{le-ltb}
 use Rattle.link_laws.proofs.Words.{Act, Bool, Clt, Control, Due, EndState, Fragment, I, Kind, List, None, Option, Rej, Rej_due, Rnr, Rnr_due, Rr, Rr_due, Rset}
 use Rattle.link_laws.proofs.Words.{S, Session, Some, Ua, Up, [], acknowledged, ahead, arith, cases_lt, control_due, eq-eqb, expected, false, fetched}
 use Rattle.link_laws.proofs.Words.{fragment_due, fragment_due-within, frame_due, inl, inr, length, length-append, lt-ltb, made_busy, nat_lt, ne_eqb, place_of}
-use Rattle.link_laws.proofs.Words.{put_out, ready_again, refl, rejected, runs_timer, sent_again, sent_next, slice_get, slice_get_within, subst, sym}
-use Rattle.link_laws.proofs.Words.{take_answer, taken, tick_answer, ticked, true, with_frame, with_ready, ℕ, ⊎_elim, ◌%◌, ◌++◌, ◌+◌, ◌<◌, ◌||◌, ◌∙◌, ◌∷◌, ◌≡◌}
-use Rattle.link_laws.proofs.Words.{◌≤◌, ◌⊎◌}
+use Rattle.link_laws.proofs.Words.{put_out, ready_again, refl, rejected, runs_timer, sent_again, sent_next, slice_get_within, subst, sym, take_answer, taken}
+use Rattle.link_laws.proofs.Words.{tick_answer, ticked, true, with_frame, with_ready, ℕ, ⊎_elim, ◌%◌, ◌++◌, ◌+◌, ◌<◌, ◌||◌, ◌∙◌, ◌∷◌, ◌≡◌, ◌≤◌, ◌⊎◌}
 use Rattle.link_laws.specs.places.Wire.{OnWire, older}
 use Rattle.link_laws.proofs.lifetimes.Evidence.{Answers, DueBy, NoSrej, RewindBy, RewindDue, due_more, due_new_rnr, due_new_rr, due_push, rewind_due_push}
 use Rattle.link_laws.proofs.lifetimes.Evidence.{rewind_due_rnr}
-use Rattle.link_laws.proofs.lifetimes.Timely.{AnswersAll, MaySend, Timely, TookFragment, answers_pushed, answers_same, in_time, same_or_below, timely_acked}
+use Rattle.link_laws.proofs.lifetimes.Timely.{AnswersAll, MaySend, Timely, TookFragment, answers_pushed, in_time, same_or_below, timely_acked}
 use Rattle.link_laws.proofs.lifetimes.Timely.{timely_answer, timely_answer_I, timely_kept, timely_older, timely_put, timely_received, timely_rewound}
 use Rattle.link_laws.proofs.lifetimes.Timely.{timely_send, timely_send_S}
 use Rattle.link_laws.proofs.places.Joined.{Joined, Sends, ahead_other, changed, fetch_cases, joined_exchanged, joined_fetched}
@@ -186,7 +185,7 @@ pub lasts_ready : (kn kf : ℕ) (near far : EndState) (to_near to_far : List OnW
 lasts_ready kn kf near far to_near to_far r h =
     lasts_changed kn kf (with_ready near r) far to_near to_far kn kf near h (joined_ready ⊥ near far to_near to_far r h.joined)
     (ready_cases (λ e. BothTimely kn kf e far to_near to_far h.joined.near_marks h.joined.far_marks) near r (h.near_timely, h.far_timely)
-    (at near.due (answers_same (length near.session.acc) near.due))
+    (at near.due (grind arith))
     (at (near.due ++ Rr_due ∷ []) (answers_pushed (length near.session.acc) near.due Rr_due)))
   where
     at : (due : List Due) → AnswersAll (length near.session.acc) (length near.session.acc) near.due due
@@ -214,7 +213,6 @@ lasts_ticked kf near far to_near to_far noprobe none h =
     (λ r. grind arith)
     (λ r late.
     let none_sent : s.next ≤ s.acked = no_more late in
-    let w = waits s r none_sent in
     (((grind arith), timely_kept far near to_far to_near far_marks near_marks kf (sent_again near) refl refl h.far_timely)))
     (omega (arith, h.near_timely.most)) in (
       lasts_changed 0 kf (ticked near) far to_near to_far 1 kf near h (joined_ticked ⊥ near far to_near to_far both.1 h.joined) both.0,
@@ -312,7 +310,6 @@ lasts_taken near far x to_near to_far noprobe h = (
         let told : n ≤ length t.acc = counts_le n (length t.acc) ms number.2 in
         let e : EndState = acknowledged near n in
         let low : t.acked ≤ length s.acc = counts_le t.acked (length s.acc) back far_sends.counts in
-        let high : p ≤ length s.acc + 3 = omega (arith, far_sends.places.1, far_sends.reach_window, far_sends.window, low) in
         let behind : (ahead e.session (p % 8) ≡ 0 → ⊥) → p ≤ length s.acc → p < length s.acc = λ z b. not_expected e.session p z b in
         let other : (ahead e.session (p % 8) ≡ 0 → ⊥) → (p == length s.acc) ≡ false = λ z. ne_eqb p (length s.acc) (λ q. z (omega arith)) in
         let at : (acc : List Fragment) (due : List Due) (gap noted : Bool) → TookFragment (length s.acc) (length acc) near.due due p ms
@@ -327,7 +324,7 @@ lasts_taken near far x to_near to_far noprobe h = (
         (subst (λ (c : Control). Both ms (taken near c)) (sym were.near_shows.0) (taken_I (Both ms) near (p % 8) (n % 8) n info h.joined.near_up place
         (received_cases (Both ms) e (p % 8) info
         (λ z.
-        let here : p ≡ length s.acc = ahead_other e.session p far_sends.places.0 high z in
+        let here : p ≡ length s.acc = ahead_other e.session p far_sends.places.0 (grind arith) z in
         let more : length (s.acc ++ info ∷ []) ≡ length s.acc + 1 = omega (arith, length-append s.acc (info ∷ [])) in
         at (s.acc ++ info ∷ []) (near.due ++ Rr_due ∷ []) false s.answered_rnr
         (record {
@@ -497,12 +494,5 @@ no_probe kn kf near far to_near to_far idle h = go near.session.probe refl
     go false q = q
     go true q =
         let g = h.near_timely.probes q in
-        let may : (not s.peer_busy || s.probe) ≡ true = or_right (not s.peer_busy) s.probe q in
-        let inside : nat_lt s.next (s.acked + s.window) ≡ true = lt-ltb s.next (s.acked + s.window) (omega (arith, g.0, h.joined.near_sends.wide)) in
         let test : ((not s.peer_busy || s.probe) && nat_lt s.next (s.acked + s.window)) ≡ true = grind arith in
-        let past : slice_get s.out s.next ≡ None = rw test at none in
-        absurd (let f = past_end s.out s.next past in omega (arith, g.0, g.1))
-
--- a tick that ends no session makes no control frame
-pub ticked-due : (e : EndState) → e.phase ≡ Up → e.tries < 5 → (ticked e).due ≡ e.due
-ticked-due e up few = (tick_by (λ f. f.due ≡ e.due) e up (λ r. refl) (λ r. refl) (λ r l. refl) few).0
+        absurd (let f = past_end s.out s.next (rw test at none) in omega (arith, g.0, g.1))

@@ -6,7 +6,7 @@ use Rattle.link_laws.proofs.Words.{core_after as shdlc_after, core_aged as shdlc
 use Rattle.link_laws.proofs.Words.{core_happens_here as shdlc_happens_at_controller, core_turned as shdlc_turned, core_with_ended as with_shdlc_ended, false}
 use Rattle.link_laws.proofs.Words.{fetched, frame_due, frames_of, inl, is_some, length, losses_after, ltb-true, most_frames, nat_lt, no_losses, noted_aged}
 use Rattle.link_laws.proofs.Words.{noted_all, noted_event, noted_here, noted_loss, noted_out, noted_tick, noted_turns, or_parts, refl, shdlc_becomes}
-use Rattle.link_laws.proofs.Words.{shdlc_exchanged, shdlc_happens, shdlc_put, shdlc_put_all, shdlc_ticks_at_controller, shdlc_turn, start, subst, sym}
+use Rattle.link_laws.proofs.Words.{shdlc_exchanged, shdlc_happens, shdlc_put, shdlc_ticks_at_controller, shdlc_turn, start, subst, sym}
 use Rattle.link_laws.proofs.Words.{take_answer, taken, tick_answer, ticked, took_with, true, true≢false, with_frame, ℕ, ◌||◌, ◌∙◌, ◌∷◌, ◌≡◌, ◌≤◌}
 use Rattle.link_laws.specs.places.Wire.{OnWire, fits, is_act, sans, overflows, loses_aged, aged_wire, older}
 use Rattle.link_laws.proofs.places.Flows.{Counts, Shows}
@@ -18,7 +18,7 @@ use Rattle.link_laws.proofs.sessions.Quiet.{began_data, few_room}
 use Rattle.link_laws.specs.lifetimes.Lifetime.{IsAnew, BeginsAnew, OnlyTurns, IsPlainHere, IsPlainEvent, AllPlain, LosesNone, GoesOn}
 use Rattle.link_laws.proofs.lifetimes.Timely.{Timely}
 use Rattle.link_laws.proofs.lifetimes.Lasts.{Lasts, lasts_of, lasts_exchanged, lasts_put, lasts_ready, lasts_ticked, lasts_older, lasts_taken, lasts_fetched}
-use Rattle.link_laws.proofs.lifetimes.Lasts.{no_probe, ticked-due}
+use Rattle.link_laws.proofs.lifetimes.Lasts.{no_probe}
 use Rattle.link_laws.proofs.Cases.{by_test}
 use mathlib.Core.List.{IsPrefix}
 
@@ -94,13 +94,12 @@ sends_each : (kf : ℕ) (c h : NumberedShdlc) (n : Losses) (e : EndState) (m : S
 sends_each kf c h n e m f is k v =
     let parts = or_parts n.lost (overflows (with_frame m.to_host f)) v in
     let g = k parts.0 in
-    let d = data_due e f g.0.joined.near_due is in
     let one : Lasts 0 kf (fetched e) m.host.side m.to_controller (with_frame m.to_host f) =
     rw is at (lasts_fetched kf e m.host.side m.to_controller m.to_host g.0) in
     let all : fits (with_frame m.to_host f) ≡ with_frame m.to_host f =
     let j = one.joined in
     fits_all (with_frame m.to_host f) m.host.side.session.acked (length (fetched e).session.acc) j.far_marks j.far_shows j.far_sends.counts parts.1 in
-    rw (not_rset f (inl d.0), all) (one, g.1, g.2)
+    rw (not_rset f (inl (data_due e f g.0.joined.near_due is).0), all) (one, g.1, g.2)
 
 -- ## Turns
 
@@ -121,7 +120,6 @@ module _ (kf : ℕ) (c h : NumberedShdlc) (n : Losses) (l : ShdlcLink) (idle : f
   alive_becomes : (e : EndState) → Lasts 0 kf e l.host.side l.to_controller l.to_host → left e ≤ most_frames → (noted_out n l e).lost ≡ false
       → IsAlive 0 kf c h (shdlc_becomes l e)
   alive_becomes e lasts few v =
-      let m : ShdlcLink = shdlc_put_all l (frames_of most_frames e) in
       let r = sends_noted (Sends kf l.controller l.host) (sends_each kf l.controller l.host) most_frames n e l (λ w. (lasts, refl, refl)) v in
       record {
         lasts = r.0;
@@ -196,10 +194,8 @@ alive_aged c h n l a v =
     let near_sans = sans_all l.to_controller s.acked (length t.acc) j.near_marks j.near_shows j.near_sends.counts in
     let far_sans = sans_all l.to_host t.acked (length s.acc) j.far_marks j.far_shows j.far_sends.counts in
     let x : Bool = loses_aged (sans l.to_controller) in
-    let y : Bool = loses_aged (sans l.to_host) in
-    let parts = or_parts (n.lost || x) y v in
-    let first = or_parts n.lost x parts.0 in
-    let near = aged_is_older l.to_controller (rw near_sans at first.1) a.lasts.near_young in
+    let parts = or_parts (n.lost || x) (loses_aged (sans l.to_host)) v in
+    let near = aged_is_older l.to_controller (rw near_sans at (or_parts n.lost x parts.0).1) a.lasts.near_young in
     let far = aged_is_older l.to_host (rw far_sans at parts.1) a.lasts.far_young in
     record {
       lasts = rw (near.0, far.0)
@@ -226,7 +222,7 @@ alive_ticks kf c h n l ts a v =
         (no_due l.host.side a.far_idle) a.lasts
 
     none : length (ticked e).due ≡ 0
-    none = ap length (ticked-due e a.lasts.joined.near_up (omega (arith, a.lasts.near_timely.most)) ∙ no_due e a.near_idle)
+    none = ap length ((grind arith) ∙ no_due e a.near_idle)
 
     Goes : Bool → Type 0
     Goes ended = (noted_out n (with_shdlc_ended l ended) (shdlc_turned (ticked e) ts)).lost ≡ false
@@ -264,8 +260,7 @@ alive_tick c h n l ts es us a k v =
     let n_three : Losses = noted_turns n_two two es in
     let v_three : n_three.lost ≡ false = ticks_lost n_three us three v in
     let v_two : n_two.lost ≡ false = turns_lost es n_two two a v_three in
-    let v_one : n_one.lost ≡ false = ticks_lost n_one ts one v_two in
-    let k_two = alive_ticks 1 c h n_one one ts (alive_aged c h n l k v_one) v_two in
+    let k_two = alive_ticks 1 c h n_one one ts (alive_aged c h n l k (ticks_lost n_one ts one v_two)) v_two in
     let k_three = alive_exchanged 0 1 c h (shdlc_all_at_controller two es) (alive_all es 1 c h n_two two a k_two v_three) in
     alive_exchanged 0 0 h c (shdlc_ticks_at_controller three us) (alive_ticks 0 h c n_three three us k_three v)
   where

@@ -9,7 +9,7 @@ use Rattle.link_laws.proofs.places.Flows.{AnswersOnly, Shows, last_count, last_c
 use Rattle.link_laws.proofs.sessions.Wire.{Young}
 use Rattle.link_laws.proofs.lifetimes.Evidence.{Answers, SentBy, AnswerBy, DueBy, RewindDue, RewindBy, NoSrej, OnlyAcks, course_of, sent_push, sent_new}
 use Rattle.link_laws.proofs.lifetimes.Evidence.{answer_push, answer_new, sent_older, answer_older, sent_in_time, answer_in_time, rewind_push, rewind_new}
-use Rattle.link_laws.proofs.lifetimes.Evidence.{no_srej_push, no_srej_rest, only_acks, course_from, course_push, course_push_S, course_shows, last_answers}
+use Rattle.link_laws.proofs.lifetimes.Evidence.{no_srej_push, course_from, course_push, course_push_S, course_shows, last_answers}
 use Rattle.link_laws.proofs.lifetimes.Evidence.{rewind_answers, rewind_due_answers, due_push, rewind_due_push}
 
 -- one of three ways, each of which is kept
@@ -75,9 +75,6 @@ pub record AnswersAll (r q : ℕ) (due due' : List Due) : Type 0 where
   pub kept : (a t : ℕ) → DueBy a t r due → DueBy a t q due'
   pub rewind : RewindDue due → RewindDue due'
 
-pub answers_same : (r : ℕ) (due : List Due) → AnswersAll r r due due
-answers_same r due = record { told = λ e. (e, refl); kept = λ a t g. g; rewind = λ g. g }
-
 -- one more control frame waits
 pub answers_pushed : (r : ℕ) (due : List Due) (d : Due) → AnswersAll r r due (due ++ d ∷ [])
 answers_pushed r due d =
@@ -134,10 +131,10 @@ module _ (near far : EndState) (to_near to_far : List OnWire) (near_marks far_ma
 
       rest : (Answers near.session.acked m → near.session.acked < n) × (RewindBy (m ∷ near_marks) → RewindBy near_marks)
           × (last_count near.session.acked (m ∷ near_marks) ≡ last_count n near_marks)
-      rest = only_acks m n near.session.acked near_marks is
+      rest = grind arith
 
       known : NoSrej near_marks
-      known = no_srej_rest m near_marks h.known
+      known = grind arith
 
       course : Course near.session.next far near_marks far_marks
       course = each h.course (λ k. k) (λ k. k) rest.1
@@ -169,7 +166,7 @@ module _ (near far : EndState) (to_near to_far : List OnWire) (near_marks far_ma
   timely_rewound near' x kind n is h =
       record {
         told = λ e. rw is.acked (h.told e);
-        known = no_srej_rest (S kind n) near_marks h.known;
+        known = grind arith;
         course = inl (omega (arith, course_from (length far.session.acc) far_marks, is.next, is.fits));
         evidence = λ k. absurd (omega (arith, is.acked, is.next));
         starts = λ e b. is.timer;
@@ -199,7 +196,7 @@ module _ (near far : EndState) (to_near to_far : List OnWire) (near_marks far_ma
   -- what it accepted and has to answer is the same
   pub timely_kept : (k : ℕ) (far' : EndState) → far'.session.acc ≡ far.session.acc → far'.due ≡ far.due
       → Timely k near far to_near to_far near_marks far_marks → Timely k near far' to_near to_far near_marks far_marks
-  timely_kept k far' same due h = timely_answering k far' same (rw (same, due) (answers_same (length far.session.acc) far.due)) h
+  timely_kept k far' same due h = timely_answering k far' same (rw (same, due) (grind arith)) h
 
   -- it takes a fragment
   pub timely_received : (k : ℕ) (far' : EndState) (x : OnWire) (p n : ℕ) (info : Fragment) → Young 4 (x ∷ to_far) → near.session.acked ≤ length far.session.acc
@@ -225,9 +222,7 @@ module _ (near far : EndState) (to_near to_far : List OnWire) (near_marks far_ma
       evidence : Evidence near.session.acked (near.timer + k) far to_near (x ∷ to_far) near_marks (I p n info ∷ far_marks)
           → Evidence near.session.acked (near.timer + k) far' to_near to_far near_marks far_marks
       evidence (inl (inl e)) =
-          let fits : near.timer + k ≤ 4 = omega (arith, e.1, young.0) in
-          let here : p ≤ length far.session.acc = omega (arith, e.0) in
-          inr (inr (rw (← e.0) (took.new (near.timer + k) here fits)))
+          inr (inr (rw (← e.0) (took.new (near.timer + k) (omega (arith, e.0)) (omega (arith, e.1, young.0)))))
       evidence (inl (inr e)) = inl e
       evidence (inr (inl e)) = inr (inl e)
       evidence (inr (inr e)) = inr (inr (took.all.kept near.session.acked (near.timer + k) e))
@@ -336,8 +331,7 @@ module _ (near far : EndState) (to_near to_far : List OnWire) (near_marks far_ma
       evidence : (near.session.acked ≡ near.session.next) ⊎ (near.session.acked < near.session.next)
           → Evidence near.session.acked (near.timer + 0) far to_near (with_frame to_far c) near_marks (far_marks ++ m ∷ [])
       evidence (inl e) =
-          let zero_timer : near.timer + 0 ≡ 0 = omega (arith, h.starts e may) in
-          inl (rw e (sent_new near.session.next (near.timer + 0) n info to_far far_marks c zero_timer shows))
+          inl (rw e (sent_new near.session.next (near.timer + 0) n info to_far far_marks c (omega (arith, h.starts e may)) shows))
       evidence (inr e) = each (h.evidence e) (sent_push near.session.acked (near.timer + 0) to_far far_marks c m) (λ g. g) (λ g. g)
 
   -- ## Time

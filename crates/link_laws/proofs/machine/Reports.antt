@@ -152,8 +152,7 @@ heard_so e c h = by (is_faulty (taken e.shdlc c).session) refl
         by_phase e.shdlc.phase (λ p.
         let k : Becomes e (moved e true (stopped e.shdlc)) true false [] =
         ends_down e (moved e true (stopped e.shdlc)) p (not_up (stopped e.shdlc) Down refl (λ u. cc)) refl refl in
-        let is : put_down true e ≡ moved e true (stopped e.shdlc) = rw p refl in
-        let P : LinkEnd → Type 0 = λ z. Becomes e z true false [] in subst P (sym is) k)
+        let P : LinkEnd → Type 0 = λ z. Becomes e z true false [] in subst P (sym (rw p refl)) k)
         (λ p. fine Waiting p (λ u. cc)) (λ p. fine Down p (λ u. cc))
       where
         fine : (p : LinkState) → e.shdlc.phase ≡ p → (p ≡ Up → ⊥) → Becomes e (put_down true e) true false []
@@ -188,9 +187,8 @@ ticked_acc e q = grind (arith, common_steps)
 moved_so : (e : LinkEnd) (b : Bool) (s : EndState) → Shift e.shdlc s b false → (b ≡ false → s.session.acc ≡ e.shdlc.session.acc)
     → Becomes e (moved e b s) b false []
 moved_so e b s shift acc =
-    let P : EndState → Type 0 = λ z. Shift e.shdlc z b false in
     record {
-      shift = subst P (sym (shdlc_is e b s)) shift;
+      shift = subst (λ z. Shift e.shdlc z b false) (sym (shdlc_is e b s)) shift;
       sent = moved_sent e b s;
       got = sym (ap (news e.shdlc.session) (shdlc_is e b s) ∙ none b shift acc);
     }
@@ -400,8 +398,7 @@ placed_fetch e p = go e.acts refl
                 absurd (let h = top a.behind acts (length e.shdlc.due) here.1 in let l = ap (λ (xs : List Due). length xs) d in omega (arith, h, l, some))
             fewer (d ∷ ds) w =
                 let P : List Due → Type 0 = λ xs. Placed 1 (a ∷ acts) (length xs) in
-                let one : Placed 1 (a ∷ acts) (length e.shdlc.due) = (some, here.1) in
-                rw w (placed_nearer 0 (a ∷ acts) (length ds) (subst P w one))
+                rw w (placed_nearer 0 (a ∷ acts) (length ds) (subst P w (some, here.1)))
 
 -- ### Runs
 
@@ -427,9 +424,6 @@ placed_input e Fetch p = placed_fetch e p
 placed_inputs : (is : List LinkInput) (e : LinkEnd) → IsPlaced e → IsPlaced (after_inputs e is)
 placed_inputs [] e p = p
 placed_inputs (i ∷ is) e p = placed_inputs is (after_input e i) (placed_input e i p)
-
-new_placed : (role : Role) → IsPlaced (new_link_end role)
-new_placed role = grind arith
 
 -- ### One by one
 
@@ -491,14 +485,12 @@ one_by_one (suc k) m e q i p = go (one_by_one k) e.acts refl
         let c : Control = control_due s d in
         let due_is : frame_due s ≡ Some c = rw due refl in
         let next : next_frame e ≡ Some c = (rw (w, z) refl) ∙ due_is in
-        let len = length-map (a ∷ acts) nearer in
         let placed : IsPlaced f = let P : LinkEnd → Type 0 = λ y. IsPlaced y in subst P fetches_f (placed_fetch e p) in
-        let ih = later m' f (omega (arith, q, l, len, is)) (fetched_due s m' (omega (arith, i, is))) placed in
+        let ih = later m' f (omega (arith, q, l, (length-map (a ∷ acts) nearer), is)) (fetched_due s m' (omega (arith, i, is))) placed in
         let fs : List Control = frames_of m' (fetched s) in
-        let frames_are : frames_of m s ≡ c ∷ fs = ap (λ y. frames_of y s) is ∙ (rw due refl) in
         let here : Placed 0 (a ∷ acts) (length s.due) = let P : List ActDue → Type 0 = λ y. Placed 0 y (length s.due) in subst P w p in
         let all : among 0 e.acts (frames_of m s) ≡ c ∷ among 0 ms fs =
-        ap (λ y. among 0 y (frames_of m s)) w ∙ (ap (among 0 (a ∷ acts)) frames_are ∙ behind a.behind refl here.1 fs c) in
+        ap (λ y. among 0 y (frames_of m s)) w ∙ (ap (among 0 (a ∷ acts)) (grind arith) ∙ behind a.behind refl here.1 fs c) in
         grind arith
       where
         behind : (b : ℕ) → a.behind ≡ b → Placed a.behind acts (length s.due) → (fs : List Control) (c : Control)
@@ -506,9 +498,7 @@ one_by_one (suc k) m e q i p = go (one_by_one k) e.acts refl
         behind zero r y fs c = absurd (omega (arith, some, r))
         behind (suc b) r y fs c =
             let P : ℕ → Type 0 = λ x. Placed x acts (length s.due) in
-            let back : b ≡ a.behind - 1 = omega (arith, r) in
             let whole : suc b - 0 ≡ suc b = omega arith in
-            let part : b - 0 ≡ b = omega arith in
             ap (λ x. take (x - 0) (c ∷ fs) ++ Act a.frame false ∷ among x acts (drop (x - 0) (c ∷ fs))) r
             ∙ (ap (λ x. take x (c ∷ fs) ++ Act a.frame false ∷ among (suc b) acts (drop x (c ∷ fs))) whole
             ∙ (ap (λ x. c ∷ (take b fs ++ Act a.frame false ∷ x)) (among-nearer b acts (length s.due) (drop b fs) (subst P r y))
@@ -534,10 +524,10 @@ pub fetched_all : (role : Role) (is : List LinkInput) → length (end_after role
     → fetches (most_fetches (end_after role is)) (end_after role is) ≡ frames_out (end_after role is)
 fetched_all role is few =
     let e : LinkEnd = end_after role is in
-    (one_by_one (most_fetches e) most_frames e refl few (placed_inputs is (new_link_end role) (new_placed role))).frames
+    (one_by_one (most_fetches e) most_frames e refl few (placed_inputs is (new_link_end role) (grind arith))).frames
 
 pub left_all : (role : Role) (is : List LinkInput) → length (end_after role is).shdlc.due ≤ most_frames
     → after_fetches (most_fetches (end_after role is)) (end_after role is) ≡ sent_all (end_after role is)
 left_all role is few =
     let e : LinkEnd = end_after role is in
-    (one_by_one (most_fetches e) most_frames e refl few (placed_inputs is (new_link_end role) (new_placed role))).rest
+    (one_by_one (most_fetches e) most_frames e refl few (placed_inputs is (new_link_end role) (grind arith))).rest

@@ -3,12 +3,11 @@ use Rattle.link_laws.proofs.Words.{Act, ActDue, ActEvent, ActStart, ActStop, Act
 use Rattle.link_laws.proofs.Words.{Down, Due, EndState, Fetch, FetchMessage, Fragment, FromNode, Give, HasTick as Tick, Hold, IsSendable, LinkEnd, LinkInput}
 use Rattle.link_laws.proofs.Words.{List, Message, None, Option, Release, Reset, Role, Session, SetAside, Some, Start, Stop, Take, TakeBroken, TakeUnknown, Turn}
 use Rattle.link_laws.proofs.Words.{Up, [], act_answer, activated, after_input, after_inputs, ap, append-nil, arith, common_steps, cond, drop, end_after}
-use Rattle.link_laws.proofs.Words.{ended_by, ended_by_act, false, fetched, flat_map-append, fragment_due, fragments_of, frame_fetched, give_refusal, given}
-use Rattle.link_laws.proofs.Words.{had_tick, heard, in_use, is_faulty, is_open, is_shdlc, is_some, length, length-append, map, moved, nearer}
-use Rattle.link_laws.proofs.Words.{need, need_of_all, new_link_end, news, next_frame, no_session, not, packet_bytes, packet_count, packets_of, refl}
-use Rattle.link_laws.proofs.Words.{role_after, sent_next, slice_get, slice_get_within, spare, stopped, subst, sym, take, take_answer, taken, tick_answer}
-use Rattle.link_laws.proofs.Words.{ticked, took, true, true≢false, turn, whole_acked, whole_among, with_act, with_ready, ℕ, ◌++◌, ◌+◌, ◌<◌, ◌==◌, ◌∙◌, ◌∷◌, ◌≡◌}
-use Rattle.link_laws.proofs.Words.{◌≤◌, ◌⊎◌}
+use Rattle.link_laws.proofs.Words.{ended_by, false, fetched, flat_map-append, fragment_due, fragments_of, frame_fetched, give_refusal, given, had_tick, heard}
+use Rattle.link_laws.proofs.Words.{in_use, is_faulty, is_open, is_shdlc, is_some, length, length-append, map, moved, nearer, need, need_of_all, new_link_end}
+use Rattle.link_laws.proofs.Words.{news, next_frame, no_session, packet_bytes, packet_count, packets_of, refl, role_after, sent_next, slice_get_within, spare}
+use Rattle.link_laws.proofs.Words.{stopped, subst, sym, take, take_answer, taken, tick_answer, ticked, took, true, true≢false, turn, whole_acked, whole_among}
+use Rattle.link_laws.proofs.Words.{with_act, ℕ, ◌++◌, ◌+◌, ◌<◌, ◌==◌, ◌∙◌, ◌∷◌, ◌≡◌, ◌≤◌, ◌⊎◌}
 use Rattle.link_laws.specs.machine.Laws.{Forgets, IsNone, is_fragment}
 use Rattle.link_laws.proofs.Cases.{by_list, by_option, by_test}
 use Rattle.link_laws.proofs.machine.Sound.{Data, IsNotUp, SentAfter, Shift, need_more, shifted, taken_shift, ticked_shift, whole_acked_before, whole_few}
@@ -41,9 +40,8 @@ moved_is e b s = grind arith
 -- the SHDLC end of an end becomes s
 data_moved : (e : LinkEnd) (b began : Bool) (s : EndState) → Shift e.shdlc s b began → Data e → Data (moved e b s)
 data_moved e b began s shift h =
-    let P : EndState → Type 0 = λ z. Shift e.shdlc z b began in
     let m = moved_is e b s in
-    shifted e (moved e b s) b began (subst P (sym m.0) shift) (sent_moved e b s) m.1 h
+    shifted e (moved e b s) b began (subst (λ z. Shift e.shdlc z b began) (sym m.0) shift) (sent_moved e b s) m.1 h
 
 sound_moved : (e : LinkEnd) (b began : Bool) (s : EndState) → Shift e.shdlc s b began → is_open e.role ≡ true → Sound e → Sound (moved e b s)
 sound_moved e b began s shift o h =
@@ -95,13 +93,7 @@ sound_tick e h =
     by_test (is_open e.role) (λ o. rw o (sound_moved e (is_some (tick_answer e.shdlc).ended) false (ticked e.shdlc) (ticked_shift e.shdlc) o h))
     (λ o. rw o (sound_activated e ActTick h))
 
-sound_reset : (e : LinkEnd) (window : Option ℕ) → Sound e → Sound (after_input e (Reset window))
-sound_reset e window h = grind arith
-
 -- ### What its node does
-
-ready_data : (e : LinkEnd) (r : Bool) → Sound e → Sound (record e { shdlc = with_ready e.shdlc r })
-ready_data e r h = grind arith
 
 -- a message that isn't refused
 record IsGiven (e : LinkEnd) (m : Message) : Type 0 where
@@ -114,22 +106,18 @@ give_tells e m q = grind arith
 data_given : (e : LinkEnd) (m : Message) → IsSendable m → IsGiven e m → Data e → Data (given e m)
 data_given e m s g h =
     let f : Message → List (List ℕ) = λ k. map packet_bytes (packets_of k.0 k.1) in
-    let last : fragments_of (m ∷ []) ≡ f m = append-nil (f m) in
     let a : ℕ = e.shdlc.session.acked in
     let len : length e.shdlc.session.out ≡ length (fragments_of e.sent) = ap (λ (xs : List (List ℕ)). length xs) h.out in
     let count : 0 < packet_count (length m.1) = let n = s.1 in omega (arith, n) in
     let whole : whole_among (e.sent ++ m ∷ []) a ≡ whole_among e.sent a = whole_given e.sent m a count (omega (arith, len, h.acked, h.reached)) in
-    let few = whole_few e.sent a in
-    let more = need_more e.sent m (whole_among e.sent a) few in
-    let blocks : in_use (given e m) ≡ in_use e + need m.1 = ap (λ n. need_of_all (drop n (e.sent ++ m ∷ []))) whole ∙ more in
-    let grown = length-append e.shdlc.session.out (f m) in
+    let more = need_more e.sent m (whole_among e.sent a) (whole_few e.sent a) in
     record {
-      out = ap (λ fs. fs ++ f m) h.out ∙ sym (flat_map-append f e.sent (m ∷ []) ∙ ap (λ fs. fragments_of e.sent ++ fs) last);
+      out = ap (λ fs. fs ++ f m) h.out ∙ sym (flat_map-append f e.sent (m ∷ []) ∙ ap (λ fs. fragments_of e.sent ++ fs) (append-nil (f m)));
       none = λ no. absurd (no g.up);
       forgot = λ no. absurd (no g.up);
       acked = h.acked;
-      reached = omega (arith, h.reached, grown);
-      room = omega (arith, blocks, g.room, h.room);
+      reached = omega (arith, h.reached, (length-append e.shdlc.session.out (f m)));
+      room = omega (arith, (ap (λ n. need_of_all (drop n (e.sent ++ m ∷ []))) whole ∙ more), g.room, h.room);
     }
 
 pub sound_turn : (e : LinkEnd) (t : Turn) → AreSendableInputs (FromNode t ∷ []) → Sound e → Sound (turn e t)
@@ -140,7 +128,7 @@ sound_turn e (Give m) a h =
       closed = λ c. let k = h.closed c in record { phase = k.phase; due = k.due };
     } in rw q s)
     (λ why q. rw q h)
-sound_turn e (Hold held) a h = ready_data e (not held) h
+sound_turn e (Hold held) a h = grind arith
 sound_turn e FetchMessage a h = record { is = data_as e (turn e FetchMessage) refl refl refl h.is; closed = h.closed }
 sound_turn e SetAside a h = grind arith
 sound_turn e Release a h = grind arith
@@ -153,16 +141,13 @@ fetched_data e acts h = go e.shdlc.due (fragment_due e.shdlc.session) refl refl
     s : Session
     s = e.shdlc.session
 
-    next : (info : Fragment) → slice_get s.out s.next ≡ Some info → s.next < length s.out
-    next info q = slice_get_within s.out s.next info q
-
     not_none : (info : Fragment) → fragment_due s ≡ Some info → s ≡ no_session → ⊥
     not_none info q z = let n : None ≡ Some info = sym (ap fragment_due z) ∙ q in cc
 
     go : (ds : List Due) (o : Option Fragment) → e.shdlc.due ≡ ds → fragment_due s ≡ o → Sound (record e { shdlc = fetched e.shdlc; acts = acts })
     go [] None p q = grind arith
     go [] (Some info) p q =
-        let i = next info (grind (arith, common_steps)) in
+        let i = slice_get_within s.out s.next info (grind (arith, common_steps)) in
         let k : Sound (record e { shdlc = (record e.shdlc { session = sent_next s }); acts = acts }) = grind arith in
         rw (p, q) (rw p at k)
     go (d ∷ ds) o p q = grind arith
@@ -180,7 +165,7 @@ sound_input e (Take c) a h = sound_took e c h
 sound_input e TakeUnknown a h = record { is = data_as e (after_input e TakeUnknown) refl refl refl h.is; closed = h.closed }
 sound_input e (TakeBroken fault) a h = h
 sound_input e Tick a h = sound_tick e h
-sound_input e (Reset window) a h = sound_reset e window h
+sound_input e (Reset window) a h = grind arith
 sound_input e (Start v) a h = sound_activated (moved e true (stopped e.shdlc)) (ActStart v) (sound_stopped e h)
 sound_input e Stop a h = sound_activated (moved e true (stopped e.shdlc)) ActStop (sound_stopped e h)
 sound_input e (FromNode t) a h = sound_turn e t a h
@@ -241,10 +226,6 @@ no_fragment role is a n = idle_sends (end_after role is) (sound role is a) n
 
 -- ### The end of a session
 
--- activation ends a session
-forgets_activated : (e : LinkEnd) (event : ActEvent) (cause : Cause) → Sound e → ended_by_act e event ≡ Some cause → Forgets e (activated e event)
-forgets_activated e event cause h q = grind arith
-
 some_is : {A : Type 0} (o : Option A) (x : A) → o ≡ Some x → is_some o ≡ true
 some_is o x q = rw q refl
 
@@ -265,21 +246,14 @@ forgets_heard e c cause h q = by_test (is_faulty (taken e.shdlc c).session) (λ 
     good : (take_answer e.shdlc c).ended ≡ Some cause → Forgets e (record f { got = e.got ++ news e.shdlc.session s })
     good p =
         let k : Forgets e f = grind arith in
-        let none : s.session.acc ≡ [] = grind arith in
         record { sent = k.sent; out = k.out; acc = k.acc; got = ap (λ ms. e.got ++ ms) (grind arith) ∙ append-nil e.got }
 
 forgets_took : (e : LinkEnd) (c : Control) (cause : Cause) → Sound e → ended_by e (Take c) ≡ Some cause → Forgets e (took e c)
-forgets_took e (Act act again) cause h q = forgets_activated e (ActTake act again) cause h q
+forgets_took e (Act act again) cause h q = grind arith
 forgets_took e Clt cause h q = absurd (let z = q in cc)
 forgets_took e frame cause h q =
     by_test {P = Forgets e (took e frame)} (is_open e.role) (λ o. rw o (forgets_heard e frame cause h (let z = q in rw o at z)))
     (λ o. absurd (let z = rw o at q in cc))
-
-forgets_tick : (e : LinkEnd) (cause : Cause) → Sound e → ended_by e Tick ≡ Some cause → Forgets e (had_tick e)
-forgets_tick e cause h q = grind arith
-
-forgets_reset : (e : LinkEnd) (window : Option ℕ) (cause : Cause) → ended_by e (Reset window) ≡ Some cause → Forgets e (after_input e (Reset window))
-forgets_reset e window cause q = grind arith
 
 -- activation begins or ends where the link was put down
 forgets_restart : (e : LinkEnd) (event : ActEvent) → Forgets e (activated (moved e true (stopped e.shdlc)) event)
@@ -287,8 +261,8 @@ forgets_restart e event = grind arith
 
 forgets : (e : LinkEnd) (i : LinkInput) (cause : Cause) → Sound e → ended_by e i ≡ Some cause → Forgets e (after_input e i)
 forgets e (Take c) cause h q = forgets_took e c cause h q
-forgets e Tick cause h q = forgets_tick e cause h q
-forgets e (Reset window) cause h q = forgets_reset e window cause q
+forgets e Tick cause h q = grind arith
+forgets e (Reset window) cause h q = grind arith
 forgets e (Start v) cause h q = forgets_restart e (ActStart v)
 forgets e Stop cause h q = forgets_restart e ActStop
 forgets e _ cause h q = absurd (let z = q in cc)

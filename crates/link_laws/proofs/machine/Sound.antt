@@ -110,8 +110,7 @@ up_I e ns nr info up =
     let on : GoesOn e (received g ns info) =
     at_place nr (option_to_list (fragment_accepted g ns info)) up (received-phase g ns info ∙ up) q s.0 s.2
     (received-acked g ns info) (received-accepted g ns info) in
-    let shift : Shift e (received g ns info) false false = Stays refl refl on in
-    rw (up, q) (rw up at shift))
+    rw (up, q) (rw up at (Stays refl refl on)))
 
 up_S : (e : EndState) (k : Kind) (nr : ℕ) → e.phase ≡ Up → Shift e (taken e (S k nr)) false false
 up_S e k nr up = go k (place_of e.session nr) refl
@@ -177,10 +176,8 @@ pub whole_acked_before : (ms : List Message) (a : ℕ) → length (fragments_of 
 whole_acked_before [] a = omega arith
 whole_acked_before (m ∷ ms) a =
     by_test {P = length (fragments_of (take (whole_among (m ∷ ms) a) (m ∷ ms))) ≤ a} (nat_le n a) (λ p.
-    let i = leb-true n a p in
-    let rest : List Message = take (whole_among ms (a - n)) ms in
-    let l = length-append (map packet_bytes (packets_of m.0 m.1)) (fragments_of rest) in
-    rw p (omega (arith, (whole_acked_before ms (a - n)), i, l, fragments_count m)))
+    let l = length-append (map packet_bytes (packets_of m.0 m.1)) (fragments_of (take (whole_among ms (a - n)) ms)) in
+    rw p (omega (arith, (whole_acked_before ms (a - n)), (leb-true n a p), l, fragments_count m)))
     (λ p. rw p (omega arith))
   where
     n : ℕ
@@ -242,12 +239,9 @@ idle e f sent aside s h = grind arith
 -- a step keeps all that
 pub shifted : (e f : LinkEnd) (ended began : Bool) → Shift e.shdlc f.shdlc ended began → SentAfter ended e f → f.aside ≡ e.aside → Data e → Data f
 shifted e f ended began (Stays p q g) sent aside h =
-    let same : f.sent ≡ e.sent = subst (λ b. SentAfter b e f) p sent in
-    let out : f.shdlc.session.out ≡ e.shdlc.session.out = g.out in
-    let len = ap (λ (xs : List (List ℕ)). length xs) out in
+    let len = ap (λ (xs : List (List ℕ)). length xs) g.out in
     let less = need_less e.sent (whole_among e.sent e.shdlc.session.acked) (whole_among e.sent f.shdlc.session.acked)
     (whole_more e.sent e.shdlc.session.acked f.shdlc.session.acked g.low) in
-    let blocks : in_use f ≡ need_of_all (drop (whole_among e.sent f.shdlc.session.acked) e.sent) = grind arith in
     grind arith
 shifted e f ended began (Ends p q up down s) sent aside h = idle e f (subst (λ b. SentAfter b e f) p sent) aside s h
 shifted e f ended began (Renews p q up n) sent aside h = fresh e f (subst (λ b. SentAfter b e f) p sent) aside n h

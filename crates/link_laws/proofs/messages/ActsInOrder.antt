@@ -1,10 +1,9 @@
 -- Frames of activation on the wires of a link: an active CLF never meets ACT_SYNC_ID.
 use Rattle.std.specs.Prelude.{◌+◌}
-use Rattle.link_laws.proofs.Words.{Act, ActOut, ActReady, ActTake, ActTick, Activation, Awaiting, Bare, Bool, Clf, ClfAct, Control}
-use Rattle.link_laws.proofs.Words.{Down, EndState, I, Inactive, Link, LinkEnd, List, None, OnWire, Option, Phase, PowerMode, Role, Rset, S, Some}
-use Rattle.link_laws.proofs.Words.{SyncId, Uicc, [], act_answer, act_frame, aged_wire, ap, arith, false, fetched, fits, frame_due, frames_of, inl, inr, is_act}
-use Rattle.link_laws.proofs.Words.{is_active, is_open, nat_le, nat_lt, put, put_all, refl, role_after, subst, suc, sym, true, true≢false, zero, ℕ, ◌++◌, ◌∙◌}
-use Rattle.link_laws.proofs.Words.{◌∷◌, ◌≡◌, ◌⊎◌}
+use Rattle.link_laws.proofs.Words.{Act, ActOut, ActReady, ActTake, ActTick, Activation, Awaiting, Bare, Bool, Clf, ClfAct, Control, Down, EndState, I, Inactive}
+use Rattle.link_laws.proofs.Words.{Link, LinkEnd, List, None, OnWire, Option, Phase, PowerMode, Role, Rset, S, Some, SyncId, Uicc, [], act_answer, act_frame}
+use Rattle.link_laws.proofs.Words.{aged_wire, ap, arith, false, fetched, fits, frame_due, frames_of, inl, inr, is_act, is_active, is_open, nat_le, nat_lt, put}
+use Rattle.link_laws.proofs.Words.{put_all, refl, role_after, subst, suc, sym, true, true≢false, zero, ℕ, ◌++◌, ◌∙◌, ◌∷◌, ◌≡◌, ◌⊎◌}
 use Rattle.swp_act.specs.declared.Phase.TheVariants.{Active}
 use Rattle.swp_act.specs.declared.uicc.UiccAct.{UiccAct}
 use Rattle.swp_act.specs.Activation.{no_act_out, sends, clf_step, uicc_step}

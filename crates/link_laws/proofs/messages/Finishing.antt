@@ -13,7 +13,7 @@ use Rattle.link_laws.proofs.Words.{steps_at_controller, stopped, subst, sym, tic
 use Rattle.link_laws.proofs.Words.{turned, window_of, with_controller, with_ended, ℕ, ◌++◌, ◌∙◌, ◌∷◌, ◌≡◌, ◌⊎◌}
 use Rattle.link_laws.specs.messages.Projection.{core_restart}
 use Rattle.link_laws.proofs.messages.Project.{Idle, Keeps, Mid, NoAsk, NoRset, Now, Step, Tells, among_now, frames_alike, frames_now, host_ended, mid_moved}
-use Rattle.link_laws.proofs.messages.Project.{moved_role, no_rset, none_due, past_ended, puts_none, step_moved, step_same, step_turned, taken_asks, ticked_asks}
+use Rattle.link_laws.proofs.messages.Project.{moved_role, no_rset, none_due, past_ended, puts_none, step_moved, step_same, step_turned, taken_asks}
 use Rattle.link_laws.proofs.messages.Project.{ticked_keeps, turned_asks, turned_phase, turned_role, turns_mid}
 use Rattle.link_laws.proofs.messages.ActsInOrder.{ActsInOrder, LinkInOrder, IsPolite, with_sent, in_order_tick}
 use Rattle.link_laws.proofs.machine.Runs.{opened}
@@ -23,10 +23,6 @@ use Rattle.link_laws.proofs.messages.Steps.{role_closes, ComesFirst, step_first,
 use Rattle.link_laws.proofs.Cases.{by_list, by_phase, by_test}
 
 -- ## A step that is cut off
-
--- both wires are empty, and the end is Down
-pub silent-core : (l : Link) (e : LinkEnd) → core_of (silent l e) ≡ core_silent (core_of l) e.shdlc
-silent-core l e = by_phase l.controller.side.shdlc.phase (λ p. rw p refl) (λ p. rw p refl) (λ p. rw p refl)
 
 -- its node loses power
 pub step_cut : (l : Link) → IfLine l.controller.side.role → Tells l.controller → Step l (cut l) (core_silent (core_of l) (new_end 4))
@@ -99,16 +95,13 @@ first_none l ts x xs a comes = go x.frame refl
     shdlc true o s =
         let f = took_open e x s o (no_fault_first l x xs comes.first comes.tells comes.host o comes.from) in
         let g = heard_is e x comes.tells.now o in
-        let Q : EndState → Type 0 = λ z. NoAsk z.due in
-        subst P (sym f.0) (none_out None (heard_end e x) ts a g.mid (subst Q (sym g.shdlc) (taken_asks e.shdlc x.frame none)))
+        subst P (sym f.0) (none_out None (heard_end e x) ts a g.mid (subst (λ z. NoAsk z.due) (sym g.shdlc) (taken_asks e.shdlc x.frame none)))
     shdlc false o s = subst P (sym (took_closed e x.frame s o).0) (none_out None e ts a comes.tells.now none)
 
     acts : (act : Activation) (again : Bool) → x.frame ≡ Act act again → P (took e x.frame)
     acts act again q =
         let event : ActEvent = ActTake act again in
-        let down = polite e x xs act again q comes.polite in
-        let closed : is_open (role_after e.role event) ≡ false → e.shdlc.phase ≡ Down = λ z. by (role_closes e.role act again z) in
-        let m = act_mid e event comes.tells.now comes.rests.due down closed in
+        let m = act_mid e event comes.tells.now comes.rests.due (polite e x xs act again q comes.polite) (λ z. by (role_closes e.role act again z)) in
         let due : (activated e event).shdlc.due ≡ [] = ap (λ (z : EndState). z.due) m.same ∙ comes.rests.due in
         subst P (sym (ap (took e) q)) (none_out (act_answer e.role event).send (activated e event) ts a m.mid (none_due (activated e event).shdlc due))
       where
@@ -276,7 +269,7 @@ step_restart l event ts ending a can h wires =
     let role : g.role ≡ role_after e.role event = activated_role (moved e true (stopped e.shdlc)) event in
     let P : Role → Type 0 = λ r. ActsInOrder r l.host.side.role [] (with_sent o []) in
     let st = step_turned l k o g ts (host_ended l b) (past_ended l b h) a m.mid (λ z. subst P (sym role) (wires z)) in
-    let c : core_of k ≡ core_happens_here (core_of l) CoreStop = silent-core l g ∙ ap (core_silent (core_of l)) m.same in
+    let c : core_of k ≡ core_happens_here (core_of l) CoreStop = (grind arith) ∙ ap (core_silent (core_of l)) m.same in
     let out =
     step_ends l k (turned g ts) (core_becomes (core_put_all (core_of k) (frames_now o)) (core_turned g.shdlc us)) ending st
     (none_out o g ts a m.mid (none_due g.shdlc (ap (λ (z : EndState). z.due) m.same)))
@@ -388,7 +381,7 @@ step_tick_open l ts ending a can h r o = go ending (is_lost_tick e ending) can r
 
     go : (ending : Ending) (c : Bool) → CanEnd e.role ending → is_lost_tick e ending ≡ c → Step l (ticks_at_controller l ts ending) (CoreTick l ts ending)
     go GoesOut c can q = sends
-    go CutOff false can q = kept CutOff can q (ticked_asks e.shdlc (waits false q) (none_due e.shdlc r.due))
+    go CutOff false can q = kept CutOff can q (let h0 = waits false q in let h1 = none_due e.shdlc r.due in grind arith)
     go CutOff true can q =
         let k = lost_tick CutOff q in
         let w = waits true q in

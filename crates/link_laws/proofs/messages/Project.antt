@@ -5,11 +5,10 @@ use Rattle.link_laws.proofs.Words.{EndState, FetchMessage, Fragment, Give, Hold,
 use Rattle.link_laws.proofs.Words.{Option, Rej_due, Release, Rnr_due, Role, Rr_due, Rset_due, S, SetAside, SetReady, Some, Talk, Turn, Ua_due, Up, []}
 use Rattle.link_laws.proofs.Words.{acknowledged, act_frame, after_frames, among, ap, append-nil, arith, becomes, core_of, core_turned}
 use Rattle.link_laws.proofs.Words.{core_turned as shdlc_turned, core_turns, core_with_ended, false, fetched, flat_map-append, fragments_of, frame_due}
-use Rattle.link_laws.proofs.Words.{frames_of, frames_out, give_refusal, given, is_open, is_rset, is_some, is_waiting, length, map, most_frames, moved}
-use Rattle.link_laws.proofs.Words.{option_to_list, packet_bytes, packets_of, place_of, put, put_all, received, refl}
-use Rattle.link_laws.proofs.Words.{shdlc_becomes as core_becomes, shdlc_put as core_put, shdlc_put_all as core_put_all, shdlc_turn}
-use Rattle.link_laws.proofs.Words.{subst, suc, sym, take_answer, taken, talk_now, tick_answer, ticked, true, turn, turned, with_ended}
-use Rattle.link_laws.proofs.Words.{with_shdlc_controller as core_with_controller, zero, ℕ, ◌++◌, ◌∙◌, ◌∷◌, ◌≡◌, ◌≤◌}
+use Rattle.link_laws.proofs.Words.{frames_of, frames_out, give_refusal, given, is_open, is_rset, is_some, length, map, most_frames, moved}
+use Rattle.link_laws.proofs.Words.{option_to_list, packet_bytes, packets_of, place_of, put, put_all, received, refl, shdlc_becomes as core_becomes}
+use Rattle.link_laws.proofs.Words.{shdlc_put as core_put, shdlc_put_all as core_put_all, shdlc_turn, subst, suc, sym, take_answer, taken, talk_now, tick_answer}
+use Rattle.link_laws.proofs.Words.{ticked, true, turn, turned, with_ended, with_shdlc_controller as core_with_controller, zero, ℕ, ◌++◌, ◌∙◌, ◌∷◌, ◌≡◌, ◌≤◌}
 use Rattle.link_laws.specs.messages.Projection.{core_turn}
 use Rattle.link_laws.specs.sending.Sending.{IsShort}
 use Rattle.link_laws.proofs.Cases.{by_option, by_phase}
@@ -61,10 +60,6 @@ taken_asks e c a =
     by_taken (λ _ f _. NoAsk f.due) e (λ ns nr info p. up_I e ns nr info p a) (λ kind nr p. up_S e kind nr p a) (λ _. a) (λ _ _ _. (refl, tt))
     (λ _ _ _. no_ask_more e.due Ua_due refl a) (λ _ _ _. no_ask_more e.due Ua_due refl a) (λ _. a) c
 
--- nor does a tick, where the end doesn't wait then
-pub ticked_asks : (e : EndState) → is_waiting (ticked e) ≡ false → NoAsk e.due → NoAsk (ticked e).due
-ticked_asks e n a = grind arith
-
 turn_asks : (e : EndState) (t : ShdlcTurn) → NoAsk e.due → NoAsk (shdlc_turn e t).due
 turn_asks e (Offer fs) a = by_phase {P = NoAsk (shdlc_turn e (Offer fs)).due} e.phase (λ p. rw p a) (λ p. rw p a) (λ p. rw p a)
 turn_asks e (SetReady r) a = ready_cases (λ f. NoAsk f.due) e r a a (no_ask_more e.due Rr_due refl a)
@@ -105,8 +100,7 @@ no_rset (suc n) e a =
 pub puts_none : (cs : List Control) (l : Link) → NoRset cs → put_all l cs ≡ record l { to_host = (put_all l cs).to_host }
 puts_none [] l a = refl
 puts_none (c ∷ cs) l a =
-    let later = puts_none cs (put l c) a.1 in
-    later ∙ ap (λ (m : Link). record m { to_host = (put_all (put l c) cs).to_host }) (one c a.0)
+    (puts_none cs (put l c) a.1) ∙ ap (λ (m : Link). record m { to_host = (put_all (put l c) cs).to_host }) (one c a.0)
   where
     one : (c : Control) → is_rset c ≡ false → put l c ≡ record l { to_host = (put l c).to_host }
     one c q = grind arith
@@ -190,13 +184,12 @@ short_more (x ∷ ms) m h s = (h.0, short_more ms m h.1 s)
 mid_given : (o : Option Activation) (e : LinkEnd) (m : Message) → Mid o e → e.shdlc.phase ≡ Up → IsShort m → Mid o (given e m)
 mid_given o e m h up short =
     let f : Message → List (List ℕ) = λ k. map packet_bytes (packets_of k.0 k.1) in
-    let last : fragments_of (m ∷ []) ≡ f m = append-nil (f m) in
     record {
       acts = h.acts;
       idle = λ n. absurd (n up);
       closed = h.closed;
       says = record {
-        out = ap (λ fs. fs ++ f m) h.says.out ∙ sym (flat_map-append f e.sent (m ∷ []) ∙ ap (λ fs. fragments_of e.sent ++ fs) last);
+        out = ap (λ fs. fs ++ f m) h.says.out ∙ sym (flat_map-append f e.sent (m ∷ []) ∙ ap (λ fs. fragments_of e.sent ++ fs) (append-nil (f m)));
         short = short_more e.sent m h.says.short short;
       };
     }
@@ -232,8 +225,7 @@ pub turns_mid : (o : Option Activation) (e : LinkEnd) (ts : List Turn) → AreSe
 turns_mid o e [] a h = record { mid = h; is = refl }
 turns_mid o e (t ∷ ts) a h =
     let p = parted t ts a in
-    let one = turn_mid o e t p.0 h in
-    let more = turns_mid o (turn e t) ts p.1 one.mid in
+    let more = turns_mid o (turn e t) ts p.1 (turn_mid o e t p.0 h).mid in
     grind arith
   where
     parted : (t : Turn) (ts : List Turn) → AreSendableTurns (t ∷ ts) → AreSendableTurns (t ∷ []) × AreSendableTurns ts
@@ -318,8 +310,7 @@ becomes_in_order l k o e host acts in_order =
     let b = beside-put_all (frames_out e) k in
     let v : List OnWire = (put_all k (frames_out e)).to_host in
     let P : NumberedEnd → Type 0 = λ g. ActsInOrder e.role g.side.role (put_all k (frames_out e)).to_controller v in
-    let Q : List OnWire → Type 0 = λ w. ActsInOrder e.role l.host.side.role w v in
-    subst P (sym (b.host ∙ host)) (subst Q (sym b.to_controller) goes)
+    subst P (sym (b.host ∙ host)) (subst (λ w. ActsInOrder e.role l.host.side.role w v) (sym b.to_controller) goes)
   where
     frames : frames_out e ≡ frames_now o ++ frames_of most_frames e.shdlc
     frames = ap (λ a. among 0 a (frames_of most_frames e.shdlc)) acts ∙ among_now o (frames_of most_frames e.shdlc)

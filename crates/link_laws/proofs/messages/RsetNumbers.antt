@@ -1,5 +1,5 @@
 -- RSETs on a link come of ticks and of resets that are asked for, and their numbers are no greater than their count.
-use Rattle.link_laws.proofs.Words.{Act as ActFrame, ActDue, ActEvent, ActStart, ActStop, ActTake, ActTick, Activate, AsksReset, AtController, AtHost, Bool, Clt}
+use Rattle.link_laws.proofs.Words.{Act as ActFrame, ActDue, ActEvent, ActTake, ActTick, Activate, AsksReset, AtController, AtHost, Bool, Clt}
 use Rattle.link_laws.proofs.Words.{Comes, Control, CutOff, Due, EndEvent, EndState, Ending, FetchMessage, Fragment, Give, GoesOut, HasTick as Tick, Hold, I}
 use Rattle.link_laws.proofs.Words.{IsStart, Kind, Link, LinkEnd, LinkEvent, LinkInput, LinkState, List, Lose, NextFrame, NoInput, None, NumberedEnd, OnWire}
 use Rattle.link_laws.proofs.Words.{Option, Rej_due, Release, Reset, Rnr_due, Rr_due, Rset_due, S, SetAside, Some, Starts, Step, Stops, Take, Ticks}
@@ -8,8 +8,8 @@ use Rattle.link_laws.proofs.Words.{all_at_controller, among, arith, cond, deacti
 use Rattle.link_laws.proofs.Words.{frame_due, frames_of, frames_out, had_tick, happens, happens_at_controller, has_input, has_restarted, has_taken, heard}
 use Rattle.link_laws.proofs.Words.{is_faulty, is_open, is_rset, is_some, is_up, left_after, most_frames, moved, nat_lt, news, not, number_of, place_of, put}
 use Rattle.link_laws.proofs.Words.{put_all, put_down, received, refl, reset_with, rset_causes_in, rsets_among, rsets_due, sent_all, silent, started}
-use Rattle.link_laws.proofs.Words.{steps_at_controller, stopped, suc, take, take_answer, taken, tick_answer, ticked, ticks_at_controller, took, took_with, true}
-use Rattle.link_laws.proofs.Words.{turn, turned, waiting_from, with_controller, with_ended, zero, ℕ, ◌++◌, ◌+◌, ◌-◌, ◌∙◌, ◌∷◌, ◌≡◌, ◌≤◌}
+use Rattle.link_laws.proofs.Words.{steps_at_controller, suc, take, take_answer, taken, tick_answer, ticked, ticks_at_controller, took, took_with, true}
+use Rattle.link_laws.proofs.Words.{turn, turned, waiting_from, with_ended, zero, ℕ, ◌++◌, ◌+◌, ◌-◌, ◌∙◌, ◌∷◌, ◌≡◌, ◌≤◌}
 use Rattle.link_laws.specs.machine.Machine.{unless}
 use Rattle.link_laws.specs.messages.Rsets.{EndIsLow, HasLowNumbers, NumbersWithin, WireIsLow, resets_in_coming, resets_in_event, resets_in_events, rset_causes}
 use Rattle.link_laws.specs.messages.Rsets.{rsets_made}
@@ -91,14 +91,11 @@ heard_due e c = go (is_faulty (taken e.shdlc c).session)
     go false =
         let m = moved_due e (is_some (take_answer e.shdlc c).ended) (taken e.shdlc c) in let z = taken_due e.shdlc c in omega (arith, m, z)
 
-open_due : (e : LinkEnd) (c : Control) → rsets_due (cond (is_open e.role) (heard e c) e) ≤ rsets_due e
-open_due e c = grind (arith, is_open, heard, heard_due)
-
 -- no frame makes an RSET
 took_due : (e : LinkEnd) (c : Control) → rsets_due (took e c) ≤ rsets_due e
 took_due e (ActFrame act again) = activated_due e (ActTake act again)
 took_due e Clt = omega arith
-took_due e frame = open_due e frame
+took_due e frame = grind (arith, is_open, heard, heard_due)
 
 -- a tick makes one at most
 had_tick_due : (e : LinkEnd) → rsets_due (had_tick e) ≤ rsets_due e + 1
@@ -112,13 +109,6 @@ had_tick_due e = go (is_open e.role)
 -- and so does a reset
 had_reset_due : (e : LinkEnd) (window : Option ℕ) → rsets_due (after_input e (Reset window)) ≤ rsets_due e + 1
 had_reset_due e window = grind (arith, unless, moved_due, is_some, reset_due)
-
--- activation that begins or ends leaves none
-started_due : (e : LinkEnd) (value : ℕ) → rsets_due (started e value) ≤ rsets_due e
-started_due e value = let z = activated_due (moved e true (stopped e.shdlc)) (ActStart value) in omega (arith, z)
-
-deactivated_due : (e : LinkEnd) → rsets_due (deactivated e) ≤ rsets_due e
-deactivated_due e = let z = activated_due (moved e true (stopped e.shdlc)) ActStop in omega (arith, z)
 
 -- ### What a node does to an end
 
@@ -156,11 +146,8 @@ among_rsets : (n : ℕ) (acts : List ActDue) (fs : List Control) → rsets (amon
 among_rsets n [] fs = refl
 among_rsets n (a ∷ acts) fs =
     let k : ℕ = a.behind - n in
-    let rest : List Control = among a.behind acts (drop k fs) in
-    let all = rsets_append (take k fs) (ActFrame a.frame false ∷ rest) in
     let back = among_rsets a.behind acts (drop k fs) in
-    let whole = take_and_drop k fs in
-    omega (arith, all, back, whole)
+    omega (arith, (rsets_append (take k fs) (ActFrame a.frame false ∷ (among a.behind acts (drop k fs)))), back, (take_and_drop k fs))
 
 -- ### All that is due goes out
 
@@ -168,13 +155,9 @@ abbrev rset_of : Option Control → ℕ
 rset_of None = 0
 rset_of (Some c) = cond (is_rset c) 1 0
 
--- an RSET that is fetched is due no more
-fetched_rset : (e : EndState) → rsets_among (fetched e).due + rset_of (frame_due e) ≤ rsets_among e.due
-fetched_rset e = grind arith
-
 frames_rsets : (n : ℕ) (e : EndState) → rsets_among (after_frames n e).due + rsets (frames_of n e) ≤ rsets_among e.due
 frames_rsets zero e = omega arith
-frames_rsets (suc n) e = go (frame_due e) (frames_rsets n (fetched e)) (fetched_rset e)
+frames_rsets (suc n) e = go (frame_due e) (frames_rsets n (fetched e)) (grind arith)
   where
     by : Option Control → List Control → List Control
     by None later = []
@@ -230,20 +213,16 @@ tick_makes : (l : Link) (ts : List Turn) (ending : Ending)
 tick_makes l ts ending =
     let e : LinkEnd = after_input l.controller.side Tick in
     let b : Bool = is_some (ended_by l.controller.side Tick) in
-    let z = turned_due ts e in
-    let o = had_tick_due l.controller.side in
     finished_makes (l.resets + rsets_due l.controller.side + 1) l (with_ended l b) (turned e ts) ending (ended_resets l b) (ended_host l b)
-    (omega (arith, z, o))
+    (omega (arith, (turned_due ts e), (had_tick_due l.controller.side)))
 
 reset_makes : (l : Link) (window : Option ℕ) (ts : List Turn) (ending : Ending)
     → Makes (l.resets + rsets_due l.controller.side + 1) l (has_input l (Reset window) ts ending)
 reset_makes l window ts ending =
     let e : LinkEnd = after_input l.controller.side (Reset window) in
     let b : Bool = is_some (ended_by l.controller.side (Reset window)) in
-    let z = turned_due ts e in
-    let o = had_reset_due l.controller.side window in
     finished_makes (l.resets + rsets_due l.controller.side + 1) l (with_ended l b) (turned e ts) ending (ended_resets l b) (ended_host l b)
-    (omega (arith, z, o))
+    (omega (arith, (turned_due ts e), (had_reset_due l.controller.side window)))
 
 taken_makes : (l : Link) (x : OnWire) (xs : List OnWire) (ts : List Turn) (ending : Ending)
     → Makes (l.resets + rsets_due l.controller.side) l (has_taken l x xs ts ending)
@@ -252,18 +231,15 @@ taken_makes l x xs ts ending =
     let b : Bool = is_some (ended_by l.controller.side (Take x.frame)) in
     let m : Link = with_ended (record l { to_controller = xs }) b in
     let k : Link = record m { controller = record m.controller { took = took_with l.controller.took x } } in
-    let z = turned_due ts e in
-    let o = took_due l.controller.side x.frame in
     finished_makes (l.resets + rsets_due l.controller.side) l k (turned e ts) ending (ended_resets (record l { to_controller = xs }) b)
-    (ended_host (record l { to_controller = xs }) b) (omega (arith, z, o))
+    (ended_host (record l { to_controller = xs }) b) (omega (arith, (turned_due ts e), (took_due l.controller.side x.frame)))
 
 restarted_makes : (l : Link) (e : LinkEnd) (ts : List Turn) (ending : Ending) → rsets_due e ≤ rsets_due l.controller.side
     → Makes (l.resets + rsets_due l.controller.side) l (has_restarted l e ts ending)
 restarted_makes l e ts ending few =
     let b : Bool = is_up l.controller.side.shdlc.phase in
-    let z = turned_due ts e in
     finished_makes (l.resets + rsets_due l.controller.side) l (silent l e) (turned e ts) ending (ended_resets l b) (ended_host l b)
-    (omega (arith, z, few))
+    (omega (arith, (turned_due ts e), few))
 
 steps_make : (l : Link) (comes : Comes) (ts : List Turn) (ending : Ending)
     → Makes (l.resets + rsets_due l.controller.side + resets_in_coming comes) l (steps_at_controller l comes ts ending)
@@ -278,10 +254,10 @@ steps_make l NextFrame ts ending = go l.to_controller
     go (x ∷ xs) = let z = taken_makes l x xs ts ending in record { made = let m = z.made in omega (arith, m); far = z.far }
 steps_make l (AsksReset window) ts ending = reset_makes l window ts ending
 steps_make l (Starts value) ts ending =
-    let z = restarted_makes l (started l.controller.side value) ts ending (started_due l.controller.side value) in
+    let z = restarted_makes l (started l.controller.side value) ts ending (grind arith) in
     record { made = let m = z.made in omega (arith, m); far = z.far }
 steps_make l Stops ts ending =
-    let z = restarted_makes l (deactivated l.controller.side) ts ending (deactivated_due l.controller.side) in
+    let z = restarted_makes l (deactivated l.controller.side) ts ending (grind arith) in
     record { made = let m = z.made in omega (arith, m); far = z.far }
 steps_make l NoInput ts ending =
     let z = turned_due ts l.controller.side in
@@ -310,10 +286,7 @@ made_there l comes ts ending = grind (arith, made_in_step, made_exchanged)
 pub made_in_tick_there : (l : Link) (ts : List Turn) (ending : Ending)
     → rsets_made (exchanged (ticks_at_controller (exchanged l) ts ending)) ≤ rsets_made l + 1
 made_in_tick_there l ts ending =
-    let a = made_in_tick (exchanged l) ts ending in
-    let b = made_exchanged (ticks_at_controller (exchanged l) ts ending) in
-    let c = made_exchanged l in
-    omega (arith, a, b, c)
+    omega (arith, (made_in_tick (exchanged l) ts ending), (made_exchanged (ticks_at_controller (exchanged l) ts ending)), (made_exchanged l))
 
 made_here : (l : Link) (e : EndEvent) → rsets_made (happens_at_controller l e) ≤ rsets_made l + resets_in_event e
 made_here l (Step comes ts ending) = made_in_step l comes ts ending
@@ -327,26 +300,16 @@ made_by_all (e ∷ es) l = let z = made_by_all es (happens_at_controller l e) in
 
 pub made_by_event : (l : Link) (e : LinkEvent) → rsets_made (happens l e) ≤ rsets_made l + rset_causes e
 made_by_event l (AtController e) = made_here l e
-made_by_event l (AtHost e) =
-    let a = made_here (exchanged l) e in
-    let b = made_exchanged (happens_at_controller (exchanged l) e) in
-    let c = made_exchanged l in
-    omega (arith, a, b, c)
+made_by_event l (AtHost e) = omega (arith, (made_here (exchanged l) e), (made_exchanged (happens_at_controller (exchanged l) e)), (made_exchanged l))
 made_by_event l (Ticks c events h) =
     let near : Link = ticks_at_controller (aged l) c.turns c.ending in
-    let x = made_in_tick (aged l) c.turns c.ending in
-    let y = made_by_all events near in
     let z = made_in_tick_there (all_at_controller near events) h.turns h.ending in
-    omega (arith, x, y, z)
+    omega (arith, (made_in_tick (aged l) c.turns c.ending), (made_by_all events near), z)
 made_by_event l (TicksWithout events h) =
-    let y = made_by_all events (aged l) in
-    let z = made_in_tick_there (all_at_controller (aged l) events) h.turns h.ending in
-    omega (arith, y, z)
+    omega (arith, (made_by_all events (aged l)), (made_in_tick_there (all_at_controller (aged l) events) h.turns h.ending))
 made_by_event l (Activate power c id h) =
-    let near : Link = steps_at_controller l (Starts power) c.turns c.ending in
-    let x = made_in_step l (Starts power) c.turns c.ending in
-    let y = made_there near (Starts id) h.turns h.ending in
-    omega (arith, x, y)
+    let y = made_there (steps_at_controller l (Starts power) c.turns c.ending) (Starts id) h.turns h.ending in
+    omega (arith, (made_in_step l (Starts power) c.turns c.ending), y)
 
 made_by_events : (events : List LinkEvent) (l : Link) → rsets_made (after_link_events l events) ≤ rsets_made l + rset_causes_in events
 made_by_events [] l = omega arith
@@ -375,10 +338,7 @@ low_fits n wire a = grind arith
 
 low_aged : (n : ℕ) (wire : List OnWire) → WireIsLow n wire → WireIsLow n (aged_wire wire)
 low_aged n [] a = tt
-low_aged n (x ∷ wire) a = go (nat_lt x.age 4) (low_aged n wire a.1)
-  where
-    go : (b : Bool) → WireIsLow n (aged_wire wire) → WireIsLow n (cond b (record x { age = x.age + 1 } ∷ aged_wire wire) (aged_wire wire))
-    go b later = grind arith
+low_aged n (x ∷ wire) a = let h0 = nat_lt x.age 4 in let h1 = low_aged n wire a.1 in grind arith
 
 pub took_low : (n t : ℕ) (x : OnWire) → t ≤ n → x.number ≤ n → took_with t x ≤ n
 took_low n t x q a = grind arith
@@ -445,17 +405,11 @@ puts_numbered : (cs : List Control) (l : Link) → HasLowNumbers l → HasLowNum
 puts_numbered [] l a = a
 puts_numbered (c ∷ cs) l a = puts_numbered cs (put l c) (put_numbered l c a)
 
-with_numbered : (l : Link) (e : LinkEnd) → HasLowNumbers l → HasLowNumbers (with_controller l e)
-with_numbered l e a = grind arith
-
-ended_numbered : (l : Link) (b : Bool) → HasLowNumbers l → HasLowNumbers (with_ended l b)
-ended_numbered l b a = grind arith
-
 pub silent_numbered : (l : Link) (e : LinkEnd) → HasLowNumbers l → HasLowNumbers (silent l e)
 silent_numbered l e a = grind arith
 
 finished_numbered : (l : Link) (e : LinkEnd) (ending : Ending) → HasLowNumbers l → HasLowNumbers (finished l e ending)
-finished_numbered l e GoesOut a = with_numbered (put_all l (frames_out e)) (sent_all e) (puts_numbered (frames_out e) l a)
+finished_numbered l e GoesOut a = let h0 = put_all l (frames_out e) in let h1 = sent_all e in let h2 = puts_numbered (frames_out e) l a in grind arith
 finished_numbered l e CutOff a = grind arith
 
 -- ### Steps
@@ -463,16 +417,12 @@ finished_numbered l e CutOff a = grind arith
 input_numbered : (l : Link) (i : LinkInput) (ts : List Turn) (ending : Ending) → HasLowNumbers l → HasLowNumbers (has_input l i ts ending)
 input_numbered l i ts ending a =
     let b : Bool = is_some (ended_by l.controller.side i) in
-    finished_numbered (with_ended l b) (turned (after_input l.controller.side i) ts) ending (ended_numbered l b a)
-
--- the link where the near end has taken x, and these frames are left
-left_numbered : (l : Link) (x : OnWire) (xs : List OnWire) → l.to_controller ≡ x ∷ xs → HasLowNumbers l → HasLowNumbers (left_after l x xs)
-left_numbered l x xs q a = grind arith
+    finished_numbered (with_ended l b) (turned (after_input l.controller.side i) ts) ending (grind arith)
 
 taken_numbered : (l : Link) (x : OnWire) (xs : List OnWire) (ts : List Turn) (ending : Ending) → l.to_controller ≡ x ∷ xs → HasLowNumbers l
     → HasLowNumbers (has_taken l x xs ts ending)
 taken_numbered l x xs ts ending q a =
-    finished_numbered (left_after l x xs) (turned (after_input l.controller.side (Take x.frame)) ts) ending (left_numbered l x xs q a)
+    finished_numbered (left_after l x xs) (turned (after_input l.controller.side (Take x.frame)) ts) ending (grind arith)
 
 restarted_numbered : (l : Link) (e : LinkEnd) (ts : List Turn) (ending : Ending) → HasLowNumbers l → HasLowNumbers (has_restarted l e ts ending)
 restarted_numbered l e ts ending a = finished_numbered (silent l e) (turned e ts) ending (silent_numbered l e a)

@@ -4,7 +4,7 @@ use Rattle.link_laws.proofs.Words.{ActStart, ActStop, Activate, AllAllowed, AllD
 use Rattle.link_laws.proofs.Words.{AreTurns as CoreAreTurns, AsksReset, AtController, AtHost, Bare, BothDown, BothUp, CanStart, Chain, Clf, ClfAct, Comes}
 use Rattle.link_laws.proofs.Words.{Control, CoreAreUpTogether, CoreAtController, CoreAtHost, CoreDeliver, CoreEndEvent, CoreInOrder, CoreIsAllowed, CoreLink}
 use Rattle.link_laws.proofs.Words.{CoreTurn, EndEvent, Ending, FragmentsDelivered as CoreAllDelivered, InOrder, IsAllowed, IsBare, IsClf, IsEvent, IsFrontOf}
-use Rattle.link_laws.proofs.Words.{IsLine, IsNode, IsOwn, IsQuiet, IsShdlcQuiet as CoreIsQuiet, IsShdlcSettled as CoreIsSettled, IsShdlcStart as CoreIsStart}
+use Rattle.link_laws.proofs.Words.{IsLine, IsNode, IsOwn, IsQuiet, IsShdlcQuiet as CoreIsQuiet, IsShdlcStart as CoreIsStart}
 use Rattle.link_laws.proofs.Words.{IsStart, IsUicc, Link, LinkEnd, LinkEvent, LinkTogether as AreUpTogether, List, Lose, Loss, Message, NextFrame, NoInput}
 use Rattle.link_laws.proofs.Words.{Node, NumberedEnd, OnWire, Option, Role, ShdlcLinkEvent as CoreLinkEvent, Starts, Step as EndStep, Stops, Take, Talk}
 use Rattle.link_laws.proofs.Words.{Tick as CoreTick, TickWithout as CoreTickWithout, Ticks, TicksWithout, Turn, Up, [], after_link_events, aged}
@@ -172,9 +172,8 @@ all_step kf l (e ∷ es) a h s =
     let r = rests_of 0 kf (core_of l) s in
     let one = own_here l e a.0 a.1 h r in
     let m : Link = happens_at_controller l e in
-    let turns = own_turns l e r a.0 a.1 in
     let P : CoreLink → Type 0 = λ c. SafeLink 0 kf c in
-    let more = all_step kf m es a.2 one.tells (subst P (sym one.core) (safe_turns kf (core_here l e) (core_of l) turns s)) in
+    let more = all_step kf m es a.2 one.tells (subst P (sym one.core) (safe_turns kf (core_here l e) (core_of l) (own_turns l e r a.0 a.1) s)) in
     grind arith
 
 pub tells_same : (h k : NumberedEnd) → h ≡ k → Tells k → Tells h
@@ -255,12 +254,11 @@ ticked_there l m x h s a =
     let n : Link = ticks_at_controller (exchanged m) h.turns h.ending in
     let three = step_tick (exchanged m) h.turns h.ending a.0 a.1 (tells_same m.host l.host s.host s.far)
     (rests_of 1 0 (core_of (exchanged m)) (safe_exchanged 0 1 (core_of m) s.safe)) in
-    let there : List CoreEndEvent = core_tick_rest l.host.side h.turns h.ending in
     let u : Option (List CoreTurn) = core_tick l.host.side h.turns h.ending in
     record {
       core = ap core_exchanged
           (grind arith)
-          ∙ sym (after_there (core_exchanged (core_ticks_or_cut u (core_exchanged x))) there);
+          ∙ sym (after_there (core_exchanged (core_ticks_or_cut u (core_exchanged x))) (core_tick_rest l.host.side h.turns h.ending));
       good = record { controller = tells_same n.host m.controller three.host s.near; host = three.tells; in_order = seen n (three.in_order (seen m s.wires)) };
     }
 
@@ -348,10 +346,8 @@ pub run : (events : List LinkEvent) (l : Link) → AllAllowed l events → Good 
     → Run l (after_link_events l events) (core_after (core_of l) (core_events l events)) (core_events l events)
 run [] l a g r = record { core = refl; good = g; reached = r; allowed = tt }
 run (e ∷ es) l a g r =
-    let c : CoreLink = core_after (core_of l) (core_event l e) in
     let st = event_step l e a.0 g r in
-    let next : Reached c = reached_more (core_of l) (core_event l e) st.allowed r in
-    let more = run es (happens l e) a.1 st.good (subst Reached (sym st.core) next) in
+    let more = run es (happens l e) a.1 st.good (subst Reached (sym st.core) (reached_more (core_of l) (core_event l e) st.allowed r)) in
     let q : core_after (core_of (happens l e)) (core_events (happens l e) es) ≡ core_after (core_of l) (core_event l e ++ core_events (happens l e) es) =
     ap (λ d. core_after d (core_events (happens l e) es)) st.core ∙ sym (after-append (core_of l) (core_event l e) (core_events (happens l e) es)) in
     record {
@@ -403,12 +399,8 @@ front_of_front [] ys all a b i = (ys, refl)
 front_of_front (x ∷ xs) [] all a b i = absurd (omega (arith, i))
 front_of_front (x ∷ xs) (y ∷ ys) [] a b i = absurd (let z = a.1 in cc)
 front_of_front (x ∷ xs) (y ∷ ys) (z ∷ all) a b i =
-    let p = a.1 in
-    let q = b.1 in
     let same : x ≡ y = cc in
-    let s : xs ++ a.0 ≡ all = cc in
-    let t : ys ++ b.0 ≡ all = cc in
-    let f = front_of_front xs ys all (a.0, s) (b.0, t) (omega (arith, i)) in
+    let f = front_of_front xs ys all (a.0, cc) (b.0, cc) (omega (arith, i)) in
     (f.0, ap (λ w. w ∷ (xs ++ f.0)) same ∙ ap (λ ws. y ∷ ws) f.1)
 
 taken_front : (n : ℕ) (ms : List Message) → IsFrontOf (fragments_of (take n ms)) (fragments_of ms)
@@ -443,8 +435,7 @@ pub in_order_here_of_whole : (l : Link) → IsStart l → (events : List LinkEve
 in_order_here_of_whole l s events a n =
     let m = after_link_events l events in
     let o = (ordered (core_of m) (reached l s events a)).there n in
-    let g = (from_start l s events a).good in
-    in_messages (talk_of m.controller n) (talk_of m.host n) (says_of m.controller n g.controller)
+    in_messages (talk_of m.controller n) (talk_of m.host n) (says_of m.controller n ((from_start l s events a).good).controller)
     (subst (λ z. CoreInOrder z (talk_of m.host n).session) (session-core m.controller n)
     (subst (λ r. CoreInOrder (shdlc_session_of (core_end m.controller) n) r) (session-core m.host n) o))
 
@@ -453,8 +444,7 @@ pub in_order_there_of_whole : (l : Link) → IsStart l → (events : List LinkEv
 in_order_there_of_whole l s events a n =
     let m = after_link_events l events in
     let o = (ordered (core_of m) (reached l s events a)).here n in
-    let g = (from_start l s events a).good in
-    in_messages (talk_of m.host n) (talk_of m.controller n) (says_of m.host n g.host)
+    in_messages (talk_of m.host n) (talk_of m.controller n) (says_of m.host n ((from_start l s events a).good).host)
     (subst (λ z. CoreInOrder z (talk_of m.controller n).session) (session-core m.host n)
     (subst (λ r. CoreInOrder (shdlc_session_of (core_end m.host) n) r) (session-core m.controller n) o))
 
@@ -527,19 +517,17 @@ whole_all (m ∷ ms) n i =
   where
     count : length (fragments_of (m ∷ ms)) ≡ packet_count (length m.1) + length (fragments_of ms)
     count =
-        let a = length-append (map packet_bytes (packets_of m.0 m.1)) (fragments_of ms) in
         let b = length-map (packets_of m.0 m.1) packet_bytes ∙ packets_are_counted m.0 m.1 in
-        omega (arith, a, b)
+        omega (arith, (length-append (map packet_bytes (packets_of m.0 m.1)) (fragments_of ms)), b)
 
 in_messages_of_quiet : (s r : Talk) → Says s → CoreAllDelivered s.session r.session → AllDelivered s r
 in_messages_of_quiet s r says d =
     let all : r.session.acc ≡ fragments_of s.sent = d.accepted ∙ says.out in
     let given : messages_got r.session ≡ good_messages_of r.session.acc =
     ap good_of (all_given s.sent r.session.acc says.short ([], append-nil r.session.acc ∙ all)) in
-    let count : s.session.acked ≡ length (fragments_of s.sent) = d.acked ∙ ap (λ (fs : List (List ℕ)). length fs) says.out in
     record {
       got = given ∙ (ap good_messages_of all ∙ ap good_of (joined_again s.sent (sendable s.sent says.short)));
-      acked = whole_all s.sent s.session.acked (omega (arith, count));
+      acked = whole_all s.sent s.session.acked (omega (arith, (d.acked ∙ ap (λ (fs : List (List ℕ)). length fs) says.out)));
     }
 
 quiet_core : (l : Link) → IsStart l → (events : List LinkEvent) → AllAllowed l events → IsQuiet (after_link_events l events) (losses_of l events)
@@ -550,8 +538,7 @@ pub all_here : (l : Link) → IsStart l → (events : List LinkEvent) → AllAll
     → AllDelivered (talk_now (after_link_events l events).controller.side) (talk_now (after_link_events l events).host.side)
 all_here l s events a q =
     let m = after_link_events l events in
-    let P : CoreLink → Type 0 = λ c. CoreAllDelivered c.controller.side.session c.host.side.session in
-    let d = subst P (sym (projected l s events a))
+    let d = subst (λ c. CoreAllDelivered c.controller.side.session c.host.side.session) (sym (projected l s events a))
     (delivered_here (core_of l) (core_starts l s) (core_events l events) (allowed l s events a) (quiet_core l s events a q)) in
     in_messages_of_quiet (talk_now m.controller.side) (talk_now m.host.side) (from_start l s events a).good.controller.now.says d
 
@@ -559,8 +546,7 @@ pub all_there : (l : Link) → IsStart l → (events : List LinkEvent) → AllAl
     → AllDelivered (talk_now (after_link_events l events).host.side) (talk_now (after_link_events l events).controller.side)
 all_there l s events a q =
     let m = after_link_events l events in
-    let P : CoreLink → Type 0 = λ c. CoreAllDelivered c.host.side.session c.controller.side.session in
-    let d = subst P (sym (projected l s events a))
+    let d = subst (λ c. CoreAllDelivered c.host.side.session c.controller.side.session) (sym (projected l s events a))
     (delivered_there (core_of l) (core_starts l s) (core_events l events) (allowed l s events a) (quiet_core l s events a q)) in
     in_messages_of_quiet (talk_now m.host.side) (talk_now m.controller.side) (from_start l s events a).good.host.now.says d
 
@@ -569,8 +555,6 @@ pub up_together : (l : Link) → IsStart l → (events : List LinkEvent) → All
     → AreUpTogether (after_link_events l events)
 up_together l s events a q =
     let p = projected l s events a in
-    let P : CoreLink → Type 0 = λ c. CoreIsSettled c (sure_of l events) in
-    let settled : CoreIsSettled (core_after (core_of l) (core_events l events)) (sure_of l events) = grind arith in
     let up : CoreAreUpTogether (core_of (after_link_events l events)) =
-    subst CoreAreUpTogether (sym p) (core_up_together (core_of l) (core_starts l s) (core_events l events) (allowed l s events a) settled) in
+    subst CoreAreUpTogether (sym p) (core_up_together (core_of l) (core_starts l s) (core_events l events) (allowed l s events a) (grind arith)) in
     record { controller = up.controller; host = up.host; number = up.number }

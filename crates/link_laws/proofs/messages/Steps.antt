@@ -2,7 +2,7 @@
 use Rattle.std.proofs.Common.{not}
 use Rattle.std.specs.Prelude.{◌+◌}
 use Rattle.link_laws.proofs.Words.{Act, ActEvent, ActTake, ActTick, Activation, AreSendableTurns, Bool, ByAct, Clt, Control, CoreActs, CoreDeliver, CoreInOrder}
-use Rattle.link_laws.proofs.Words.{CoreLink, CoreTurn, Down, EndState, Ignore as CoreIgnore, IsFrontOf, IsTrue, Link, LinkEnd, LinkState, List, None}
+use Rattle.link_laws.proofs.Words.{CoreLink, CoreTurn, Down, EndState, Ignore as CoreIgnore, IsTrue, Link, LinkEnd, LinkState, List, None}
 use Rattle.link_laws.proofs.Words.{NumberedEnd, NumberedShdlc as CoreEnd, OnWire, Option, Role, Session, Talk, Turn, Up, [], act_answer, activated}
 use Rattle.link_laws.proofs.Words.{after_frames, ap, are_taken, arith, becomes, cond, core_all_here, core_end, core_happens_here, core_of, core_past, core_take}
 use Rattle.link_laws.proofs.Words.{core_turned, core_turns, core_with_ended, ended_by_frame, ended_session, ended_talk, eq-eqb, false, fragments_of, if_up, inl}
@@ -49,11 +49,6 @@ heard_end e x =
 abbrev pub heard_first : Link → List Turn → OnWire → List OnWire → Link
 heard_first l ts x xs = took_as l ts x xs (is_some (take_answer l.controller.side.shdlc x.frame).ended) (heard_end l.controller.side x)
 
--- the first frame is gone
-first_gone : (l : Link) (x : OnWire) (xs : List OnWire) → l.to_controller ≡ x ∷ xs → LinkInOrder l
-    → ActsInOrder l.controller.side.role l.host.side.role xs l.to_host
-first_gone l x xs w z = grind arith
-
 -- an end g came of the frame x, and its session ended or not
 pub record Heard (e g : LinkEnd) (x : OnWire) (b : Bool) : Type 0 where
   pub ended : is_some (take_answer e.shdlc x.frame).ended ≡ b
@@ -73,7 +68,7 @@ step_heard l ts x xs g b w h a heard = (record { core = (go b).core ∙ sym is; 
     at b = with_took (with_ended (record l { to_controller = xs }) b) (took_with l.controller.took x)
 
     wires : LinkInOrder l → ActsInOrder g.role l.host.side.role xs l.to_host
-    wires z = let P : Role → Type 0 = λ r. ActsInOrder r l.host.side.role xs l.to_host in subst P (sym heard.role) (first_gone l x xs w z)
+    wires z = let P : Role → Type 0 = λ r. ActsInOrder r l.host.side.role xs l.to_host in subst P (sym heard.role) (grind arith)
 
     core_at : Bool → CoreLink
     core_at b =
@@ -231,8 +226,7 @@ no_fault_first l x xs w h t o from =
         ≡ s.session.acc = ap (λ (z : Session). z.acc) (session_now (core_end m.controller) (alike.phase ∙ p)) ∙ alike.acc in
         let out : (shdlc_session_of (core_end m.host) n).out ≡ fragments_of (talk_of l.host n).sent =
         ap (λ (z : Session). z.out) (ap (λ (z : NumberedEnd). shdlc_session_of (core_end z) n) st.host ∙ session-core l.host n) ∙ says.out in
-        let front : IsFrontOf s.session.acc (fragments_of (talk_of l.host n).sent) = grind arith in
-        sound (are_taken [] (packets_in s.session.acc)) (no_fault (talk_of l.host n).sent s.session.acc says.short front)
+        sound (are_taken [] (packets_in s.session.acc)) (no_fault (talk_of l.host n).sent s.session.acc says.short (grind arith))
 
 -- ## Events
 
@@ -301,7 +295,7 @@ step_first l ts x xs a comes = go x.frame refl
         ∙ (ignore_is (core_of l) (core_turns (took e x.frame) ts) x xs (comes.tells.now.closed o) comes.first
         ∙ (ap (λ f. core_becomes (core_of k) (core_turned e.shdlc (core_turns f ts))) is
         ∙ ap (λ s. core_becomes (core_of k) (core_turned s us)) (sym shdlc))))
-        (step_turned l k None g ts refl comes.tells.past a mid (λ z. subst P (sym role) (first_gone l x xs comes.first z)))
+        (step_turned l k None g ts refl comes.tells.past a mid (λ z. subst P (sym role) (grind arith)))
 
     shdlc : (b : Bool) → is_open e.role ≡ b → is_shdlc x.frame ≡ true → is_act x.frame ≡ false
         → Step l (took_first l ts x xs) (core_all_here (core_of l) (core_take e x.frame ts))
@@ -324,13 +318,10 @@ step_first l ts x xs a comes = go x.frame refl
         → Step l (took_first l ts x xs) (core_all_here (core_of l) (core_take e (Act act again) ts))
     acts act again q =
         let event : ActEvent = ActTake act again in
-        let down = polite e x xs act again q comes.polite in
         let o : Option Activation = (act_answer e.role event).send in
-        let closed : is_open (role_after e.role event) ≡ false → e.shdlc.phase ≡ Down = λ z. by (role_closes e.role act again z) in
         let f : LinkEnd = activated e event in
-        let m = act_mid e event comes.tells.now comes.rests.due down closed in
+        let m = act_mid e event comes.tells.now comes.rests.due (polite e x xs act again q comes.polite) (λ z. by (role_closes e.role act again z)) in
         let k : Link = record l { to_controller = xs } in
-        let st = step_turned l k o f ts refl comes.tells.past a m.mid (taken_calm act again q) in
         let frame_is : took_first l ts x xs ≡ took_as l ts x xs false f =
         took_is_as l ts x xs false f (grind arith) (ap (took e) q) in
         let counts : took_with l.controller.took x ≡ l.controller.took = rw (ap is_rset q) refl in
@@ -344,7 +335,7 @@ step_first l ts x xs a comes = go x.frame refl
         ap (λ z. core_becomes (core_put_all (core_of k) (frames_now o)) (core_turned z (core_turns f ts))) m.same in
         step_same l (took_first l ts x xs) (becomes k (turned f ts)) (core_all_here (core_of l) (core_take e (Act act again) ts))
         (core_becomes (core_put_all (core_of k) (frames_now o)) (core_turned f.shdlc (core_turns f ts)))
-        (frame_is ∙ same) (core ∙ sym last) st
+        (frame_is ∙ same) (core ∙ sym last) (step_turned l k o f ts refl comes.tells.past a m.mid (taken_calm act again q))
       where
         by : (is_open e.role ≡ false) ⊎ ((act_answer e.role (ActTake act again)).ended_link ≡ true) → e.shdlc.phase ≡ Down
         by (inl z) = comes.tells.now.closed z

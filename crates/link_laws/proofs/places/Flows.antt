@@ -245,8 +245,6 @@ module _ {out : List Fragment} {w a s m : ℕ} {acc : List Fragment} {there back
       → Flows out w a (s + 1) (max m (s + 1)) acc (there ++ I s n info ∷ []) back
   flows_send n {info} inside is =
       let within : s < length out = slice_get_within out s info is in
-      let more : m ≤ max m (s + 1) = omega arith in
-      let follows : MayFollow out (length acc) (max m (s + 1)) s info = grind arith in
       record {
         window = h.window;
         wide = h.wide;
@@ -257,7 +255,7 @@ module _ {out : List Fragment} {w a s m : ℕ} {acc : List Fragment} {there back
         front = h.front;
         sent = omega arith;
         counts = h.counts;
-        places = places_push n there follows (places_reach out (length acc) m (max m (s + 1)) there more h.places);
+        places = places_push n there (grind arith) (places_reach out (length acc) m (max m (s + 1)) there (omega arith) h.places);
       }
 
   -- the sender answers as a receiver
@@ -317,9 +315,6 @@ pub flows_accept : {out : List Fragment} {w a s m : ℕ} {acc : List Fragment} {
     → Flows out w a s m acc (I p n info ∷ there) back → p ≡ length acc → Flows out w a s m (acc ++ info ∷ []) there back
 flows_accept {out} {a = a} {m = m} {acc} {there} {back} {info = info} h e =
     let one : length (acc ++ info ∷ []) ≡ length acc + 1 = length-append acc (info ∷ []) in
-    let more : length acc ≤ length acc + 1 = omega arith in
-    let below : NoneBelow (length acc) there = rw (← e) h.places.3 in
-    let is : slice_get out (length acc) ≡ Some info = rw (← e) h.places.2 in
     record {
       window = h.window;
       wide = h.wide;
@@ -327,10 +322,10 @@ flows_accept {out} {a = a} {m = m} {acc} {there} {back} {info = info} h e =
       next_reach = h.next_reach;
       reach_out = h.reach_out;
       reach_window = h.reach_window;
-      front = front_accept acc out info is h.front;
+      front = front_accept acc out info (rw (← e) h.places.2) h.front;
       sent = omega (arith, h.places.1);
-      counts = rw one (counts_higher a (length acc) (length acc + 1) back more h.counts);
-      places = rw one (places_accepted out (length acc) m there below h.places.4);
+      counts = rw one (counts_higher a (length acc) (length acc + 1) back (omega arith) h.counts);
+      places = rw one (places_accepted out (length acc) m there (rw (← e) h.places.3) h.places.4);
     }
 
 -- a frame is taken or lost

@@ -5,7 +5,7 @@ use mathlib.Core.List.{IsPrefix}
 use Rattle.link_laws.proofs.Words.{Act, Bool, Clt, Control, Due, EndState, Fragment, FragmentsDelivered, I, Kind, List, None, Option, Rej, Rej_due, Rnr}
 use Rattle.link_laws.proofs.Words.{Rnr_due, Rr, Rr_due, Rset, S, Session, Some, Srej, Ua, Up, [], accepted, acknowledged, after_frames, ahead, ap, arith}
 use Rattle.link_laws.proofs.Words.{control_due, discarded, expected, false, fetched, fragment_due, fragment_due-within, frame_due, inl, inr, is_rnr, length}
-use Rattle.link_laws.proofs.Words.{length-append, lt-ltb, made_busy, nat_lt, place_of, put_out, ready_again, received, refl, rejected, repeated, sent_again}
+use Rattle.link_laws.proofs.Words.{length-append, lt-ltb, made_busy, place_of, put_out, ready_again, received, refl, rejected, repeated, sent_again}
 use Rattle.link_laws.proofs.Words.{sent_next, slice_get, suc, sym, take_answer, taken, tick_answer, ticked, true, true≢false, with_frame, with_ready, zero, ℕ}
 use Rattle.link_laws.proofs.Words.{◌%◌, ◌++◌, ◌+◌, ◌-◌, ◌<◌, ◌∙◌, ◌∷◌, ◌≡◌, ◌≤◌, ◌⊎◌}
 use Rattle.link_laws.specs.places.Wire.{OnWire, older}
@@ -131,7 +131,6 @@ module _ (W : Type 0) where
   pub joined_put : (near far : EndState) (to_near to_far : List OnWire) (more : List Fragment)
       → Joined W near far to_near to_far → Joined W (put_out near more) far to_near to_far
   joined_put near far to_near to_far more h =
-      let s = near.session in
       record {
         near_up = h.near_up;
         far_up = h.far_up;
@@ -216,7 +215,6 @@ module _ (W : Type 0) where
           let sends : Sends e.session t.acc h.far_marks ms = grind arith in
           let receives : Sends t s.acc ms h.far_marks = flows_past far_sends in
           let low : t.acked ≤ length s.acc = counts_le t.acked (length s.acc) h.far_marks far_sends.counts in
-          let high : p ≤ length s.acc + 3 = omega (arith, far_sends.places.1, far_sends.reach_window, far_sends.window, low) in
           let whole : W → NoRnr far.due → Whole e.session t.acc far.due h.far_marks ms = grind arith in
           -- a place that isn't ahead of what was accepted shows no gap
           let no_gap : (ahead e.session (p % 8) ≡ 0 → ⊥) → ahead e.session (p % 8) < 4 → p ≤ length s.acc → ⊥ = grind arith in
@@ -225,7 +223,7 @@ module _ (W : Type 0) where
           λ d a g b c. (grind arith) in (
             rw shows.0 (taken_I (λ f. Joined W f far to_near to_far) near (p % 8) (n % 8) n info h.near_up place
                 (received_cases (λ f. Joined W f far to_near to_far) e (p % 8) info
-                (λ z. let at : p ≡ length s.acc = ahead_other e.session p far_sends.places.0 high z in
+                (λ z. let at : p ≡ length s.acc = ahead_other e.session p far_sends.places.0 (grind arith) z in
                 record {
                   near_up = h.near_up;
                   far_up = h.far_up;
@@ -254,7 +252,6 @@ module _ (W : Type 0) where
                 (λ z g. same (e.due ++ Rr_due ∷ []) (answers_push e.due Rr_due tt h.near_due) s.gap_open s.answered_rnr
                 (λ w q.
                 let y = far_whole w (no_rnr_push near.due Rr_due q) in
-                let below : p < length s.acc = not_expected e.session p z y.caught.0 in
                 let still : length s.acc ≡ max (length s.acc) (p + 1) = omega arith in
                 record {
                   caught = rw still y.caught.1;
@@ -307,7 +304,6 @@ module _ (W : Type 0) where
       → Joined W near far to_near to_far → Joined V (record near { due = ds }) far to_near (with_frame to_far (S k (expected near.session)))
   joined_answered weak {near} {far} {to_far = to_far} k due acks rnr h =
       let s = near.session in
-      let t = far.session in
       record {
         near_up = h.near_up;
         far_up = h.far_up;
@@ -328,7 +324,6 @@ module _ (W : Type 0) where
       → Joined V (record near { session = sent_next near.session }) far to_near (with_frame to_far (I (near.session.next % 8) (expected near.session) info))
   joined_sent weak {near} {far} {to_far = to_far} {info} is h =
       let s = near.session in
-      let t = far.session in
       let tells = fragment_due-within s info is in
       record {
         near_up = h.near_up;
@@ -377,11 +372,8 @@ after_frames_idle (suc n) e h = rw (fetched_idle e h) (after_frames_idle n e h)
 abbrev pub left : EndState → ℕ
 left e = length e.due + (e.session.acked + e.session.window - e.session.next)
 
-nothing_left : (e : EndState) → left e ≡ 0 → frame_due e ≡ None
-nothing_left e h = grind arith
-
 pub idle_after : (n : ℕ) (e : EndState) → left e ≤ n → frame_due (after_frames n e) ≡ None
-idle_after zero e h = nothing_left e (omega arith)
+idle_after zero e h = grind arith
 idle_after (suc n) e h = go (grind arith) (λ less. idle_after n (fetched e) less)
   where
     go : (frame_due e ≡ None) ⊎ (left (fetched e) + 1 ≤ left e) → (left (fetched e) ≤ n → frame_due (after_frames n (fetched e)) ≡ None)
@@ -407,10 +399,8 @@ pub few_taken : (e : EndState) (acc : List Fragment) (x : OnWire) (xs : List OnW
     → e.phase ≡ Up → Shows (x ∷ xs) back → Sends e.session acc there back → length (taken e x.frame).due ≤ length e.due + 1
 few_taken e acc x xs there [] up shows sends = absurd shows
 few_taken e acc x xs there (I p n info ∷ ms) up shows sends =
-    let s = e.session in
     let number = flows_number (I p n info) n refl sends in
-    let reach : s.reached ≤ s.acked + 4 = omega (arith, sends.window, sends.reach_window) in
-    rw shows.0 (few_taken_I e (p % 8) (n % 8) n info up (place_found s n number.0 number.1 reach))
+    rw shows.0 (few_taken_I e (p % 8) (n % 8) n info up (place_found e.session n number.0 number.1 (omega (arith, sends.window, sends.reach_window))))
 few_taken e acc x xs there (S k n ∷ ms) up shows sends = grind arith
 few_taken e acc x xs there (Rset _ _ ∷ ms) up shows sends = absurd sends.counts
 few_taken e acc x xs there (Ua ∷ ms) up shows sends = absurd sends.counts
@@ -429,27 +419,21 @@ past_end (x ∷ xs) (suc k) h = omega (arith, past_end xs k h)
 
 whole_front : (acc out : List Fragment) → IsPrefix acc out → length out ≤ length acc → acc ≡ out
 whole_front acc out p h =
-    let none : length p.0 ≡ 0 = omega (arith, length-append acc p.0, ap length p.1) in
-    let empty : p.0 ≡ [] = nil_from_length p.0 none in
-    sym (append-nil acc) ∙ ap (λ l. acc ++ l) (sym empty) ∙ p.1
+    sym (append-nil acc) ∙ ap (λ l. acc ++ l) (sym (nil_from_length p.0 (omega (arith, length-append acc p.0, ap length p.1)))) ∙ p.1
 
 no_fragment : (e : EndState) → frame_due e ≡ None → fragment_due e.session ≡ None
 no_fragment e = grind arith
 
 -- a sender that may send and has nothing due has sent all
 all_sent : (s : Session) → s.peer_busy ≡ false → s.next < s.acked + s.window → fragment_due s ≡ None → length s.out ≤ s.next
-all_sent s free inside none =
-    let may : nat_lt s.next (s.acked + s.window) ≡ true = lt-ltb s.next (s.acked + s.window) inside in
-    past_end s.out s.next (rw (free, may) at none)
+all_sent s free inside none = past_end s.out s.next (rw (free, (lt-ltb s.next (s.acked + s.window) inside)) at none)
 
 -- one direction, with no mark on either wire and no answer due
 delivered_by : (s : Session) (acc : List Fragment) → Sends s acc [] [] → Whole s acc [] [] [] → fragment_due s ≡ None
     → (acc ≡ s.out) × (s.acked ≡ length s.out)
 delivered_by s acc sends whole none =
     let told : s.acked ≡ length acc = whole.told refl in
-    let caught : length acc ≡ s.reached = whole.caught in
-    let inside : s.next < s.acked + s.window = omega (arith, sends.acked_next, sends.next_reach, sends.wide) in
-    let all : length s.out ≤ s.next = all_sent s whole.free inside none in
+    let all : length s.out ≤ s.next = all_sent s whole.free (omega (arith, sends.acked_next, sends.next_reach, sends.wide)) none in
     (whole_front acc s.out sends.front (omega (arith, sends.next_reach)), omega (arith, sends.next_reach, sends.reach_out))
 
 pub delivered : {W : Type 0} {near far : EndState} {to_near to_far : List OnWire} → Joined W near far to_near to_far → W
@@ -458,8 +442,6 @@ delivered {near = near} {far} {to_near} {to_far} h w near_idle far_idle near_emp
     let a : h.near_marks ≡ [] = no_marks to_near h.near_marks near_empty h.near_shows in
     let b : h.far_marks ≡ [] = no_marks to_far h.far_marks far_empty h.far_shows in
     let d : far.due ≡ [] = no_due far far_idle in
-    let none : NoRnr far.due = rw d tt in
-    let sends : Sends near.session far.session.acc [] [] = rw (a, b) at h.near_sends in
-    let whole : Whole near.session far.session.acc [] [] [] = rw (a, b, d) at (h.near_whole w none) in
-    let all = delivered_by near.session far.session.acc sends whole (no_fragment near near_idle) in
+    let whole : Whole near.session far.session.acc [] [] [] = rw (a, b, d) at (h.near_whole w (rw d tt)) in
+    let all = delivered_by near.session far.session.acc (rw (a, b) at h.near_sends) whole (no_fragment near near_idle) in
     record { accepted = all.0; acked = all.1 }

@@ -48,7 +48,6 @@ parts_taken pipe zero left bytes ms packets alone fits =
 parts_taken pipe (suc n) left bytes ms packets alone fits =
     let p = packet false pipe (take 28 left) in
     let step = more_step ms p (not_fifth ms pipe alone.few) (not_long ms p bytes alone (omega (arith, length-take 28 left))) refl in
-    let grown_is : grown ms p ≡ bytes ++ take 28 left = ap (λ bs. bs ++ take 28 left) alone.under_way in
     let next : others ms pipe ++ (pipe, grown ms p) ∷ [] ≡ (pipe, bytes ++ take 28 left) ∷ [] = grind arith in
     ap (λ ps. are_taken ms (ps ++ packets)) (parts_of-more pipe n left)
     ∙ (ap (λ s. not (is_fault s.0) && are_taken s.1 (parts_of pipe (suc n) (drop 28 left) ++ packets)) step
@@ -61,15 +60,12 @@ parts_taken pipe (suc n) left bytes ms packets alone fits =
 packet_count-suc : (len : ℕ) → 0 < len → (n : ℕ) × (packet_count len ≡ suc n)
 packet_count-suc len some = ((len + 27) / 28 - 1, omega arith)
 
-none_alone : (pipe : ℕ) → Alone [] pipe []
-none_alone pipe = record { few = omega arith; rest = refl; under_way = refl }
-
 all_taken : (sent : List (ℕ × List ℕ)) → AreShort sent → are_taken [] (packets_of_all sent) ≡ true
 all_taken [] short = refl
 all_taken (m ∷ sent) short =
     let count = packet_count-suc (length m.1) short.0.0.1 in
     ap (λ n. are_taken [] (parts_of m.0 n m.1 ++ packets_of_all sent)) count.1
-    ∙ (parts_taken m.0 count.0 m.1 [] [] (packets_of_all sent) (none_alone m.0) (omega (arith, short.0.1)) ∙ all_taken sent short.1)
+    ∙ (parts_taken m.0 count.0 m.1 [] [] (packets_of_all sent) (grind arith) (omega (arith, short.0.1)) ∙ all_taken sent short.1)
 
 front_taken : (front rest : List Packet) (ms : List (ℕ × List ℕ)) → are_taken ms (front ++ rest) ≡ true → are_taken ms front ≡ true
 front_taken [] rest ms taken = refl
@@ -84,8 +80,7 @@ pub no_fault : (sent : List (ℕ × List ℕ)) (got : List (List ℕ)) → AreSh
 no_fault sent got short front =
     let all : packets_in got ++ packets_in front.0 ≡ packets_of_all sent = sym (filter_map-append packet_of got front.0)
     ∙ (ap packets_in front.1 ∙ packets_in-fragments sent short) in
-    let taken : are_taken [] (packets_in got) ≡ true = front_taken (packets_in got) (packets_in front.0) [] (ap (are_taken []) all ∙ all_taken sent short) in
-    subst IsTrue (sym taken) (search rules)
+    subst IsTrue (sym (front_taken (packets_in got) (packets_in front.0) [] (ap (are_taken []) all ∙ all_taken sent short))) (search rules)
 
 pub all_given : (sent : List (ℕ × List ℕ)) (got : List (List ℕ)) → AreShort sent → IsFrontOf got (fragments_of sent)
     → given_by [] (packets_in got) ≡ messages_of (packets_in got)

@@ -2,11 +2,11 @@
 use Rattle.std.proofs.Common.{◌==◌, max}
 use Rattle.link_laws.proofs.Words.{Act, Clt, Control, Down, Due, EndState, Fragment, I, Kind, LinkState, List, None, NumberedShdlc, OnWire, Option}
 use Rattle.link_laws.proofs.Words.{Rej_due, Rnr_due, Rr_due, Rset, S, Session, Some, Ua, Up, Waiting, [], accepted, acknowledged, ap, append_assoc, arith}
-use Rattle.link_laws.proofs.Words.{discarded, ended_session, eqb-true, false, inl, inr, length, length-append, made_busy, new_session, no_session}
+use Rattle.link_laws.proofs.Words.{discarded, ended_session, eqb-true, false, inl, inr, length, length-append, made_busy, no_session}
 use Rattle.link_laws.proofs.Words.{older, place_of, ready_again, refl, rejected, repeated, sent_next, shdlc_number_of, shdlc_session_of, slice_get}
 use Rattle.link_laws.proofs.Words.{slice_get_within, sym, take_answer, taken, ℕ, ◌%◌, ◌++◌, ◌+◌, ◌<◌, ◌∙◌, ◌∷◌, ◌≡◌, ◌≤◌, ◌⊎◌}
 use Rattle.link_laws.proofs.places.Joined.{ahead_other, answer_I, answer_S, place_found, received_cases, taken_I, taken_S}
-use Rattle.link_laws.proofs.places.Flows.{Carries, Counts, MayFollow, NoneBelow, Places, counts_higher, counts_le, counts_lost, counts_lower, counts_push}
+use Rattle.link_laws.proofs.places.Flows.{Carries, Counts, MayFollow, Places, counts_higher, counts_le, counts_lost, counts_lower, counts_push}
 use Rattle.link_laws.proofs.places.Flows.{front_accept, places_accepted, places_grow, places_push, places_push_S, places_reach, reduced}
 use Rattle.link_laws.proofs.sessions.Wire.{IsData, no_rset_step, rsets}
 use Rattle.link_laws.proofs.Cases.{by_test}
@@ -40,10 +40,6 @@ pub record Active (w : List OnWire) (mine theirs : Session) : Type 0 where
 abbrev pub OnLive : Option (List OnWire) → Session → Session → Type 0
 OnLive None mine theirs = Unit {0}
 OnLive (Some w) mine theirs = Active w mine theirs
-
--- an empty part of a wire
-pub active_empty : (mine theirs : Session) → Base mine theirs → Active [] mine theirs
-active_empty mine theirs b = record { marks = []; shows = tt; places = tt; counts = b.acked }
 
 -- ## Sessions by number
 
@@ -98,9 +94,6 @@ of_begin P h g down up past all new k = (let h0 = (k == shdlc_number_of g) in le
 -- an end in whose session the other accepted the same
 base_there : {r s t : Session} → t.acc ≡ s.acc → Base r s → Base r t
 base_there a b = grind arith
-
-pub base_begins_there : (s : Session) (w : ℕ) → Base s no_session → Base s (new_session w)
-base_begins_there s w b = base_there refl b
 
 -- ## The near end is Up: its session, the other end's of the same number, and the two parts of the wires
 
@@ -188,7 +181,7 @@ active_lost x w mine theirs b h = go h.marks h.shows h.places h.counts
   where
     go : (ms : List Control) → ShowsAct (x ∷ w) ms → Places theirs.out (length mine.acc) theirs.reached ms → Counts mine.acked (length theirs.acc) ms
         → Active w mine theirs
-    go [] s p c = rw s.1 (active_empty mine theirs b)
+    go [] s p c = rw s.1 (grind arith)
     go (m ∷ ms) s p c =
         record {
           marks = ms;
@@ -301,7 +294,6 @@ taken_up e {r} {x} {here} {there} up data' h = go h.comes.marks h.comes.shows h.
         let number = number_of_mark s r (I p n info) n ms h.mine refl counts in
         let place : place_of s (n % 8) ≡ Some n = place_found s n number.from number.reached (omega (arith, h.mine.within, h.mine.most)) in
         let f : EndState = acknowledged e n in
-        let high : p ≤ length s.acc + 3 = omega (arith, places.1, h.theirs.within, h.theirs.most, h.theirs.acked) in
         let upper : max s.next n ≤ s.reached = omega (arith, h.mine.sent, number.reached) in
         let same : (g : EndState) → g.phase ≡ e.phase → g.own_window ≡ e.own_window → g.peer_window ≡ e.peer_window
         → sans_notes g.session ≡ sans_notes (record s { acked = n; next = max s.next n })
@@ -309,7 +301,7 @@ taken_up e {r} {x} {here} {there} up data' h = go h.comes.marks h.comes.shows h.
         λ g ph own peer same due. (grind arith) in (
           rw shows.0 (taken_I (λ g. TakenUp e g r here there) e (p % 8) (n % 8) n info up place
               (received_cases (λ g. TakenUp e g r here there) f (p % 8) info
-              (λ z. accept p n info ms shows.1 places number (ahead_other f.session p places.0 high z))
+              (λ z. accept p n info ms shows.1 places number (ahead_other f.session p places.0 (grind arith) z))
               (λ z g. same f refl refl refl refl (inl refl))
               (λ z g. grind arith)
               (λ z g. same (repeated f) refl refl refl refl (inr (Rr_due, tt, refl)))
@@ -323,7 +315,6 @@ taken_up e {r} {x} {here} {there} up data' h = go h.comes.marks h.comes.shows h.
         accept p n info ms shows places number at =
             let one : length (s.acc ++ info ∷ []) ≡ length s.acc + 1 = length-append s.acc (info ∷ []) in
             let is : slice_get r.out (length s.acc) ≡ Some info = rw (← at) places.2 in
-            let below : NoneBelow (length s.acc) ms = rw (← at) places.3 in
             record {
               up = up;
               pair = record {
@@ -341,7 +332,7 @@ taken_up e {r} {x} {here} {there} up data' h = go h.comes.marks h.comes.shows h.
                 comes = record {
                   marks = ms;
                   shows = shows;
-                  places = rw one (places_accepted r.out (length s.acc) r.reached ms below places.4);
+                  places = rw one (places_accepted r.out (length s.acc) r.reached ms (rw (← at) places.3) places.4);
                   counts = number.counts;
                 };
                 goes = goes there h.goes one;
@@ -355,13 +346,12 @@ taken_up e {r} {x} {here} {there} up data' h = go h.comes.marks h.comes.shows h.
                 → OnLive o r (accepted (acknowledged e n) info).session
             goes None g one = tt
             goes (Some w) g one =
-                let more : length s.acc ≤ length (s.acc ++ info ∷ []) = omega arith in
                 record {
                   marks = g.marks;
                   shows = g.shows;
                   places = g.places;
                   counts = counts_higher r.acked (length s.acc)
-                      (length (s.acc ++ info ∷ [])) g.marks more g.counts;
+                      (length (s.acc ++ info ∷ [])) g.marks (omega arith) g.counts;
                 }
     go (S k n ∷ ms) shows places counts =
         let number = number_of_mark s r (S k n) n ms h.mine refl counts in

@@ -2,11 +2,10 @@
 use Rattle.std.proofs.Common.{max}
 use Rattle.link_laws.proofs.Words.{Down, LinkState, List, None, NumberedShdlc, OnWire, Option, Rset, Some, Ua, Up, Waiting, [], ap, append-nil, arith, inl, inr}
 use Rattle.link_laws.proofs.Words.{older, refl, sym, ℕ, ◌++◌, ◌+◌, ◌<◌, ◌∙◌, ◌∷◌, ◌≡◌, ◌≤◌, ◌⊎◌}
-use Rattle.link_laws.proofs.sessions.Wire.{IsData, data_not_rset, data_not_ua, not_rset_adds, not_ua_adds, data_behind, rset_young, ua_young}
-use Rattle.link_laws.proofs.sessions.Wire.{after_rset_empty, rsets, uas, NumberOk, Numbered, Tail, AfterRset, behind_ua, live, Young, rsets-append, uas-append}
-use Rattle.link_laws.proofs.sessions.Wire.{numbered-append, numbered_none, tail_none, tail_push, tail_push_ua, behind_none, behind_push, behind_push_none}
-use Rattle.link_laws.proofs.sessions.Wire.{behind_new, behind_rsets, plus_one, rsets-older, uas-older, numbered_older, tail_older, behind_ua-older, live-older}
-use Rattle.link_laws.proofs.sessions.Wire.{older_part, young_push, young_later}
+use Rattle.link_laws.proofs.sessions.Wire.{IsData, data_not_rset, data_not_ua, not_rset_adds, data_behind, rset_young, ua_young, rsets, uas, Numbered, Tail}
+use Rattle.link_laws.proofs.sessions.Wire.{AfterRset, behind_ua, live, Young, rsets-append, uas-append, numbered-append, numbered_none, tail_none, tail_push}
+use Rattle.link_laws.proofs.sessions.Wire.{tail_push_ua, behind_none, behind_push, behind_push_none, behind_new, behind_rsets, plus_one, rsets-older, uas-older}
+use Rattle.link_laws.proofs.sessions.Wire.{numbered_older, tail_older, behind_ua-older, live-older, older_part, young_push, young_later}
 use Rattle.link_laws.proofs.Cases.{by_option}
 
 -- what of an end the handshake knows
@@ -177,9 +176,8 @@ module _ {kn kf : ℕ} {n f : Peer} {to_n to_f : List OnWire} {r : ℕ} (h : Han
   pub hand_send : (x : OnWire) → n.phase ≡ Up → IsData x.frame → x.age ≡ 0 → Hand kn kf n f to_n (to_f ++ x ∷ []) r
   hand_send x up d age =
       let none : rsets to_f ≡ [] = (idle_out (λ w. let e = sym up ∙ w in cc)).no_rset in
-      let one : rsets (x ∷ []) ≡ [] = not_rset_adds x.frame x.age [] (data_not_rset x.frame d) in
-      let two : uas (x ∷ []) ≡ [] = not_ua_adds x.frame x.age [] (data_not_ua x.frame d) in
-      let a : rsets (to_f ++ x ∷ []) ≡ rsets to_f = rsets-append to_f x ∙ ap (λ l. rsets to_f ++ l) one ∙ append-nil (rsets to_f) in
+      let two : uas (x ∷ []) ≡ [] = grind arith in
+      let a : rsets (to_f ++ x ∷ []) ≡ rsets to_f = rsets-append to_f x ∙ ap (λ l. rsets to_f ++ l) (grind arith) ∙ append-nil (rsets to_f) in
       let b : uas (to_f ++ x ∷ []) ≡ uas to_f = uas-append to_f x ∙ ap (λ l. uas to_f ++ l) two ∙ append-nil (uas to_f) in
       record {
         n_out = rw a h.n_out;
@@ -232,11 +230,10 @@ module _ {kn kf : ℕ} {n f : Peer} {to_n to_f : List OnWire} {r : ℕ} (h : Han
       let one = rset_of x new.is in
       let zero_age : rsets (to_f ++ x ∷ []) ≡ 0 ∷ [] = rsets-append to_f x ∙ ap (λ l. l ++ rsets (x ∷ [])) out.no_rset ∙ one.0 ∙ ap (λ a. a ∷ []) new.age in
       let b : uas (to_f ++ x ∷ []) ≡ uas to_f = uas-append to_f x ∙ ap (λ l. uas to_f ++ l) one.1 ∙ append-nil (uas to_f) in
-      let ok : NumberOk (r + 1) x.frame x.number = rw new.is.frame (new.number, new.wide) in
       record {
         n_out = rw (zero_age, out.no_ua) (refl, refl);
         f_out = rw b h.f_out;
-        n_numbered = numbered-append (r + 1) to_f x (numbered_none (r + 1) to_f out.no_rset) (ok, tt);
+        n_numbered = numbered-append (r + 1) to_f x (numbered_none (r + 1) to_f out.no_rset) ((rw new.is.frame (new.number, new.wide)), tt);
         f_numbered = h.f_numbered;
         n_ahead = grind arith;
         f_ahead = rw zero_age (omega (arith, h.f_took, h.n_bound), inl (omega (arith, h.f_bound)));
@@ -304,8 +301,7 @@ module _ {kn kf : ℕ} {n f : Peer} {x : OnWire} {to_n to_f : List OnWire} {r : 
   pub hand_past : IsData x.frame → Hand kn kf n f to_n to_f r
   hand_past d =
       let a : rsets (x ∷ to_n) ≡ rsets to_n = not_rset_adds x.frame x.age (rsets to_n) (data_not_rset x.frame d) in
-      let b : uas (x ∷ to_n) ≡ uas to_n = not_ua_adds x.frame x.age (uas to_n) (data_not_ua x.frame d) in
-      let c : behind_ua (x ∷ to_n) ≡ behind_ua to_n = data_behind x.frame to_n (behind_ua to_n) d in
+      let b : uas (x ∷ to_n) ≡ uas to_n = grind arith in
       record {
         n_out = rw b at h.n_out;
         f_out = rw a at h.f_out;
@@ -317,7 +313,7 @@ module _ {kn kf : ℕ} {n f : Peer} {x : OnWire} {to_n to_f : List OnWire} {r : 
         f_took = h.f_took;
         n_sure = rw b at h.n_sure;
         f_sure = h.f_sure;
-        n_behind = rw c at h.n_behind;
+        n_behind = rw (data_behind x.frame to_n (behind_ua to_n) d) at h.n_behind;
         f_behind = h.f_behind;
         n_tail = let h0 = (Tail to_n) in let h1 = (data_not_rset x.frame d) in grind arith;
         f_tail = h.f_tail;
@@ -344,11 +340,9 @@ module _ {kn kf : ℕ} {n f : Peer} {x : OnWire} {to_n to_f : List OnWire} {r : 
   -- the near end takes the UA that it waited for
   pub hand_up_ua : x.frame ≡ Ua → Hand kn kf (record { phase = Up; timer = 0; emitted = n.emitted; took = n.took }) f to_n to_f r
   hand_up_ua frame =
-      let p : Peer = record { phase = Up; timer = 0; emitted = n.emitted; took = n.took } in
       let a : rsets (x ∷ to_n) ≡ rsets to_n = rw frame refl in
       let c : behind_ua (x ∷ to_n) ≡ Some to_n = rw frame refl in
       let t = ua_told frame in
-      let s : Sure (rsets to_n) (n.emitted < f.emitted) = rw c at h.n_behind in
       let lives : live n.phase (x ∷ to_n) ≡ Some to_n = rw (t.1, c) refl in
       record {
         n_out = out_none kn Up 0 (rsets to_f) (uas to_n) t.0.no_rset t.0.no_ua;
@@ -377,7 +371,6 @@ module _ {kn kf : ℕ} {n f : Peer} {x : OnWire} {to_n to_f : List OnWire} {r : 
   hand_lose_ua frame =
       let a : rsets (x ∷ to_n) ≡ rsets to_n = rw frame refl in
       let t = ua_told frame in
-      let still : live n.phase to_n ≡ None = rw t.1 (behind_none to_n t.0.no_ua) in
       record {
         n_out = out_none kn n.phase n.timer (rsets to_f) (uas to_n) t.0.no_rset t.0.no_ua;
         f_out = rw a at h.f_out;
@@ -395,7 +388,7 @@ module _ {kn kf : ℕ} {n f : Peer} {x : OnWire} {to_n to_f : List OnWire} {r : 
         f_tail = h.f_tail;
         n_young = young_later x.age 4 to_n h.n_young.0 h.n_young.1;
         f_young = h.f_young;
-        agree = agrees_left_none (live n.phase to_n) (live f.phase to_f) (number n ≡ number f) still;
+        agree = agrees_left_none (live n.phase to_n) (live f.phase to_f) (number n ≡ number f) (rw t.1 (behind_none to_n t.0.no_ua));
         n_bound = h.n_bound;
         f_bound = h.f_bound;
       }
@@ -404,10 +397,6 @@ module _ {kn kf : ℕ} {n f : Peer} {x : OnWire} {to_n to_f : List OnWire} {r : 
 pub rset_told : {kn : ℕ} {n f : Peer} {x : OnWire} {to_n to_f : List OnWire} {r : ℕ} → Hand kn 0 n f (x ∷ to_n) to_f r → (is : IsRset x)
     → RsetTells f x is.window to_n to_f
 rset_told h is = grind arith
-
-ua_added : (f : Peer) {y : OnWire} (to_f : List OnWire) → IsNewUa y → uas to_f ≡ [] → f.phase ≡ Waiting → f.timer ≤ 4
-    → OneOut 0 f.phase f.timer [] (uas (to_f ++ y ∷ []))
-ua_added f to_f new none waiting t = grind (arith, uas-append, ua_of)
 
 -- an RSET is in front
 module _ {n f : Peer} {x : OnWire} {to_n to_f : List OnWire} {r : ℕ} (is : IsRset x) where
@@ -418,16 +407,13 @@ module _ {n f : Peer} {x : OnWire} {to_n to_f : List OnWire} {r : ℕ} (is : IsR
       let p : Peer = record { phase = Up; timer = 0; emitted = n.emitted; took = f.emitted } in
       let t = rset_told h is in
       let a : rsets (x ∷ to_n) ≡ x.age ∷ rsets to_n = rw is.frame refl in
-      let b : uas (x ∷ to_n) ≡ uas to_n = rw is.frame refl in
       let mine = idle_out h no_wait in
-      let empty : uas to_n ≡ [] = sym b ∙ mine.no_ua in
-      let gone : to_n ≡ [] = after_rset_empty to_n empty t.behind in
-      let less = ahead_not_waiting 0 n f.emitted x.age (rsets to_n) no_wait (rw a at h.n_ahead) in
-      let one = ua_of y new.frame in
-      let d : rsets (to_f ++ y ∷ []) ≡ [] = rsets-append to_f y ∙ ap (λ l. l ++ rsets (y ∷ [])) mine.no_rset ∙ one.0 in
+      let empty : uas to_n ≡ [] = sym (rw is.frame refl) ∙ mine.no_ua in
+      let gone : to_n ≡ [] = grind arith in
+      let d : rsets (to_f ++ y ∷ []) ≡ [] = rsets-append to_f y ∙ ap (λ l. l ++ rsets (y ∷ [])) mine.no_rset ∙ (ua_of y new.frame).0 in
       record {
         n_out = out_none 0 Up 0 (rsets (to_f ++ y ∷ [])) (uas to_n) d empty;
-        f_out = rw t.out.no_rset (ua_added f to_f new t.out.no_ua t.waiting t.timer);
+        f_out = rw t.out.no_rset (grind (arith, uas-append, ua_of));
         n_numbered = numbered_none n.emitted (to_f ++ y ∷ []) d;
         f_numbered = h.f_numbered.1;
         n_ahead = ahead_none 0 p f.emitted (rsets to_n) t.out.no_rset;
@@ -437,7 +423,7 @@ module _ {n f : Peer} {x : OnWire} {to_n to_f : List OnWire} {r : ℕ} (is : IsR
         n_sure = sure_none (uas to_n) (f.took ≡ n.emitted) empty;
         f_sure = sure_from (uas (to_f ++ y ∷ [])) (f.emitted ≡ f.emitted) refl;
         n_behind = behind_none_fact (behind_ua to_n) (n.emitted < f.emitted) (behind_none to_n empty);
-        f_behind = behind (behind_new to_f y new.frame t.out.no_ua);
+        f_behind = let h0 = behind_new to_f y new.frame t.out.no_ua in grind arith;
         n_tail = tail_none to_n t.out.no_rset;
         f_tail = tail_push to_f y mine.no_rset;
         n_young = young_later x.age 4 to_n h.n_young.0 h.n_young.1;
@@ -446,10 +432,6 @@ module _ {n f : Peer} {x : OnWire} {to_n to_f : List OnWire} {r : ℕ} (is : IsR
         n_bound = h.n_bound;
         f_bound = h.f_bound;
       }
-    where
-      behind : (behind_ua (to_f ++ y ∷ []) ≡ None) ⊎ ((behind_ua (to_f ++ y ∷ []) ≡ Some []) × (rsets to_f ≡ []))
-          → Behind (behind_ua (to_f ++ y ∷ [])) (f.emitted < n.emitted)
-      behind a = grind arith
 
   -- the near end, which waits, takes an RSET: UA is sent, and it goes on waiting
   pub hand_wait_rset : {y : OnWire} → n.phase ≡ Waiting → IsNewUa y → Hand 0 0 n f (x ∷ to_n) to_f r
@@ -458,13 +440,11 @@ module _ {n f : Peer} {x : OnWire} {to_n to_f : List OnWire} {r : ℕ} (is : IsR
       let p : Peer = record { phase = Waiting; timer = n.timer; emitted = n.emitted; took = f.emitted } in
       let t = rset_told h is in
       let b : uas (x ∷ to_n) ≡ uas to_n = rw is.frame refl in
-      let one = ua_of y new.frame in
-      let d : rsets (to_f ++ y ∷ []) ≡ rsets to_f = rsets-append to_f y ∙ ap (λ l. rsets to_f ++ l) one.0 ∙ append-nil (rsets to_f) in
-      let out : OneOut 0 Waiting n.timer (rsets to_f) (uas to_n) = rw (waiting, b) at h.n_out in
+      let d : rsets (to_f ++ y ∷ []) ≡ rsets to_f = rsets-append to_f y ∙ ap (λ l. rsets to_f ++ l) (ua_of y new.frame).0 ∙ append-nil (rsets to_f) in
       let sure : Sure (uas to_n) (f.took ≡ n.emitted) = rw b at h.n_sure in
       record {
-        n_out = rw d out;
-        f_out = rw t.out.no_rset (ua_added f to_f new t.out.no_ua t.waiting t.timer);
+        n_out = rw d (rw (waiting, b) at h.n_out);
+        f_out = rw t.out.no_rset (grind (arith, uas-append, ua_of));
         n_numbered = numbered-append n.emitted to_f y h.n_numbered (rw new.frame (tt, tt));
         f_numbered = h.f_numbered.1;
         n_ahead = ahead_none 0 p f.emitted (rsets to_n) t.out.no_rset;
@@ -499,7 +479,6 @@ module _ {n f : Peer} {x : OnWire} {to_n to_f : List OnWire} {r : ℕ} (is : IsR
   pub hand_lose_rset : {kn : ℕ} → Hand kn 0 n f (x ∷ to_n) to_f r → Hand kn 0 n f to_n to_f r
   hand_lose_rset {kn} h =
       let t = rset_told h is in
-      let b : uas (x ∷ to_n) ≡ uas to_n = rw is.frame refl in
       let still : live f.phase to_f ≡ None = rw t.waiting (behind_none to_f t.out.no_ua) in
       grind arith
 

@@ -90,8 +90,7 @@ pub turned_idle : (ts : List ShdlcTurn) (e : EndState) → (e.phase ≡ Up → �
 turned_idle [] e no_up none = record { phase = refl; due = refl; session = none; own = refl; peer = refl }
 turned_idle (t ∷ ts) e no_up none =
     let a = turn_idle e t no_up none in
-    let b = turned_idle ts (shdlc_turn e t) (λ u. no_up (sym a.phase ∙ u)) a.session in
-    idle_then a b
+    idle_then a (turned_idle ts (shdlc_turn e t) (λ u. no_up (sym a.phase ∙ u)) a.session)
 
 -- it waits, and waits on
 waits_on : (n : Losses) (l : ShdlcLink) {e : EndState} → l.controller.side.phase ≡ Waiting → Idle l.controller.side e
@@ -100,11 +99,8 @@ waits_on n l {e} waiting on t w a b p q =
     let ewait : e.phase ≡ Waiting = on.phase ∙ waiting in
     let f : EndState = as_up l.host.side.phase l.host.side in
     let P : LinkState → Type 0 = λ s. Meets (as_up s l.controller.side) f a b in
-    let back : live l.controller.side.phase (sans l.to_controller) ≡ Some a = rw waiting (rw ewait at p) in
-    let m : Meets (as_up Waiting l.controller.side) f a b = subst P waiting (t (grind arith) a b back q) in
-    let g : Meets (as_up Waiting e) f a b = grind arith in
-    let Q : LinkState → Type 0 = λ s. Meets (as_up s e) f a b in
-    subst Q (sym ewait) g
+    let m : Meets (as_up Waiting l.controller.side) f a b = subst P waiting (t (grind arith) a b (rw waiting (rw ewait at p)) q) in
+    subst (λ s. Meets (as_up s e) f a b) (sym ewait) (grind arith)
   where
     windows : min e.own_window e.peer_window ≡ min l.controller.side.own_window l.controller.side.peer_window
     windows = rw (on.own, on.peer) refl
@@ -112,8 +108,7 @@ waits_on n l {e} waiting on t w a b p q =
 waits_turned : (n : Losses) (ts : List ShdlcTurn) (l : ShdlcLink) (e : EndState)
     → l.controller.side.phase ≡ Waiting → Idle l.controller.side e → l.controller.side.due ≡ [] → TiedLink n l → Goes n l ts e
 waits_turned n ts l e waiting on due t =
-    let no_up : e.phase ≡ Up → ⊥ = λ u. let z = sym (on.phase ∙ waiting) ∙ u in let y : Waiting ≡ Up = z in cc in
-    let turned : Idle l.controller.side (shdlc_turned e ts) = idle_then on (turned_idle ts e no_up on.session) in
+    let turned : Idle l.controller.side (shdlc_turned e ts) = idle_then on (turned_idle ts e (grind arith) on.session) in
     sends_nothing 12 n l (shdlc_turned e ts) (idle_end (shdlc_turned e ts) (turned.due ∙ due) turned.session) (waits_on n l waiting turned t)
 
 -- it has turns, and nothing else
@@ -261,8 +256,7 @@ takes n l ts x xs h t = takes_by (TiedLink (noted_took n l ts x xs) (took l ts x
         (λ c side k.
         let m : ShdlcLink = record l { to_controller = xs; controller = c } in
         let P : EndState → Type 0 = λ s. Tied (IsWhole n) s l.host.side (sans xs) (sans l.to_host) in
-        let Q : EndState → Type 0 = λ s. (s.due ≡ []) × ((s.phase ≡ Up → ⊥) → s.session ≡ no_session) in
-        let g = subst Q (sym side) (h.n_due, h.n_none) in
+        let g = subst (λ s. (s.due ≡ []) × ((s.phase ≡ Up → ⊥) → s.session ≡ no_session)) (sym side) (h.n_due, h.n_none) in
         subst (λ s. Goes n m ts s) side
         (stays n ts m g.0 g.1 (subst P (sym side) (λ w a b q r. t w a b (before e.phase refl a q) r))))
       where
@@ -283,7 +277,6 @@ takes n l ts x xs h t = takes_by (TiedLink (noted_took n l ts x xs) (took l ts x
         → TiedLink (noted_took n l ts x xs) (took l ts x xs)
     anew u s gone to =
         let w : ℕ = min e.own_window (min u 4) in
-        let new : IsNew (up_end e w) = grind arith in
         took_tied n l ts x xs (up_with (record e { due = Ua_due ∷ [] }) w) (take_answer e x.frame).began to refl
         (λ c side k.
         let m : ShdlcLink = record l { to_controller = xs; controller = c } in
@@ -291,11 +284,9 @@ takes n l ts x xs h t = takes_by (TiedLink (noted_took n l ts x xs) (took l ts x
         sends_ua 11 z ts m (up_end e w)
         (drains 11 (omega arith) (noted_loss z m Ua) ts (shdlc_put m Ua) (up_end e w) refl tt (omega arith)
         (λ y b q.
-        let g = new_meets (up_end e w) f new (far_new u s) in
-        let empty : b ≡ [] = far_empty u s c b q in
+        let g = new_meets (up_end e w) f (grind arith) (far_new u s) in
         let P : List OnWire → Type 0 = λ a. Joined (Unit {0}) (up_end e w) f a b in
-        let R : List OnWire → Type 0 = λ a. Joined (Unit {0}) (up_end e w) f [] a in
-        (subst P (sym gone) (subst R (sym empty) g.joined), g.far, tt))))
+        (subst P (sym gone) (subst (λ a. Joined (Unit {0}) (up_end e w) f [] a) (sym (far_empty u s c b q)) g.joined), g.far, tt))))
 
     waits : (u : ℕ) → Tells v (sans xs) u → e.phase ≡ Waiting → e.session ≡ no_session → taken e x.frame ≡ record e { due = Ua_due ∷ []; peer_window = min u 4 }
         → TiedLink (noted_took n l ts x xs) (took l ts x xs)
@@ -372,8 +363,7 @@ delivers n ts l h t = go l.to_controller h t
         (λ c side k.
         let m : ShdlcLink = record l { to_controller = xs; controller = c } in
         let P : EndState → Type 0 = λ s. Tied (IsWhole n) s l.host.side (sans xs) (sans l.to_host) in
-        let Q : EndState → Type 0 = λ s. (s.due ≡ []) × ((s.phase ≡ Up → ⊥) → s.session ≡ no_session) in
-        let z = subst Q (sym side) (h.n_due, h.n_none) in
+        let z = subst (λ s. (s.due ≡ []) × ((s.phase ≡ Up → ⊥) → s.session ≡ no_session)) (sym side) (h.n_due, h.n_none) in
         subst (λ s. Goes n m ts s) side (stays n ts m z.0 z.1 (subst P (sym side) (rw q at t))))
 
     go : (wire : List OnWire) → Safe 0 0 l.controller l.host (sans wire) (sans l.to_host) l.resets → Tied (IsWhole n) e l.host.side (sans wire) (sans l.to_host)
@@ -433,11 +423,9 @@ fits_tied {kf} W V {n} {f} {to_n} w {r} weak over h t = go (nat_lt 64 (length w)
         → Tied W n.side f.side to_n (sans (x ∷ xs)) → Tied V n.side f.side to_n (sans xs)
     first x xs true q over g t = tied_weaker W V n.side f.side to_n (sans xs) weak (rw q at t)
     first x xs false q over g t =
-        let k : Safe 0 kf n f to_n (x ∷ sans xs) r = rw q at g in
-        let u : Tied W n.side f.side to_n (x ∷ sans xs) = rw q at t in
         tied_swap V f.side n.side (sans xs) to_n
-        (tied_lose W V (λ v. let z : true ≡ false = rw q at (over v) in true≢false z) (safe_swap k)
-        (tied_swap W n.side f.side to_n (x ∷ sans xs) u))
+        (tied_lose W V (λ v. let z : true ≡ false = rw q at (over v) in true≢false z) (safe_swap (rw q at g))
+        (tied_swap W n.side f.side to_n (x ∷ sans xs) (rw q at t)))
 
     go : (b : Bool) (v : List OnWire) → (V → (b && counts_first v) ≡ false) → Safe 0 kf n f to_n (sans v) r → Tied W n.side f.side to_n (sans v)
         → Tied V n.side f.side to_n (sans (cond b (drop 1 v) v))
@@ -497,13 +485,10 @@ ages i l h t =
     let one : Tied V n.side f.side (fresh tc) th =
     tied_fresh (IsWhole i) V tc
     (λ v. ((or_parts i.lost a (or_parts (i.lost || a) b v.0).0).0, v.1)) (λ v. (or_parts i.lost a (or_parts (i.lost || a) b v.0).0).1) h t in
-    let safe : Safe 0 0 f n th (fresh tc) l.resets = safe_swap (safe_fresh tc h) in
     let two : Tied V f.side n.side (fresh th) (fresh tc) =
-    tied_fresh V V th (λ v. v) (λ v. (or_parts (i.lost || a) b v.0).1) safe
+    tied_fresh V V th (λ v. v) (λ v. (or_parts (i.lost || a) b v.0).1) (safe_swap (safe_fresh tc h))
     (tied_swap V n.side f.side (fresh tc) th one) in
-    let near = aged-fresh tc h.hand.n_young in
-    let far = aged-fresh th h.hand.f_young in
-    rw (sans-aged l.to_controller ∙ near.0, sans-aged l.to_host ∙ far.0)
+    rw (sans-aged l.to_controller ∙ (aged-fresh tc h.hand.n_young).0, sans-aged l.to_host ∙ (aged-fresh th h.hand.f_young).0)
     (tied_older V n.side f.side (fresh tc) (fresh th) (tied_swap V f.side n.side (fresh th) (fresh tc) two))
 
 -- ## All events
@@ -551,9 +536,8 @@ tied_there : (turns : List ShdlcEndEvent) (d : Option (List ShdlcTurn)) (i : Los
 tied_there turns d i near a one t =
     let m : ShdlcLink = shdlc_all_at_controller near turns in
     let j : Losses = noted_turns i near turns in
-    let two : SafeLink 1 0 (shdlc_exchanged m) = safe_exchanged 0 1 m (safe_turns 1 turns near a one) in
     swaps (noted_tick j d (shdlc_exchanged m)) (ticks_or_cut d (shdlc_exchanged m))
-    (tied_tick 0 j d (shdlc_exchanged m) two (swaps j m (tied_turns 1 turns i near a one t)))
+    (tied_tick 0 j d (shdlc_exchanged m) (safe_exchanged 0 1 m (safe_turns 1 turns near a one)) (swaps j m (tied_turns 1 turns i near a one t)))
 
 tied_event : (n : Losses) (l : ShdlcLink) (e : ShdlcLinkEvent) (es : List ShdlcLinkEvent) → AllShdlcAllowed (e ∷ es) → SafeLink 0 0 l → TiedLink n l
     → TiedLink (noted_event n l e) (shdlc_happens l e)

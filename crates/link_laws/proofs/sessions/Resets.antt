@@ -80,12 +80,6 @@ states_more p q n f a = grind arith
 states_push : (p q : LinkState) (to_n to_f : List OnWire) (x : OnWire) → States p q to_n to_f → States p q to_n (to_f ++ x ∷ [])
 states_push p q to_n to_f x = states_more p q (holds to_n) (holds_push to_f x)
 
-states_past : (p q : LinkState) (x : OnWire) (to_n to_f : List OnWire) → IsData x.frame → States p q (x ∷ to_n) to_f → States p q to_n to_f
-states_past p q x to_n to_f d = states_more p q (holds_past x to_n d) (holds to_f)
-
-states_older : (p q : LinkState) (to_n to_f : List OnWire) → States p q to_n to_f → States p q (older to_n) (older to_f)
-states_older p q to_n to_f = states_more p q (holds_older to_n) (holds_older to_f)
-
 back_empty : (xs ys : List ℕ) → xs ++ ys ≡ [] → ys ≡ []
 back_empty [] ys e = e
 back_empty (x ∷ xs) ys e = cc
@@ -172,8 +166,7 @@ turned-first d (t ∷ ts) e = ap (λ f. shdlc_turned f ts) (grind arith) ∙ tur
 rset_first : (m : ℕ) (ts : List ShdlcTurn) (e : EndState) → e.due ≡ Rset_due ∷ []
     → (let q : EndState = shdlc_turned (record e { due = [] }) ts in frames_of (suc m) (shdlc_turned e ts) ≡ Rset q.own_window 0 ∷ frames_of m q)
 rset_first m ts e due =
-    let is : e ≡ with_first Rset_due (record e { due = [] }) = ap (λ ds. record e { due = ds }) due in
-    ap (λ f. frames_of (suc m) (shdlc_turned f ts)) is ∙ ap (frames_of (suc m)) (turned-first Rset_due ts (record e { due = [] }))
+    ap (λ f. frames_of (suc m) (shdlc_turned f ts)) (grind arith) ∙ ap (frames_of (suc m)) (turned-first Rset_due ts (record e { due = [] }))
 
 -- an RSET that no reset asked for
 unsure : (m : ℕ) (s : Bool) (l k : ShdlcLink) (ts : List ShdlcTurn) (e : EndState) → e.due ≡ Rset_due ∷ []
@@ -301,7 +294,7 @@ takes s l ts x xs h t =
     passed d same answers =
         took_sure s l ts x xs (taken e x.frame) refl
         (λ c. sure_drains 12 s ts (taken e x.frame) (record l { to_controller = xs; controller = c }) answers
-        (λ n. rw same (states_past e.phase l.host.side.phase x (sans xs) (sans l.to_host) d (t n))))
+        (λ n. rw same ((states_more e.phase l.host.side.phase (holds_past x (sans xs) d) (holds (sans l.to_host))) (t n))))
 
     -- an RSET, which it answers by UA
     answers : (q : EndState) → taken e x.frame ≡ with_first Ua_due q → q.due ≡ []
@@ -319,8 +312,7 @@ takes s l ts x xs h t =
         (sure_drains 11 (sure_put s m Ua) ts q (shdlc_put m Ua) (rw due tt)
         (λ n. let parts = and_parts s (not (overflows w)) n in
         let same : sans (fits w) ≡ sans l.to_host ++ y ∷ [] = fits_sans w (not-true (overflows w) parts.1) ∙ sans-push l.to_host y refl in
-        let R : List OnWire → Type 0 = λ u. States q.phase l.host.side.phase (sans xs) u in
-        subst R (sym same) (then parts.0 y refl))))
+        subst (λ u. States q.phase l.host.side.phase (sans xs) u) (sym same) (then parts.0 y refl))))
 
     anew : (u : ℕ) → Tells v (sans xs) u → sans xs ≡ [] → taken e x.frame ≡ up_with (record e { due = Ua_due ∷ [] }) (min e.own_window (min u 4))
         → SureLink (sure_took s l ts x xs) (took l ts x xs)
@@ -330,8 +322,7 @@ takes s l ts x xs h t =
       where
         stands : (y : OnWire) → y.frame ≡ Ua → uas (sans l.to_host ++ y ∷ []) ≡ [] → ⊥
         stands y ua q =
-            let one : uas (y ∷ []) ≡ y.age ∷ [] = rw ua refl in
-            let z : y.age ∷ [] ≡ [] = sym one ∙ back_empty (uas (sans l.to_host)) (uas (y ∷ [])) (sym (uas-append (sans l.to_host) y) ∙ q) in
+            let z : y.age ∷ [] ≡ [] = sym (rw ua refl) ∙ back_empty (uas (sans l.to_host)) (uas (y ∷ [])) (sym (uas-append (sans l.to_host) y) ∙ q) in
             cc
 
     waits : (u : ℕ) → Tells v (sans xs) u → e.phase ≡ Waiting → e.session ≡ no_session → taken e x.frame
@@ -389,9 +380,8 @@ acts_then ts (a ∷ acts) s l due t =
     let w : List OnWire = l.to_host ++ x ∷ [] in
     acts_then ts acts (sure_put s l (act_frame a)) (shdlc_put l (act_frame a)) due
     (λ n. let parts = and_parts s (not (overflows w)) n in
-    let same : sans (fits w) ≡ sans l.to_host = fits_sans w (not-true (overflows w) parts.1) ∙ sans-push_act l.to_host x refl in
     let R : List OnWire → Type 0 = λ u. States l.controller.side.phase l.host.side.phase (sans l.to_controller) u in
-    subst R (sym same) (t parts.0))
+    subst R (sym (fits_sans w (not-true (overflows w) parts.1) ∙ sans-push_act l.to_host x refl)) (t parts.0))
 
 ignores : (s : Bool) (ts : List ShdlcTurn) (l : ShdlcLink) → SureLink s l → SureLink (sure_here s l (Ignore ts)) (shdlc_happens_at_controller l (Ignore ts))
 ignores s ts l t = grind arith
@@ -407,7 +397,7 @@ ages s l t n =
     let parts = and_parts s (not (a || b)) n in
     let none = or_parts a b (not-true (a || b) parts.1) in
     rw (sans-aged l.to_controller ∙ none_lost (sans l.to_controller) none.0, sans-aged l.to_host ∙ none_lost (sans l.to_host) none.1)
-    (states_older l.controller.side.phase l.host.side.phase (sans l.to_controller) (sans l.to_host) (t parts.0))
+    ((states_more l.controller.side.phase l.host.side.phase (holds_older (sans l.to_controller)) (holds_older (sans l.to_host))) (t parts.0))
 
 swaps : (s : Bool) (l : ShdlcLink) → SureLink s l → SureLink s (shdlc_exchanged l)
 swaps s l t n = grind arith
@@ -454,9 +444,8 @@ sure_there : (turns : List ShdlcEndEvent) (d : Option (List ShdlcTurn)) (i : Boo
 sure_there turns d i near a one t =
     let m : ShdlcLink = shdlc_all_at_controller near turns in
     let j : Bool = sure_turns i near turns in
-    let two : SafeLink 1 0 (shdlc_exchanged m) = safe_exchanged 0 1 m (safe_turns 1 turns near a one) in
     swaps (sure_tick j d (shdlc_exchanged m)) (ticks_or_cut d (shdlc_exchanged m))
-    (tick_sure 0 j d (shdlc_exchanged m) two (swaps j m (turns_sure 1 turns i near a one t)))
+    (tick_sure 0 j d (shdlc_exchanged m) (safe_exchanged 0 1 m (safe_turns 1 turns near a one)) (swaps j m (turns_sure 1 turns i near a one t)))
 
 event_sure : (s : Bool) (l : ShdlcLink) (e : ShdlcLinkEvent) (es : List ShdlcLinkEvent) → AllShdlcAllowed (e ∷ es) → SafeLink 0 0 l → SureLink s l
     → SureLink (sure_event s l e) (shdlc_happens l e)

@@ -4,12 +4,11 @@ use Rattle.link_laws.proofs.Words.{Down, EndState, LinkState, List, None, Number
 use Rattle.link_laws.proofs.Words.{ended_session, eqb-true, inl, inr, new_session, no_session, older, refl, shdlc_number_of, shdlc_session_of, subst, sym, ℕ}
 use Rattle.link_laws.proofs.Words.{◌++◌, ◌+◌, ◌<◌, ◌∙◌, ◌∷◌, ◌≡◌, ◌≤◌, ◌⊎◌}
 use Rattle.link_laws.proofs.sessions.Wire.{IsData, rsets, uas, behind_ua, live, Young, behind_none, behind_push, behind_push_none, behind_new}
-use Rattle.link_laws.proofs.sessions.Wire.{behind_rsets, after_rset_empty, live-older, older_part}
-use Rattle.link_laws.proofs.sessions.Hand.{peer_of, Hand, Agrees, NothingIsOut, IsRset, IsNextRset, IsNewUa, idle_out, ua_told, rset_told}
-use Rattle.link_laws.proofs.sessions.Hand.{hand_past, hand_ask, hand_down, hand_up_ua, hand_up_rset, hand_wait_rset, hand_lose_rset, hand_lose_ua, hand_ignore}
-use Rattle.link_laws.proofs.sessions.Hand.{hand_older}
-use Rattle.link_laws.proofs.sessions.Data.{Base, Active, OnLive, active_empty, active_lost, Below, below_more, none_ended, bound, of_update, of_none}
-use Rattle.link_laws.proofs.sessions.Data.{base_begins_there, Pair, shows_push_rset, shows_older}
+use Rattle.link_laws.proofs.sessions.Wire.{behind_rsets, live-older, older_part}
+use Rattle.link_laws.proofs.sessions.Hand.{peer_of, Hand, Agrees, NothingIsOut, IsRset, IsNextRset, IsNewUa, idle_out, ua_told, rset_told, hand_past, hand_ask}
+use Rattle.link_laws.proofs.sessions.Hand.{hand_down, hand_up_ua, hand_up_rset, hand_wait_rset, hand_lose_rset, hand_lose_ua, hand_ignore, hand_older}
+use Rattle.link_laws.proofs.sessions.Data.{Base, Active, OnLive, active_lost, Below, below_more, none_ended, bound, of_update, of_none}
+use Rattle.link_laws.proofs.sessions.Data.{Pair, shows_push_rset, shows_older}
 use Rattle.link_laws.proofs.Cases.{by_test}
 
 -- the windows that an end may ask for
@@ -39,9 +38,6 @@ session_with h g = shdlc_session_of h (shdlc_number_of g)
 -- a part of a wire of an end in the same state, and equal sessions
 live_to : (p q : LinkState) (w : List OnWire) (mine theirs : Session) → p ≡ q → OnLive (live p w) mine theirs → OnLive (live q w) mine theirs
 live_to p q w mine theirs e h = rw e at h
-
-on_live_same : (o : Option (List OnWire)) (m m' t t' : Session) → m' ≡ m → t' ≡ t → OnLive o m t → OnLive o m' t'
-on_live_same o m m' t t' a b h = rw (a, b) h
 
 on_live_part : (o p : Option (List OnWire)) (m t : Session) → p ≡ o → OnLive o m t → OnLive p m t
 on_live_part o p m t a h = rw a h
@@ -180,8 +176,7 @@ module _ {kn kf : ℕ} {n f : NumberedShdlc} {to_n to_f : List OnWire} {r : ℕ}
       → Hand kn' kf (peer_of (record n { side = q })) (peer_of f) to_n' to_f r → Safe kn' kf (record n { side = q }) f to_n' to_f r
   safe_idle {q = q} {to_n'} no_up on lives hand =
       let g : NumberedShdlc = record n { side = q } in
-      let no_up' : q.phase ≡ Up → ⊥ = λ e. no_up (sym on.phase ∙ e) in
-      let m : AllStay (shdlc_session_of n) (shdlc_session_of g) = λ P all k. of_none P n g no_up no_up' refl all k in
+      let m : AllStay (shdlc_session_of n) (shdlc_session_of g) = λ P all k. of_none P n g no_up (λ e. no_up (sym on.phase ∙ e)) refl all k in
       record {
         hand = hand;
         n_base = m (λ k t. Base t (shdlc_session_of f k)) h.n_base;
@@ -290,11 +285,10 @@ module _ {kn kf : ℕ} {n f : NumberedShdlc} {to_n to_f : List OnWire} {r : ℕ}
       let gone : ended_session g.past (shdlc_number_of g) ≡ no_session = none_ended (shdlc_number_of g) (shdlc_number_of g) g.past (omega arith) ended.below in
       let n_base : (k : ℕ) → Base (ended_session g.past k) (shdlc_session_of f k) = ended.moves (λ k s. Base s (shdlc_session_of f k)) h.n_base in
       let f_base : (k : ℕ) → Base (shdlc_session_of f k) (ended_session g.past k) = ended.moves (λ k s. Base (shdlc_session_of f k) s) h.f_base in
-      let mine : Base (new_session w) (session_with f g) = let h0 = (session_with f g) in grind arith in
-      let theirs : Base (session_with f g) (new_session w) = base_begins_there (session_with f g) w (rw gone at (f_base (shdlc_number_of g))) in
+      let theirs : Base (session_with f g) (new_session w) = grind arith in
       record {
         hand = hand;
-        n_base = begins_at (λ k t. Base t (shdlc_session_of f k)) g new.up n_base (rw new.session mine);
+        n_base = begins_at (λ k t. Base t (shdlc_session_of f k)) g new.up n_base (rw new.session (let h0 = (session_with f g) in grind arith));
         f_base = begins_at (λ k t. Base (shdlc_session_of f k) t) g new.up f_base (rw new.session theirs);
         n_live = grind arith;
         f_live = grind arith;
@@ -313,16 +307,12 @@ pub safe_up_ua : {kn kf : ℕ} {n f : NumberedShdlc} {x : OnWire} {to_n to_f : L
     → x.frame ≡ Ua → n.side.phase ≡ Waiting → w ≤ 4 → Safe kn kf (record n { side = up_end n.side w }) f to_n to_f r
 safe_up_ua {n = n} {f} {x} {to_n} {to_f} h w frame waiting fits =
     let move : Moves n n.past = moves_none n (not_up n.side.phase waiting) in
-    let early : Below n.emitted n.past = rw waiting at h.n_past in
-    let below : Below (shdlc_number_of n) n.past = below_more n.emitted (shdlc_number_of n) n.past (omega arith) early in
+    let below : Below (shdlc_number_of n) n.past = below_more n.emitted (shdlc_number_of n) n.past (omega arith) (rw waiting at h.n_past) in
     let gone : ended_session n.past (shdlc_number_of n) ≡ no_session = none_ended (shdlc_number_of n) (shdlc_number_of n) n.past (omega arith) below in
-    let c : behind_ua (x ∷ to_n) ≡ Some to_n = rw frame refl in
-    let a : OnLive (behind_ua (x ∷ to_n)) (session_with n n) (session_with f n) = grind arith in
-    let b : OnLive (Some to_n) (session_with n n) (session_with f n) = grind arith in
     let d : OnLive (Some to_n) (ended_session n.past (shdlc_number_of n)) (session_with f n) = grind arith in
     safe_begins h (record { up = refl; session = refl; due = refl; windows = record { own = h.n_windows.own; peer = h.n_windows.peer }; fits = fits })
     (record { moves = move; below = below }) (hand_up_ua h.hand frame)
-    (on_live_same (Some to_n) (ended_session n.past (shdlc_number_of n)) no_session (session_with f n) (session_with f n) (sym gone) refl d)
+    (grind arith)
     (at_number (λ t. OnLive (live f.side.phase to_f) (session_with f f) t) (shdlc_number_of f) move h.f_live)
 
 -- an end that waits goes on waiting as q, with no control frame due
@@ -343,17 +333,16 @@ module _ {n f : NumberedShdlc} {x : OnWire} {to_n to_f : List OnWire} {r : ℕ} 
       let t = rset_told h.hand is in
       let b : uas (x ∷ to_n) ≡ uas to_n = rw is.frame refl in
       let mine = idle_out h.hand no_wait in
-      let gone : to_n ≡ [] = after_rset_empty to_n (sym b ∙ mine.no_ua) t.behind in
+      let gone : to_n ≡ [] = grind arith in
       let n_base : (k : ℕ) → Base (ended_session past k) (shdlc_session_of f k) = ended.moves (λ k s. Base s (shdlc_session_of f k)) h.n_base in
-      let f_base : (k : ℕ) → Base (shdlc_session_of f k) (ended_session past k) = ended.moves (λ k s. Base (shdlc_session_of f k) s) h.f_base in
       let low : Below (shdlc_number_of g) past = below_more f.emitted (shdlc_number_of g) past (omega arith) ended.below in
       let none : ended_session past (shdlc_number_of g) ≡ no_session = none_ended (shdlc_number_of g) (shdlc_number_of g) past (omega arith) low in
       let first : Base no_session (session_with f g) = rw none at (n_base (shdlc_number_of g)) in
-      let act : Active to_n no_session (session_with f g) = rw gone (active_empty no_session (session_with f g) first) in
+      let act : Active to_n no_session (session_with f g) = rw gone (grind arith) in
       safe_begins h (record { up = refl; session = refl; due = refl; windows = record { own = h.n_windows.own; peer = h.n_windows.peer }; fits = fits })
       (record { moves = ended.moves; below = low }) (hand_up_rset is no_wait new h.hand) act
       (live_push_ua f.side.phase to_f y (session_with f f) (ended_session past (shdlc_number_of f)) new.frame t.out.no_ua t.waiting
-      (f_base (shdlc_number_of f)))
+      ((ended.moves (λ k s. Base (shdlc_session_of f k) s) h.f_base) (shdlc_number_of f)))
 
   -- an end that waits answers an RSET by UA, and goes on waiting
   pub safe_wait_rset : {y : OnWire} {q : EndState} → WaitsOn n.side q → IsNewUa y
@@ -402,8 +391,7 @@ safe_lose {kn} {n} {f} {x} {to_n} {to_f} {r} h = go (frame_cases x)
 
     up : n.side.phase ≡ Up → OnLive (live n.side.phase to_n) s t
     up e =
-        let a : OnLive (live Up (x ∷ to_n)) s t = live_to n.side.phase Up (x ∷ to_n) s t e h.n_live in
-        live_to Up n.side.phase to_n s t (sym e) (active_lost x to_n s t (h.n_base (shdlc_number_of n)) a)
+        live_to Up n.side.phase to_n s t (sym e) (active_lost x to_n s t (h.n_base (shdlc_number_of n)) (grind arith))
 
     data_live : IsData x.frame → (p : LinkState) → n.side.phase ≡ p → OnLive (live n.side.phase to_n) s t
     data_live d Up e = up e
@@ -427,14 +415,13 @@ safe_ignore {n} {f} {x} {to_n} {to_f} {r} is down h =
     let s : Safe 0 0 n f to_n to_f r = safe_lose h in
     let no_up : n.side.phase ≡ Up → ⊥ = down_not_up n.side.phase down in
     let m : AllStay (shdlc_session_of n) (shdlc_session_of g) = λ P all k. of_none P n g no_up no_up refl all k in
-    let early : Below (shdlc_number_of n + 1) n.past = rw down at s.n_past in
     record {
       hand = hand_ignore s.hand down t.out;
       n_base = m (λ k t. Base t (shdlc_session_of f k)) s.n_base;
       f_base = m (λ k t. Base (shdlc_session_of f k) t) s.f_base;
       n_live = live_to Down n.side.phase to_n (session_with g g) (session_with f g) (sym down) tt;
       f_live = at_number (λ t. OnLive (live f.side.phase to_f) (session_with f f) t) (shdlc_number_of f) m s.f_live;
-      n_past = rw down (below_more (shdlc_number_of n + 1) (shdlc_number_of g + 1) n.past (omega (arith, h.hand.n_took)) early);
+      n_past = rw down (below_more (shdlc_number_of n + 1) (shdlc_number_of g + 1) n.past (omega (arith, h.hand.n_took)) (rw down at s.n_past));
       f_past = s.f_past;
       n_none = s.n_none;
       f_none = s.f_none;

@@ -37,8 +37,7 @@ fits_keeps {kf} {n} {f} {to_n} {r} w h = go (nat_lt 64 (length w)) w h
     first : (x : OnWire) (xs : List OnWire) (b : Bool) → is_act x.frame ≡ b → Safe 0 kf n f to_n (sans (x ∷ xs)) r → Safe 0 kf n f to_n (sans xs) r
     first x xs true q g = rw q at g
     first x xs false q g =
-        let k : Safe 0 kf n f to_n (x ∷ sans xs) r = rw q at g in
-        safe_swap (safe_lose (safe_swap k))
+        safe_swap (safe_lose (safe_swap (rw q at g)))
 
     go : (b : Bool) (v : List OnWire) → Safe 0 kf n f to_n (sans v) r → Safe 0 kf n f to_n (sans (cond b (drop 1 v) v)) r
     go false v g = g
@@ -113,10 +112,8 @@ safe_drains kf m q l h = sends_keeps (λ e v. SafeAt 0 kf v e) each m q l h
         (λ info p q n.
         let frame : Control = I (e.session.next % 8) (expected e.session) info in
         let same : frame ≡ c = cc in
-        let a : SafeAt 0 kf (shdlc_put v frame) (record e { session = sent_next e.session }) =
-        safe_fits v.to_host (record { frame = frame; age = 0; number = 0 }) refl (safe_fragment (grind arith) q g) in
         let P : Control → Type 0 = λ k. SafeAt 0 kf (shdlc_put v k) (record e { session = sent_next e.session }) in
-        subst P same a)
+        subst P same (safe_fits v.to_host (record { frame = frame; age = 0; number = 0 }) refl (safe_fragment (grind arith) q g)))
         is
 
 pub up_step : {kn kf : ℕ} (l : ShdlcLink) {q : EndState} → GoesOn l.controller.side q
@@ -177,8 +174,7 @@ ready_at kf l r h = other (phase_known e.phase)
         let p = pair_from h up in
         up_step l (record { was_up = up; up = up; due = h.n_due; own = refl; peer = refl }) (pair_next p.mine.from p.mine.sent refl p) h
     other (inl no_up) =
-        let none = ap (λ (s : Session). record s { answered_rnr = false }) (h.n_none no_up) in
-        safe_idle h no_up (record { phase = refl; due = refl; session = none; own = refl; peer = refl }) refl h.hand
+        safe_idle h no_up (record { phase = refl; due = refl; session = (grind arith); own = refl; peer = refl }) refl h.hand
 
 pub turn_pending : (kf : ℕ) (l : ShdlcLink) (e : EndState) (t : ShdlcTurn) → Pending kf l e → Pending kf l (shdlc_turn e t)
 turn_pending kf l e (Offer fragments) h =

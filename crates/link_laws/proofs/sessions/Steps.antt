@@ -15,9 +15,9 @@ use Rattle.link_laws.proofs.Words.{shdlc_ticks_at_controller, stopped, subst, sy
 use Rattle.link_laws.proofs.Words.{waiting_from, ℕ, ◌++◌, ◌+◌, ◌<◌, ◌∙◌, ◌∷◌, ◌≡◌, ◌≤◌, ◌⊎◌}
 use Rattle.link_laws.specs.sessions.Sessions.ShdlcEndEvent.{Cut}
 use Rattle.link_laws.proofs.sessions.Wire.{IsData, behind_ua, live, Young, data_behind, young_later, young_older}
-use Rattle.link_laws.proofs.sessions.Hand.{NothingIsOut, IsRset, IsNextRset, idle_out, ua_told, rset_told, hand_past, hand_timer, nothing_out}
+use Rattle.link_laws.proofs.sessions.Hand.{NothingIsOut, IsRset, IsNextRset, ua_told, rset_told, hand_past, hand_timer, nothing_out}
 use Rattle.link_laws.proofs.sessions.Data.{Base, Below, below_more, none_ended, bound, Pair, pair_next, IsAnswer, taken_up}
-use Rattle.link_laws.proofs.sessions.Safe.{HasWindows, Safe, session_with, safe_swap, pair_from, safe_up, safe_idle, Idle, HaveEnded, moves_end}
+use Rattle.link_laws.proofs.sessions.Safe.{HasWindows, Safe, session_with, safe_swap, pair_from, safe_up, safe_idle, HaveEnded, moves_end}
 use Rattle.link_laws.proofs.sessions.Safe.{moves_none, waiting_end, safe_asks, safe_down, up_end, safe_up_ua, safe_up_rset, WaitsOn, safe_wait_rset}
 use Rattle.link_laws.proofs.sessions.Safe.{frame_cases, safe_lose, safe_ignore, safe_older, safe_silent}
 use Rattle.link_laws.proofs.sessions.Sending.{SafeAt, SafeLink, sans-push_act, fits_keeps, safe_fits, no_rset_out, up_step, becomes_none, becomes_one}
@@ -40,38 +40,32 @@ put_rset l {e} out windows ended h =
 ended_below : {kn kf : ℕ} (l : ShdlcLink) → l.controller.side.phase ≡ Up → SafeLink kn kf l
     → HaveEnded l.controller ((shdlc_number_of l.controller, l.controller.side.session) ∷ l.controller.past) (l.resets + 1)
 ended_below l up h =
-    let a : Below (shdlc_number_of l.controller) l.controller.past = rw up at h.n_past in
-    let low : shdlc_number_of l.controller ≤ l.resets = omega (arith, h.hand.n_bound, h.hand.n_took, h.hand.f_bound) in
     record {
       moves = moves_end l.controller up;
-      below = (omega arith, below_more (shdlc_number_of l.controller) (l.resets + 1) l.controller.past (omega arith) a);
+      below = (omega arith, below_more (shdlc_number_of l.controller) (l.resets + 1) l.controller.past (omega arith) (rw up at h.n_past));
     }
 
 up_asks : {kn kf : ℕ} (ts : List ShdlcTurn) (l : ShdlcLink) (e : EndState)
     → l.controller.side.phase ≡ Up → e.phase ≡ Up → e.due ≡ [] → HasWindows (waiting_from e) → SafeLink kn kf l
     → SafeLink 0 kf (shdlc_becomes (with_shdlc_ended l true) (shdlc_turned (waiting_from e) ts))
 up_asks {kf = kf} ts l e up eup due windows h =
-    let is : (waiting_from e).due ≡ Rset_due ∷ [] = rw eup refl in
-    becomes_one kf ts (with_shdlc_ended l true) (waiting_from e) Rset_due is
+    becomes_one kf ts (with_shdlc_ended l true) (waiting_from e) Rset_due (rw eup refl)
     (put_rset l (no_rset_out h up) windows (ended_below l up h) h)
 
 past_below : {kn kf : ℕ} (l : ShdlcLink) → l.controller.side.phase ≡ Waiting → SafeLink kn kf l
     → HaveEnded l.controller l.controller.past (l.resets + 1)
 past_below l waiting h =
-    let a : Below l.controller.emitted l.controller.past = rw waiting at h.n_past in
     record {
       moves = moves_none l.controller (λ u. let g = sym waiting ∙ u in cc);
-      below = below_more l.controller.emitted (l.resets + 1) l.controller.past (omega (arith, h.hand.n_bound)) a;
+      below = below_more l.controller.emitted (l.resets + 1) l.controller.past (omega (arith, h.hand.n_bound)) (rw waiting at h.n_past);
     }
 
 past_below_down : {kn kf : ℕ} (l : ShdlcLink) → l.controller.side.phase ≡ Down → SafeLink kn kf l
     → HaveEnded l.controller l.controller.past (l.resets + 1)
 past_below_down l down h =
-    let a : Below (shdlc_number_of l.controller + 1) l.controller.past = rw down at h.n_past in
-    let low : shdlc_number_of l.controller ≤ l.resets = omega (arith, h.hand.n_bound, h.hand.n_took, h.hand.f_bound) in
     record {
       moves = moves_none l.controller (λ u. let g = sym down ∙ u in cc);
-      below = below_more (shdlc_number_of l.controller + 1) (l.resets + 1) l.controller.past (omega arith) a;
+      below = below_more (shdlc_number_of l.controller + 1) (l.resets + 1) l.controller.past (omega arith) (rw down at h.n_past);
     }
 
 resets : (kf : ℕ) (ts : List ShdlcTurn) (l : ShdlcLink) (w : ℕ) → (0 < w) × (w ≤ 4) → SafeLink 0 kf l
@@ -79,10 +73,8 @@ resets : (kf : ℕ) (ts : List ShdlcTurn) (l : ShdlcLink) (w : ℕ) → (0 < w) 
 resets kf ts l w ok h =
     by_phase l.controller.side.phase (λ q. by_parts true (waiting_from e) (rw q refl) (rw q refl) (up_asks ts l e q q h.n_due windows h))
     (λ q. by_parts false l.controller.side (rw q refl) (rw q refl) (becomes_none kf ts l l.controller.side h)) (λ q.
-    let out = idle_out h.hand (λ v. let g = sym q ∙ v in cc) in
-    let due : (waiting_from e).due ≡ Rset_due ∷ [] = rw (q, h.n_due) refl in
     by_parts false (waiting_from e) (rw q refl) (rw q refl)
-    (becomes_one kf ts l (waiting_from e) Rset_due due (put_rset l out windows (past_below_down l q h) h)))
+    (becomes_one kf ts l (waiting_from e) Rset_due (rw (q, h.n_due) refl) (put_rset l (grind arith) windows (past_below_down l q h) h)))
   where
     e : EndState
     e = record l.controller.side { own_window = w }
@@ -271,8 +263,7 @@ takes ts l x xs h = go (frame_cases x) e.phase refl
     passed d no_up lives =
         let t = passes e x.frame d no_up in
         let so : TakesSo l x false l.controller.took e = grind arith in
-        let idle : Idle e e = record { phase = refl; due = refl; session = h.n_none no_up; own = refl; peer = refl } in
-        took_is ts xs so (becomes_none 0 ts next e (safe_idle h no_up idle lives (hand_past h.hand d)))
+        took_is ts xs so (becomes_none 0 ts next e (safe_idle h no_up (grind arith) lives (hand_past h.hand d)))
 
     zero : (is : IsRset x) → (is.window == 0) ≡ false
     zero is = let t = rset_told h.hand is in ne_eqb is.window 0 (λ z. omega (arith, t.wide))
@@ -324,20 +315,18 @@ takes ts l x xs h = go (frame_cases x) e.phase refl
     go (inr (inl q)) Waiting p =
         let t = rset_told h.hand q in
         let b : EndState = record e { due = Ua_due ∷ []; peer_window = min q.window 4 } in
-        let f : EndState = record e { due = []; peer_window = min q.window 4 } in
         let y : OnWire = record { frame = Ua; age = 0; number = 0 } in
         let m : ShdlcLink = record l { to_controller = xs; controller = record l.controller { took = l.host.emitted } } in
         let so : TakesSo l x false l.host.emitted b = grind arith in
-        let on : WaitsOn e f = grind arith in
+        let on : WaitsOn e (record e { due = []; peer_window = min q.window 4 }) = grind arith in
         took_is ts xs so (becomes_one 0 ts m b Ua_due refl (safe_fits l.to_host y refl (safe_wait_rset q h on (record { frame = refl; age = refl }))))
     go (inr (inr q)) Up p = absurd (no_ua q (λ w. let g = sym p ∙ w in cc))
     go (inr (inr q)) Down p = absurd (no_ua q (λ w. let g = sym p ∙ w in cc))
     go (inr (inr q)) Waiting p =
         let w : ℕ = min e.own_window e.peer_window in
         let s : SafeAt 0 0 next (up_end e w) = safe_up_ua h w q p (omega (arith, h.n_windows.own.1)) in
-        let same : up_end e w ≡ up_with e w = rw h.n_due refl in
         let so : TakesSo l x false l.controller.took (up_with e w) = grind arith in
-        took_is ts xs so (becomes_none 0 ts next (up_with e w) (let P : EndState → Type 0 = λ v. SafeAt 0 0 next v in subst P same s))
+        took_is ts xs so (becomes_none 0 ts next (up_with e w) (let P : EndState → Type 0 = λ v. SafeAt 0 0 next v in subst P (rw h.n_due refl) s))
 
 -- ## Whole events
 
@@ -355,9 +344,7 @@ delivers ts l h = go l.to_controller h
         → SafeLink 0 0 (took (record l { to_controller = x ∷ xs }) ts x xs)
     first x xs false q g = takes ts (record l { to_controller = x ∷ xs }) x xs (rw q at g)
     first x xs true q g =
-        let m : ShdlcLink = record l { to_controller = x ∷ xs } in
-        let t = passes_act l.controller.side x.frame q in
-        let so : TakesSo m x false l.controller.took l.controller.side = grind arith in
+        let so : TakesSo (record l { to_controller = x ∷ xs }) x false l.controller.took l.controller.side = grind arith in
         took_is ts xs so (becomes_none 0 ts (record l { to_controller = xs }) l.controller.side (rw q at g))
 
     go : (wire : List OnWire) → Safe 0 0 l.controller l.host (sans wire) (sans l.to_host) l.resets
@@ -473,15 +460,10 @@ safe_fresh {n} {f} (x ∷ xs) {to_f} {r} h = let h0 = safe_fresh xs (safe_lose h
 
 pub safe_aged : (l : ShdlcLink) → SafeLink 0 0 l → SafeLink 1 1 (shdlc_aged l)
 safe_aged l h =
-    let n = l.controller in
-    let f = l.host in
-    let one : Safe 0 0 n f (fresh (sans l.to_controller)) (sans l.to_host) l.resets = safe_fresh (sans l.to_controller) h in
-    let two : Safe 0 0 f n (fresh (sans l.to_host)) (fresh (sans l.to_controller)) l.resets =
-    safe_fresh (sans l.to_host) (safe_swap one) in
     let near = aged-fresh (sans l.to_controller) h.hand.n_young in
     let far = aged-fresh (sans l.to_host) h.hand.f_young in
     rw (sans-aged l.to_controller ∙ near.0, sans-aged l.to_host ∙ far.0)
-    (safe_older near.1 far.1 (safe_swap two))
+    (safe_older near.1 far.1 (safe_swap (safe_fresh (sans l.to_host) (safe_swap (safe_fresh (sans l.to_controller) h)))))
 
 pub tick_or_cut : (kf : ℕ) (b : Option (List ShdlcTurn)) (l : ShdlcLink) → SafeLink 1 kf l → SafeLink 0 kf (ticks_or_cut b l)
 tick_or_cut kf (Some ts) l h = ticks kf ts l h

@@ -22,10 +22,6 @@ as_up Waiting e = up_end e (min e.own_window e.peer_window)
 as_up Up e = e
 as_up Down e = e
 
--- an end that is up
-pub from_up : (P : EndState → Type 0) (e : EndState) → e.phase ≡ Up → P e → P (as_up e.phase e)
-from_up P e up h = let Q : LinkState → Type 0 = λ p. P (as_up p e) in subst Q (sym up) h
-
 pub to_up : (P : EndState → Type 0) (e : EndState) → e.phase ≡ Up → P (as_up e.phase e) → P e
 to_up P e up h = let Q : LinkState → Type 0 = λ p. P (as_up p e) in subst Q up h
 
@@ -66,9 +62,7 @@ pub record IsNew (e : EndState) : Type 0 where
   pub session : e.session ≡ new_session window
 
 pub waiting_new : (e : EndState) → e.phase ≡ Waiting → HasWindows e → IsNew (as_up e.phase e)
-waiting_new e waiting h =
-    let n : IsNew (as_up Waiting e) = grind arith in
-    rw waiting n
+waiting_new e waiting h = rw waiting (grind arith)
 
 pub none_due : (v : ℕ) → fragment_due (new_session v) ≡ None
 none_due v = grind arith
@@ -103,10 +97,9 @@ new_meets n f g h =
 pub tied_new : (W : Type 0) (n f : EndState) (to_n to_f : List OnWire) → IsNew (as_up n.phase n) → IsNew (as_up f.phase f)
     → ((a : List OnWire) → live n.phase to_n ≡ Some a → a ≡ []) → ((b : List OnWire) → live f.phase to_f ≡ Some b → b ≡ []) → Tied W n f to_n to_f
 tied_new W n f to_n to_f g h near far w a b p q =
-    let m : Meets (as_up n.phase n) (as_up f.phase f) [] [] = new_meets (as_up n.phase n) (as_up f.phase f) g h in
     let P : List OnWire → Type 0 = λ v. Meets (as_up n.phase n) (as_up f.phase f) v b in
     let Q : List OnWire → Type 0 = λ v. Meets (as_up n.phase n) (as_up f.phase f) [] v in
-    subst P (sym (near a p)) (subst Q (sym (far b q)) m)
+    subst P (sym (near a p)) (subst Q (sym (far b q)) (new_meets (as_up n.phase n) (as_up f.phase f) g h))
 
 -- behind a new UA, the only one, stands nothing
 pub behind_fits : (w : List OnWire) (x : OnWire) → x.frame ≡ Ua → uas (sans w) ≡ [] → (b : List OnWire)
@@ -182,12 +175,9 @@ keeps_each : (G : Type 0) (n : Losses) (e : EndState) (v : ShdlcLink) (c : Contr
     → Keeps G (noted_loss n v c) (fetched e) (shdlc_put v c)
 keeps_each G n e v c is k =
     let d = data_due e c k.1 is in
-    let over : Bool = overflows (with_frame v.to_host c) in
-    let V : Type 0 = ((n.lost || over) ≡ false) × ((n.rnr || is_rnr c) ≡ false) in
+    let V : Type 0 = ((n.lost || (overflows (with_frame v.to_host c))) ≡ false) × ((n.rnr || is_rnr c) ≡ false) in
     let more : SaysMore (IsWhole n) V v.to_host c = grind arith in
-    let r : Rests G V (fetched e) v.host.side (sans v.to_controller) (sans (fits (with_frame v.to_host c))) =
-    rests_put G e v.host.side (sans v.to_controller) is d more k.2 in
-    (fetched-phase e ∙ k.0, fetched_answers e k.1, rw (not_rset c (inl d.0)) r)
+    (fetched-phase e ∙ k.0, fetched_answers e k.1, rw (not_rset c (inl d.0)) (rests_put G e v.host.side (sans v.to_controller) is d more k.2))
 
 -- what each frame that is due keeps, as the end sends it, all of them keep
 pub sends_noted : (P : Losses → EndState → ShdlcLink → Type 0)
@@ -219,7 +209,7 @@ tied_drains m n e l h w a b p q =
         let y : Some (sans v.to_controller) ≡ Some a = rw k.0 at p in
         let same : sans v.to_controller ≡ a = cc in
         let j : Joined (Unit {0}) z (as_up v.host.side.phase v.host.side) a b = rw same at r.0 in
-        from_up (λ y. Meets y (as_up v.host.side.phase v.host.side) a b) z k.0 (record { joined = j; near = idle r.2; far = r.1 })
+        grind arith
 
 -- ## Turns
 
@@ -252,8 +242,7 @@ few_turns (t ∷ ts) e up few = few_turns ts (shdlc_turn e t) (turn-phase e t �
 
 turn_keeps : (n : Losses) (e : EndState) (t : ShdlcTurn) (l : ShdlcLink) → Keeps (Unit {0}) n e l → Keeps (Unit {0}) n (shdlc_turn e t) l
 turn_keeps n e (Offer fragments) l k =
-    let P : EndState → Type 0 = λ f. Keeps (Unit {0}) n f l in
-    subst P (sym (offer_up e fragments k.0)) (
+    subst (λ f. Keeps (Unit {0}) n f l) (sym (offer_up e fragments k.0)) (
       k.0,
       k.1,
       λ w b q. let r = k.2 w b q in
@@ -277,9 +266,8 @@ pub drains : (m : ℕ) → 6 ≤ m → (n : Losses) (ts : List ShdlcTurn) (l : S
     (with_shdlc_controller (shdlc_put_all l (frames_of m (shdlc_turned e ts))) (after_frames m (shdlc_turned e ts)))
 drains m i n ts l e up answers few h =
     let k = turns_keep n ts e l (up, answers, h) in
-    let f = few_turns ts e up few in
     tied_drains m n (shdlc_turned e ts) l
-    (k.0, k.1, λ w b q. let r = k.2 w b q in (r.0, r.1, omega (arith, i, f, r.0.near_sends.acked_next, r.0.near_sends.window)))
+    (k.0, k.1, λ w b q. let r = k.2 w b q in (r.0, r.1, omega (arith, i, (few_turns ts e up few), r.0.near_sends.acked_next, r.0.near_sends.window)))
 
 -- an end with nothing to send
 pub nothing_sent : (m : ℕ) (e : EndState) → frame_due e ≡ None → frames_of m e ≡ []

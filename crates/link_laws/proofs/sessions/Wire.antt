@@ -99,53 +99,41 @@ no_ua_step c a r h = grind arith
 
 pub numbered_none : (m : ℕ) (w : List OnWire) → rsets w ≡ [] → Numbered m w
 numbered_none m [] h = tt
-numbered_none m (x ∷ xs) h =
-    let s = no_rset_step x.frame x.age (rsets xs) h in
-    ((grind arith), numbered_none m xs s.0)
-
-pub tail_step_other : (c : Control) (xs : List OnWire) (P : Type 0) → NotRset c → P → tail_step c xs P
-tail_step_other c xs P h p = grind arith
+numbered_none m (x ∷ xs) h = ((grind arith), numbered_none m xs (no_rset_step x.frame x.age (rsets xs) h).0)
 
 pub tail_none : (w : List OnWire) → rsets w ≡ [] → Tail w
 tail_none [] h = tt
 tail_none (x ∷ xs) h =
     let s = no_rset_step x.frame x.age (rsets xs) h in
-    tail_step_other x.frame xs (Tail xs) s.1 (tail_none xs s.0)
-
-tail_one : (c : Control) → tail_step c [] (Unit {0})
-tail_one c = grind arith
+    let h0 = Tail xs in let h1 = tail_none xs s.0 in grind arith
 
 -- any frame may stand behind frames without an RSET
 pub tail_push : (w : List OnWire) (x : OnWire) → rsets w ≡ [] → Tail (w ++ x ∷ [])
-tail_push [] x h = tail_one x.frame
+tail_push [] x h = grind arith
 tail_push (y ∷ w) x h =
     let s = no_rset_step y.frame y.age (rsets w) h in
-    tail_step_other y.frame (w ++ x ∷ []) (Tail (w ++ x ∷ [])) s.1 (tail_push w x s.0)
+    let h0 = w ++ x ∷ [] in let h1 = Tail (w ++ x ∷ []) in let h2 = tail_push w x s.0 in grind arith
 
 -- a UA may stand behind an RSET where there is none yet
 pub tail_push_ua : (w : List OnWire) (x : OnWire) → x.frame ≡ Ua → uas w ≡ [] → Tail w → Tail (w ++ x ∷ [])
-tail_push_ua [] x e u h = tail_one x.frame
+tail_push_ua [] x e u h = grind arith
 tail_push_ua (y ∷ w) x e u h =
-    let s = no_ua_step y.frame y.age (uas w) u in
-    (let h0 = (Tail w) in let h1 = (Tail (w ++ x ∷ [])) in let h2 = (tail_push_ua w x e s.0) in grind arith)
+    (let h0 = (Tail w) in let h1 = (Tail (w ++ x ∷ [])) in let h2 = (tail_push_ua w x e (no_ua_step y.frame y.age (uas w) u).0) in grind arith)
 
 -- ## Behind a UA
-
-behind_step_none : (c : Control) (xs : List OnWire) (o : Option (List OnWire)) → NotUa c → o ≡ None → behind_step c xs o ≡ None
-behind_step_none c xs o h e = grind arith
 
 pub behind_none : (w : List OnWire) → uas w ≡ [] → behind_ua w ≡ None
 behind_none [] h = refl
 behind_none (x ∷ xs) h =
     let s = no_ua_step x.frame x.age (uas xs) h in
-    behind_step_none x.frame xs (behind_ua xs) s.1 (behind_none xs s.0)
+    let h0 = behind_ua xs in let h1 = behind_none xs s.0 in grind arith
 
 pub behind_push : (w ys : List OnWire) (x : OnWire) → behind_ua w ≡ Some ys → behind_ua (w ++ x ∷ []) ≡ Some (ys ++ x ∷ [])
 behind_push [] ys x h = cc
 behind_push (y ∷ w) ys x h = let h0 = (behind_ua w) in let h1 = (behind_ua (w ++ x ∷ [])) in let h2 = (behind_push w ys x) in grind arith
 
 pub behind_push_none : (w : List OnWire) (x : OnWire) → NotUa x.frame → behind_ua w ≡ None → behind_ua (w ++ x ∷ []) ≡ None
-behind_push_none [] x n h = behind_step_none x.frame [] None n refl
+behind_push_none [] x n h = grind arith
 behind_push_none (y ∷ w) x n h = let h0 = (behind_ua w) in let h1 = (behind_ua (w ++ x ∷ [])) in let h2 = (behind_push_none w x n) in grind arith
 
 -- a new UA leads into a session where no RSET stands before it
@@ -223,9 +211,6 @@ data_not_ua c h = grind arith
 pub not_rset_adds : (c : Control) (a : ℕ) (r : List ℕ) → NotRset c → add_rset c a r ≡ r
 not_rset_adds c a r h = grind arith
 
-pub not_ua_adds : (c : Control) (a : ℕ) (r : List ℕ) → NotUa c → add_ua c a r ≡ r
-not_ua_adds c a r h = grind arith
-
 pub data_behind : (c : Control) (w : List OnWire) (o : Option (List OnWire)) → IsData c → behind_step c w o ≡ o
 data_behind c w o h = grind arith
 
@@ -236,7 +221,3 @@ rset_young b a r (x ∷ xs) y h = (let h0 = (rset_young b a r xs (young_later x.
 pub ua_young : (b a : ℕ) (r : List ℕ) (w : List OnWire) → Young b w → uas w ≡ a ∷ r → a ≤ b
 ua_young b a r [] y h = cc
 ua_young b a r (x ∷ xs) y h = (let h0 = (ua_young b a r xs (young_later x.age b xs y.0 y.1)) in grind arith)
-
--- behind an RSET without a UA stands nothing
-pub after_rset_empty : (w : List OnWire) → uas w ≡ [] → AfterRset w → w ≡ []
-after_rset_empty w u h = grind arith

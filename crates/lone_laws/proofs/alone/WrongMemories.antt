@@ -106,7 +106,6 @@ two_are_lost (inr less) = by less.front less.are less.finds where
   by : (front : List Command) → (one ∷ two ∷ []) ≡ front ++ (less.last ∷ []) → FindsBehind blank front blank → ⊥
   by [] is finds = absurd (cc is)
   by (c ∷ []) is finds =
-      let same : one ≡ c = cc in
-      let lost : FindsBehind blank (one ∷ []) blank = subst (λ x. FindsBehind blank (x ∷ []) blank) (sym same) finds in
+      let lost : FindsBehind blank (one ∷ []) blank = subst (λ x. FindsBehind blank (x ∷ []) blank) (sym cc) finds in
       true≢false (ap no_syncs lost.finds.tables_are)
   by (c ∷ d ∷ front) is finds = too_many c d less.last front is

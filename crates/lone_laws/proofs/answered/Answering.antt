@@ -8,11 +8,11 @@ use Rattle.lone_laws.proofs.Words.{noted_since, noting, oldest, option_map_or, p
 use Rattle.lone_laws.proofs.Words.{takes_up, true, turn_at, unhandled_in, waiting_at, with_desk, ℕ, ◌++◌, ◌∙◌, ◌∷◌, ◌≡◌, ◌≤◌}
 use Rattle.trace_model.specs.declared.entry.Entry.TheVariants as entry
 use Rattle.lone_laws.proofs.answered.Replying.{AnswersOwn, AreUntil, IsMuteEntry, IsRepliedOwn, deeds_answer, entries_of_deeds, mute_then, mutes_then}
-use Rattle.lone_laws.proofs.answered.Replying.{noted_answers, noted_as_reply, reply_told, session_of_end, turn_then}
+use Rattle.lone_laws.proofs.answered.Replying.{noted_answers, noted_as_reply, reply_told, session_of_end}
 use Rattle.lone_laws.proofs.answered.Reading.{Read, left_is}
 use Rattle.lone_laws.proofs.answered.Turning.{IsHere, alone_here}
 use Rattle.lone_laws.proofs.answered.Knowing.{KnowsAlone, LoneKeeps, OrderAt, begin_read, begun, ended, entries_are, in_order, knows_lasts, noted, pass_noted}
-use Rattle.lone_laws.proofs.answered.Replied.{ErrorsAre, IsSettled, KnowsAll, core_read, deeds_read, deeds_shape, desk_errors, errors_then, errors_with}
+use Rattle.lone_laws.proofs.answered.Replied.{ErrorsAre, IsSettled, KnowsAll, core_read, deeds_read, deeds_shape, desk_errors, errors_then}
 use Rattle.lone_laws.proofs.answered.Replied.{errs_handled, found, lack_read, noted_so, own_port, same_link, session_read}
 
 pub emits_mute : (f : End) (frames : List Control) → AllByRecursion IsMuteEntry (map (λ c. entry.Emit f (lpdu_of c)) frames)
@@ -23,7 +23,7 @@ emits_mute f (c ∷ frames) = ((refl, refl, refl), emits_mute f frames)
 pub none_until : (later emits : List Entry) → AllByRecursion IsMuteEntry emits → BeginWithTurn later
     → ((front back : List Entry) (x : Entry) → later ≡ front ++ (x ∷ back) → BeginsBehind x back) → AreUntil [] false (later ++ emits)
 none_until [] emits mute begin each = subst (AreUntil [] false) (append-nil emits) (mutes_then emits [] [] false mute (refl, refl))
-none_until (entry.Turn f pid message ∷ later) emits mute begin each = turn_then (entry.Turn f pid message) (later ++ emits) refl
+none_until (entry.Turn f pid message ∷ later) emits mute begin each = let h0 = entry.Turn f pid message in let h1 = later ++ emits in grind arith
 none_until (entry.Held f need spare ∷ later) emits mute begin each =
     mute_then (entry.Held f need spare) (later ++ emits) [] false (refl, refl, refl)
     (none_until later emits mute (each [] later (entry.Held f need spare) refl)
@@ -54,14 +54,14 @@ module _ (rest : Core) (number h : ℕ) (some : 1 ≤ h) (most : h ≤ 7) (s : �
   errs_hold k b w a =
       subst (λ es. ErrorsAre e (errors_found F) (t ++ (w.entries ++ es)) (desk_errors (turn_at k (Hold b) w).ports))
       (sym (grind arith))
-      (subst (ErrorsAre e (errors_found F) (t ++ (w.entries ++ []))) (sym (errors_with k (after_turn (Hold b)) (λ p. refl) w.ports)) (errs_more w [] tt a))
+      (subst (ErrorsAre e (errors_found F) (t ++ (w.entries ++ []))) (sym (let h0 = after_turn (Hold b) in grind arith)) (errs_more w [] tt a))
 
   errs_held : (k : ℕ) (short : ℕ × ℕ) (w : Work) → Errs w → Errs (holds_back k short w)
   errs_held k short w a = by_test (option_map_or (λ (p : Port). p.desk.holds) (port_at w.ports k) false)
       (λ q. rw q (errs_hold k true w a))
       (λ q. rw q (errs_hold k true marked
       (subst (ErrorsAre e (errors_found F) (t ++ marked.entries))
-      (sym (errors_with k (λ p. record p { desk = record p.desk { holds = true } }) (λ p. refl) w.ports))
+      (sym (grind arith))
       (errs_more w (entry.Held (end_of_node w.core k) short.0 short.1 ∷ []) (((λ r. refl), tt), tt) a)))) where
         marked : Work
         marked = with_desk k (λ d. record d { holds = true }) (noting (entry.Held (end_of_node w.core k) short.0 short.1 ∷ []) w)
@@ -161,9 +161,7 @@ module _ (rest : Core) (t : List Entry) (l : Lone) (some : 1 ≤ l.link) (most :
     all_of = (pass_noted G t l some most n keeps c i comes).more
 
     each_is : (front back : List Entry) (x : Entry) → all_of ≡ front ++ (x ∷ back) → BeginsBehind x back
-    each_is front back x q = by x ((pass_noted G t l some most n keeps c i comes).each front back x q).1 where
-      by : (y : Entry) → IsTurnSo (ComesTo B) B front y back → BeginsBehind y back
-      by y a = grind arith
+    each_is front back x q = (let h0 = ((pass_noted G t l some most n keeps c i comes).each front back x q).1 in grind arith)
 
     turn_is : (front back : List Entry) (x : Entry) → all_of ≡ front ++ (x ∷ back) → B.cut ≡ false → IsTurnSo (ComesTo B) B front x back
         → OrderAt (t ++ (B.entries ++ front)) x (back ++ tail)

@@ -1,8 +1,8 @@
 -- A node with one link in a step before its pass: something comes to its end, and an identifier may be kept; nothing else is done.
-use Rattle.lone_laws.proofs.Words.{ActStart, ActStop, AtEnd, Bool, End, Entry, LinkEnd, LinkInput, List, NodeInput, None, Port, Reset, Some, Start, Stop, Take}
+use Rattle.lone_laws.proofs.Words.{ActStart, ActStop, AtEnd, End, Entry, LinkEnd, LinkInput, List, NodeInput, None, Port, Reset, Some, Start, Stop, Take}
 use Rattle.lone_laws.proofs.Words.{TakeUnknown, Tick, TimePasses, Work, [], after_input, after_sessions, all_come, all_done, all_owed, ap, append-nil, ap₂}
-use Rattle.lone_laws.proofs.Words.{arith, comes_to_pass, deactivated, end_of, end_of_node_alone, flat_map, forgets, forgotten, got_by, had_tick, has_come}
-use Rattle.lone_laws.proofs.Words.{has_come_so, has_freed, has_synced, input_at, is_open, map, moved, node_input, own_side, refl, report, reset_late, same_end}
+use Rattle.lone_laws.proofs.Words.{arith, comes_to_pass, deactivated, end_of, end_of_node_alone, flat_map, forgets, forgotten, got_by, has_come}
+use Rattle.lone_laws.proofs.Words.{has_come_so, has_freed, has_synced, input_at, is_open, map, moved, node_input, own_side, refl, report, same_end}
 use Rattle.lone_laws.proofs.Words.{same_end_itself, started, stopped, sym, syncs_in, times_out, told_at, told_late, true, unless_cut, whole_acked, with_older}
 use Rattle.lone_laws.proofs.Words.{without_notice, ℕ, ◌++◌, ◌∙◌, ◌∷◌, ◌≡◌}
 use Rattle.link_laws.proofs.machine.Reports.{activated_got, moved_got, reset_got, took_got}
@@ -28,9 +28,7 @@ nothing_more e f q = q ∙ sym (append-nil e.got)
 pub lone_got : (e : LinkEnd) (i : LinkInput) → IsLoneInput i → (after_input e i).got ≡ e.got ++ got_by e i
 lone_got e (Take c) a = took_got e c
 lone_got e TakeUnknown a = nothing_more e (after_input e TakeUnknown) refl
-lone_got e Tick a = nothing_more e (after_input e Tick) (go (is_open e.role) refl) where
-  go : (b : Bool) → is_open e.role ≡ b → (had_tick e).got ≡ e.got
-  go b q = grind arith
+lone_got e Tick a = nothing_more e (after_input e Tick) (let h0 = is_open e.role in grind arith)
 lone_got e (Reset window) a = nothing_more e (after_input e (Reset window)) (reset_got e window)
 lone_got e (Start value) a =
     nothing_more e (started e value) (activated_got (moved e true (stopped e.shdlc)) (ActStart value) ∙ moved_got e true (stopped e.shdlc))
@@ -60,11 +58,8 @@ undone w = unless (λ v. v ≡ w) (all_done 0 []) w (λ v q. q) refl
 times_none : (input : NodeInput) (v : Work) (q : Port) → v.ports ≡ q ∷ [] → q.desk.notice ≡ None → times_out input v ≡ v
 times_none (AtEnd k i) v q ports none = refl
 times_none TimePasses v q ports none =
-    let older : with_older q ≡ q = older_none q none in
-    let told : told_late v.core (with_older q) ≡ [] = grind arith in
     let es : flat_map (told_late v.core) (map with_older v.ports) ≡ [] = grind arith in
-    let ps : map reset_late (map with_older v.ports) ≡ v.ports = grind arith in
-    ap₂ (λ z es. record v { ports = z; entries = v.entries ++ es }) ps es ∙ ap (λ z. record v { entries = z }) (append-nil v.entries)
+    ap₂ (λ z es. record v { ports = z; entries = v.entries ++ es }) (grind arith) es ∙ ap (λ z. record v { entries = z }) (append-nil v.entries)
 
 owed_left : (v : Work) (q : Port) → v.ports ≡ q ∷ [] → q.desk.notice ≡ None → all_owed (map (forgets v.ports) v.ports) ≡ []
 owed_left v q ports none = grind arith
@@ -98,11 +93,10 @@ module _ (number h : ℕ) (r : Read) (t : List Entry) where
 
     pub alone_comes : Of (all_come input w)
     alone_comes =
-        let told_it : List Entry = told_at w.core a.port (Some i) in
         let R : Read = reads_of w.core a.port in
         alone_as a came_port (all_come input w).ports (all_come input w).entries came_ports a.host a.none
         (ap (λ es. read_all e r (t ++ es)) came_entries
-        ∙ read_more number h r t w told_it R (reads_of w.core came_port) a.read
+        ∙ read_more number h r t w (told_at w.core a.port (Some i)) R (reads_of w.core came_port) a.read
         (told_read e a.port.desk.host (own_side w.core) a.port.session (whole_acked (after_input a.port.side i)) (report a.port.side i) R own_side_end
         ∙ ap (λ z. record R { left = z }) (sym (lone_got a.port.side i may))))
 

@@ -1,13 +1,12 @@
 -- Before the first turn in an event a node alone answers what is due.
 use Rattle.std.specs.Prelude.{Option, Some, None, not}
-use Rattle.lone_laws.proofs.Words.{ActEvent, ActTake, AllByRecursion, AllByRecursion-append, BeginsBehind, ComesTo, Commits, Control, Core, Deed, End, Entry}
-use Rattle.lone_laws.proofs.Words.{Err, FrameComes, FrameIsRefused, IsTurnSo, LinkEnd, LinkInput, List, Lone, LoneCause, LpduFault, Ok, Port, Report}
-use Rattle.lone_laws.proofs.Words.{ResetComes, Result, Role, Running, Side, StartComes, StopComes, Sync, TickComes, Work, [], act_event, act_out, after_input}
-use Rattle.lone_laws.proofs.Words.{all_come, all_done, ap, append-nil, append_assoc, arith, by_test, cond, control_of, core_since, count_of, deeds_note}
-use Rattle.lone_laws.proofs.Words.{emits_behind, end_of_node_alone, entries_for, entry_of, eqb, false, finds_room, flat_map, frames_behind, is_kept_sync}
-use Rattle.lone_laws.proofs.Words.{lone_arrival, lone_end, lone_input, lpdu_input, node_input, noted_by_deeds, noted_since, own_side, refl, report, session_now}
-use Rattle.lone_laws.proofs.Words.{session_with, subst, sym, sync_due, synced, syncs_in, told, told_all, told_at, true, whole_acked, ℕ, ◌&&◌, ◌++◌, ◌||◌, ◌∙◌}
-use Rattle.lone_laws.proofs.Words.{◌∷◌, ◌≡◌, ◌≤◌}
+use Rattle.lone_laws.proofs.Words.{ActEvent, ActTake, AllByRecursion, AllByRecursion-append, BeginsBehind, Commits, Control, Core, Deed, End, Entry, Err}
+use Rattle.lone_laws.proofs.Words.{FrameComes, FrameIsRefused, LinkEnd, LinkInput, List, Lone, LoneCause, LpduFault, Ok, Port, Report, ResetComes, Result, Role}
+use Rattle.lone_laws.proofs.Words.{Running, Side, StartComes, StopComes, Sync, TickComes, Work, [], act_event, act_out, after_input, all_come, all_done, ap}
+use Rattle.lone_laws.proofs.Words.{append-nil, append_assoc, arith, by_test, cond, control_of, core_since, count_of, deeds_note, emits_behind}
+use Rattle.lone_laws.proofs.Words.{end_of_node_alone, entries_for, entry_of, eqb, false, finds_room, flat_map, frames_behind, is_kept_sync, lone_arrival}
+use Rattle.lone_laws.proofs.Words.{lone_end, lone_input, lpdu_input, node_input, noted_by_deeds, noted_since, own_side, refl, report, session_now, session_with}
+use Rattle.lone_laws.proofs.Words.{subst, sym, sync_due, synced, syncs_in, told, told_all, told_at, true, whole_acked, ℕ, ◌&&◌, ◌++◌, ◌∙◌, ◌∷◌, ◌≡◌, ◌≤◌}
 use Rattle.trace_model.specs.declared.entry.Entry.TheVariants as entry
 use Rattle.swp_base.specs.declared.control_frames.Act.TheVariants.{SyncId, Ready, PowerMode}
 use Rattle.lone_laws.proofs.answered.Replying.{AnswersOwn, AreUntil, IsDueOwn, IsMuteEntry, IsNotedSo, deeds_answer, entries_of_deeds, noted_answers}
@@ -32,9 +31,6 @@ wanted _ = None
 out_none : (r : Role) (o : Option ActEvent) → kind_of r ≡ Some false → (act_out r o).sync ≡ None
 out_none r o q = grind arith
 
-clf_out : (r : Role) (event : ActEvent) → kind_of r ≡ Some true → (act_out r (Some event)).sync ≡ wanted event
-clf_out r event q = grind arith
-
 -- the command that keeps an identifier
 abbrev of_sync : Core → ℕ → Option ℕ → List Deed
 of_sync core h None = []
@@ -49,7 +45,7 @@ frame_due : (core : Core) (h : ℕ) (s : LinkEnd) (bytes : List ℕ) → eqb cor
     → of_sync core h (report s (lpdu_input bytes)).sync ≡ sync_due core h (FrameComes bytes)
 frame_due core h s bytes zero kind = go (control_of bytes) refl where
   act : (event : ActEvent) → (act_out s.role (Some event)).sync ≡ wanted event
-  act event = clf_out s.role event kind
+  act event = grind arith
 
   go : (x : Result Control LpduFault) → control_of bytes ≡ x → of_sync core h (report s (lpdu_input bytes)).sync ≡ sync_due core h (FrameComes bytes)
   go (Err fault) q = rw (q, zero) refl
@@ -159,9 +155,7 @@ module _ (rest : Core) (t : List Entry) (l : Lone) (some : 1 ≤ l.link) (most :
       ∙ (deeds_note 0 due come ∙ ap (λ es. es ++ noted_by_deeds 0 due come) (came_entries l.number l.link R t i (lone_comes c i comes) first a))
 
   each_is : (front back : List Entry) (x : Entry) → more ≡ front ++ (x ∷ back) → BeginsBehind x back
-  each_is front back x q = by x ((pass_noted G t l some most n k.keep c i comes).each front back x q).1 where
-    by : (y : Entry) → IsTurnSo (ComesTo B) B front y back → BeginsBehind y back
-    by y a = grind arith
+  each_is front back x q = (let h0 = ((pass_noted G t l some most n k.keep c i comes).each front back x q).1 in grind arith)
 
   core_read : core_since G t ≡ n.core
   core_read = sym (core_is e t R) ∙ ap (λ (z : Read). z.core) k.keep.read

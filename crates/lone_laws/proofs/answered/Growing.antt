@@ -1,17 +1,16 @@
 -- Each session of a node alone has a greater number than those before it: behind each one that waits an RSET went out.
-use Rattle.lone_laws.proofs.Words.{About, ActDue, ActEvent, ActFrame, ActStart, ActStop, ActTake, ActTick, AllByRecursion, Asked, AsksFor, Bool, Clt, Command}
-use Rattle.lone_laws.proofs.Words.{Commits, Control, Deed, Desk, EndState, FetchMessage, Fragment, Give, Hold, I, IsAnswered, Lasts, LinkEnd, LinkInput}
-use Rattle.lone_laws.proofs.Words.{LinkState, List, Message, NodeInput, None, Orders, Port, Rej_due, Release, Releases, Reset, Rnr_due, Rr_due, Rset, Rset_due}
-use Rattle.lone_laws.proofs.Words.{S, Sends, SetAside, SetsErrors, Some, Sound, Start, Stop, Take, TakeUnknown, Tells, Tick, Turn, Ua, Ua_due, Waiting, Work}
-use Rattle.lone_laws.proofs.Words.{[], acknowledged, activated, after_frames, after_input, after_sessions, after_turn, all_changed, all_come, all_map, all_owed}
-use Rattle.lone_laws.proofs.Words.{among, anyone, ap, arith, aside_refusal, asked_at, began_by, body_of, by_list, by_option, by_test, commit, commit_writes}
-use Rattle.lone_laws.proofs.Words.{cond, done, drop, due_left, eqb, fails_within, false, fetched, filter, flat_map, forgets, forgotten, frames_of}
-use Rattle.lone_laws.proofs.Words.{frames_out, give_refusal, got_at, heard, if_up, inl, inr, is_faulty, is_forgotten, is_open, is_over, is_rset, is_some}
-use Rattle.lone_laws.proofs.Words.{is_waiting, length, length-append, map, most_frames, moved, nat_lt, not, notified, noting, place_of, received}
-use Rattle.lone_laws.proofs.Words.{received_cases, refl, reset_refusal, reset_with, rest_lasts, rsets_among, rsets_due, rsets_since, runs_timer, sent_all}
-use Rattle.lone_laws.proofs.Words.{steps, stopped, suc, sym, synced, take, take_answer, taken, tick_answer, ticked, times_out, true, true≢false, turn, turn_at}
-use Rattle.lone_laws.proofs.Words.{waiting_from, window_of, with_desk, with_port, with_ready, without_notice, zero, ℕ, ◌++◌, ◌+◌, ◌-◌, ◌<◌, ◌==◌, ◌∙◌, ◌∷◌, ◌≡◌}
-use Rattle.lone_laws.proofs.Words.{◌≤◌, ◌⊎◌}
+use Rattle.lone_laws.proofs.Words.{About, ActDue, ActEvent, ActFrame, ActStart, ActStop, ActTake, ActTick, AllByRecursion, Asked, AsksFor, Bool, Clt, Commits}
+use Rattle.lone_laws.proofs.Words.{Control, Deed, Desk, EndState, FetchMessage, Fragment, Give, Hold, I, IsAnswered, Lasts, LinkEnd, LinkInput, LinkState, List}
+use Rattle.lone_laws.proofs.Words.{Message, NodeInput, None, Orders, Port, Rej_due, Release, Releases, Reset, Rnr_due, Rr_due, Rset, Rset_due, S, Sends}
+use Rattle.lone_laws.proofs.Words.{SetAside, SetsErrors, Some, Sound, Start, Stop, Take, TakeUnknown, Tells, Tick, Turn, Ua, Ua_due, Waiting, Work, []}
+use Rattle.lone_laws.proofs.Words.{acknowledged, activated, after_frames, after_input, after_sessions, after_turn, all_changed, all_come, all_map, all_owed}
+use Rattle.lone_laws.proofs.Words.{among, anyone, ap, arith, aside_refusal, asked_at, began_by, by_list, by_option, by_test, cond, done, drop, due_left, eqb}
+use Rattle.lone_laws.proofs.Words.{false, fetched, filter, flat_map, forgets, forgotten, frames_of, frames_out, give_refusal, got_at, heard, if_up, inl, inr}
+use Rattle.lone_laws.proofs.Words.{is_faulty, is_forgotten, is_open, is_over, is_rset, is_some, is_waiting, length, length-append, map, most_frames, moved}
+use Rattle.lone_laws.proofs.Words.{nat_lt, not, notified, noting, place_of, received, received_cases, refl, reset_refusal, reset_with, rest_lasts, rsets_among}
+use Rattle.lone_laws.proofs.Words.{rsets_due, rsets_since, runs_timer, sent_all, steps, stopped, suc, sym, synced, take, take_answer, taken, tick_answer}
+use Rattle.lone_laws.proofs.Words.{ticked, times_out, true, true≢false, turn, turn_at, waiting_from, window_of, with_desk, with_port, with_ready}
+use Rattle.lone_laws.proofs.Words.{without_notice, zero, ℕ, ◌++◌, ◌+◌, ◌-◌, ◌<◌, ◌==◌, ◌∙◌, ◌∷◌, ◌≡◌, ◌≤◌, ◌⊎◌}
 use Rattle.link_laws.proofs.sessions.Sending.{at_most_one}
 use Rattle.node_machine.specs.Parts.About.{Removed, Waits}
 use Rattle.shdlc_core.specs.declared.answers.Due.{Due}
@@ -236,11 +235,8 @@ module _ (s : LinkEnd) where
       desk_turned h (λ d. record d { notice = Some (record { about = about; age = 0 }) }) (turn_at h (Give (1, message)) w)
       (at_turned h (Give (1, message)) w a)
 
-  commit_turned : (c : Command) (w : Work) → IsTurnedWork w → IsTurnedWork (commit c w)
-  commit_turned c w a = by_test (fails_within (length (commit_writes w.core.journal w.core.tables (body_of c))) w.plan) (λ q. rw q a) (λ q. rw q a)
-
   done_turned : (h : ℕ) (d : Deed) (w : Work) → Unit {0} → IsTurnedWork w → IsTurnedWork (done h d w)
-  done_turned h (Commits c) w may a = commit_turned c w a
+  done_turned h (Commits c) w may a = grind arith
   done_turned h (Sends to m) w may a = at_turned to (Give m) w a
   done_turned h (AsksFor to message c) w may a =
       notified_turned to (Waits c) message
@@ -309,11 +305,8 @@ among_rsets : (n : ℕ) (acts : List ActDue) (fs : List Control) → rsets_of (a
 among_rsets n [] fs = refl
 among_rsets n (a ∷ acts) fs =
     let k : ℕ = a.behind - n in
-    let rest : List Control = among a.behind acts (drop k fs) in
-    let all = rsets-append (take k fs) (ActFrame a.frame false ∷ rest) in
     let back = among_rsets a.behind acts (drop k fs) in
-    let whole = take_and_drop k fs in
-    omega (arith, all, back, whole)
+    omega (arith, (rsets-append (take k fs) (ActFrame a.frame false ∷ (among a.behind acts (drop k fs)))), back, (take_and_drop k fs))
 
 frames_rsets : (n : ℕ) (e : EndState) → length e.due ≤ n → rsets_among e.due ≤ rsets_of (frames_of n e)
 frames_rsets zero e few = by_list e.due (λ q. rw q (omega arith)) (λ d ds q. absurd (let z = ap (λ (l : List Due). length l) q in omega (arith, few, z)))
@@ -361,12 +354,8 @@ numbered_then e session rsets a sound i may f turned = go (began_by e i) refl wh
 
   few : length f.shdlc.due ≤ most_frames
   few =
-      let one = input.0 in
-      let none = ap (λ (l : List Due). length l) a.emptied in
-      let turns = turned.few in
-      let rnr = at_most_one s.shdlc.session.answered_rnr in
       let less = at_least f.shdlc.session.answered_rnr in
-      omega (arith, one, none, turns, rnr, less)
+      omega (arith, input.0, (ap (λ (l : List Due). length l) a.emptied), turned.few, (at_most_one s.shdlc.session.answered_rnr), less)
     where
       at_least : (b : Bool) → 0 ≤ cond b 1 0
       at_least true = omega arith

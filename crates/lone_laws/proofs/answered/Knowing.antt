@@ -14,7 +14,6 @@ use Rattle.lone_laws.proofs.Words.{port_at, refl, report, rsets_since, session_w
 use Rattle.lone_laws.proofs.Words.{told_at, true, true≢false, turn_at, unhandled_in, waiting_at, whole_acked, with_desk, with_refusal, ℕ, ◌++◌, ◌||◌, ◌∙◌, ◌∷◌}
 use Rattle.lone_laws.proofs.Words.{◌≡◌, ◌≤◌}
 use Rattle.node_laws.proofs.passes.Passing.{leaves_behind}
-use Rattle.node_laws.specs.passes.Passing.{Stays}
 use Rattle.node_laws.specs.passes.Passing.ComesTo.{Begins}
 use Rattle.lone_laws.proofs.answered.Coming.{IsLoneInput, came_entries, came_is, came_port, came_ports, own_side_end, pass_is}
 use Rattle.lone_laws.proofs.answered.Growing.{IsNumbered}
@@ -103,10 +102,9 @@ module _ (P : List Entry → LoneEvent → Type 0) (K : List Entry → Lone → 
         subst (λ l. P l o) (sym (append-nil t)) (subst (P t) same done.0)
     by_past later done (p ∷ past) z =
         let same : first ≡ p = cc in
-        let rest : lone_events (lone_step l c).0 causes ≡ past ++ (o ∷ back) = cc in
         subst (λ (x : LoneEvent). P (t ++ (x.entries ++ entries_of_events_alone past)) o) same
         (subst (λ l. P l o) (append_assoc t (lone_step l c).1 (entries_of_events_alone past))
-        (later (t ++ (lone_step l c).1) (lone_step l c).0 done.1 past rest))
+        (later (t ++ (lone_step l c).1) (lone_step l c).0 done.1 past cc))
 
     by_power : Later → (b : Bool) → is_some l.node ≡ b → (past : List LoneEvent)
         → cond b (first ∷ lone_events (lone_step l c).0 causes) [] ≡ past ++ (o ∷ back) → P (t ++ entries_of_events_alone past) o
@@ -198,8 +196,7 @@ keeps_work r t l i w all = by_test w.cut
     (λ off. λ n runs. let gone : None ≡ Some n = sym (ap (λ b. cond b None (Some on_still)) off) ∙ runs in absurd (cc gone))
     (λ on. λ n runs.
     let a : Alone l.number l.link r t w = all on in
-    let is : record { core = w.core; desks = map (λ (p : Port). p.desk) w.ports } ≡ n = grind arith in
-    subst (LoneKeeps r (t ++ (w.entries ++ emits_behind l w)) (lone_behind_step l i w)) is (record {
+    subst (LoneKeeps r (t ++ (w.entries ++ emits_behind l w)) (lone_behind_step l i w)) (grind arith) (record {
       desk = a.port.desk;
       desks_are = ap (map (λ (p : Port). p.desk)) a.ports_are;
       host = a.host;
@@ -254,9 +251,8 @@ module _ (r : Read) where
         by_input : (n : Running) → l.node ≡ Some n → (o : Option LinkInput) → lone_input c ≡ o → IfKeeps r (t ++ (lone_step l c).1) (lone_step l c).0
         by_input n on (Some i) comes =
             let w : Work = lone_work l n i (lone_arrival l c) in
-            let v : Work = steps (node_input l.link i) w in
             subst (λ (x : Lone × List Entry). IfKeeps r (t ++ x.1) x.0) (sym (step_is l n c i on comes))
-            (keeps_work r t l i v
+            (keeps_work r t l i (steps (node_input l.link i) w)
             (alone_steps l.number l.link some most r t i (lone_comes c i comes) w
             (begins_alone r t l n i (lone_arrival l c) (arrival_nothing l c) (keeps n on))))
         by_input n on None comes = refused c comes where
@@ -378,9 +374,8 @@ module _ (found : Core) (t : List Entry) (l : Lone) (some : 1 ≤ l.link) (most 
       let here : IsHere u.port a.host a.message a.messages = alone_here l.number l.link some most r t a.host a.message a.messages a.work u a.waiting in
       let its : f ≡ lone_end l =
       a.its_end ∙ own_end a.work.core l.number l.link a.host u.node (link_is l.number l.link some most r t a.host u.port u.host here.own) in
-      let holds : u.port.desk.holds ≡ false = grind arith in
       let held : holds_in (t ++ a.work.entries) (lone_end l) ≡ false =
-      sym (held_is (lone_end l) (t ++ a.work.entries) r) ∙ (ap (λ (z : Read). z.held) u.read ∙ holds) in
+      sym (held_is (lone_end l) (t ++ a.work.entries) r) ∙ (ap (λ (z : Read). z.held) u.read ∙ (grind arith)) in
       ap (λ z. holds_in (t ++ (begun.entries ++ front)) z) its ∙ (ap (λ es. holds_in (t ++ es) (lone_end l)) (sym a.entries) ∙ held)
   turn_order front back _ on a = tt
 
@@ -428,11 +423,7 @@ module _ (found : Core) (t : List Entry) (l : Lone) (some : 1 ≤ l.link) (most 
       let own : eqb a.port.desk.host l.link ≡ true = ap (λ k. eqb k l.link) a.host ∙ eqb_same l.link in
       let got : waiting_at ended.ports l.link ≡ a.port.side.got = grind arith in
       let holds : is_held_at ended.ports l.link ≡ a.port.desk.holds = grind arith in
-      go b.work b.own (waiting_at b.work.ports l.link) refl b.stays (sym got ∙ b.waits) (sym holds) where
-        go : (u : Work) (own : List Entry) (ms : List Message) → waiting_at u.ports l.link ≡ ms → Stays u ended l.link own (waiting_at u.ports l.link)
-            → a.port.side.got ≡ waiting_at u.ports l.link → a.port.desk.holds ≡ is_held_at ended.ports l.link
-            → (is_none (oldest a.port.side.got) || a.port.desk.holds) ≡ true
-        go u own ms q stays got holds = grind arith
+      (let h0 = waiting_at b.work.ports l.link in let h1 = sym got ∙ b.waits in let h2 = sym holds in grind arith)
 
   pub at_rest : ended.cut ≡ false → is_at_rest (lone_end l) (t ++ noted) ≡ true
   at_rest still =
@@ -479,8 +470,7 @@ module _ (number h : ℕ) (some : 1 ≤ h) (most : h ≤ 7) (s : ℕ) (r : Read)
       → (handles k m (deeds_of w.core w.ports k m) w).cut ≡ false → Of (handles k m (deeds_of w.core w.ports k m) w)
   known_handled k m messages w a waits still =
       let here : IsHere a.keeps.port k m messages = alone_here number h some most r t k m messages w a.keeps waits in
-      let port : port_at w.ports k ≡ Some a.keeps.port = ap (λ ps. port_at ps k) a.keeps.ports_are ∙ ap (λ b. cond b (Some a.keeps.port) None) here.own in
-      let came : AreSendable (m ∷ messages) = subst AreSendable here.got (fine_at w.ports k a.keeps.port a.fine port).clean in
+      let came : AreSendable (m ∷ messages) = subst AreSendable here.got (fine_at w.ports k a.keeps.port a.fine (grind arith)).clean in
       let fine : AreFine (deeds_of w.core w.ports k m) = deeds_fine w.core w.ports k m a.fine came.0 in
       record {
         keeps = alone_handled number h some most r t k m messages w a.keeps waits still;
@@ -549,25 +539,21 @@ module _ (found : Core) (t : List Entry) (l : Lone) (some : 1 ≤ l.link) (most 
   start_is : Alone l.number l.link (begin_read found) t begins
   start_is = start_alone found t l some most n keeps c i comes
 
-  start_fine : IsFineWork begins
-  start_fine = grind arith
-
   -- as something has come to the end
   abbrev come : Work
   come = all_come (node_input l.link i) begins
 
   come_fine : IsFineWork come
   come_fine = subst IsFineWork (came_is l.number l.link (begin_read found) t i (lone_comes c i comes) begins start_is) (came_fine
-      (node_input l.link i) begins start_fine)
+      (node_input l.link i) begins (grind arith))
 
   come_talks : Talks l.number l.link (session_with l i) t come
   come_talks =
       let may : IsLoneInput i = lone_comes c i comes in
       let R : Read = begin_read found in
-      let p : Port = lone_port l.side (session_with l i) keeps.desk in
       let a : Alone l.number l.link R t begins = begins_alone R t l n i (lone_arrival l c) (arrival_nothing l c) keeps in
       let first : List Entry = lone_arrival l c in
-      let told_it : List Entry = told_at begins.core p (Some i) in
+      let told_it : List Entry = told_at begins.core (lone_port l.side (session_with l i) keeps.desk) (Some i) in
       let X : Talk = talk_of_side l.side l.session in
       let e : End = lone_end l in
       let k : ℕ = session_with l i in
@@ -598,10 +584,9 @@ module _ (found : Core) (t : List Entry) (l : Lone) (some : 1 ≤ l.link) (most 
 
   pub passing_known : passing.cut ≡ false → KnowsAlone l.number l.link (session_with l i) (begin_read found) t passing
   passing_known on =
-      let may : IsLoneInput i = lone_comes c i comes in
       let R : Read = begin_read found in
       let syncs : List Deed = syncs_in (node_input l.link i) begins in
-      let is : passing ≡ all_done 0 syncs come = pass_is l.number l.link R t i may begins start_is in
+      let is : passing ≡ all_done 0 syncs come = pass_is l.number l.link R t i (lone_comes c i comes) begins start_is in
       record {
         keeps = begun_alone found t l some most n keeps c i comes on;
         talks = subst (Talks l.number l.link (session_with l i) t) (sym is)

@@ -92,12 +92,9 @@ module _ (t : HciTables) (p : Port) (h : ℕ) (host : p.desk.host ≡ h) where
       let first = and_parts (is_connected view x) (not (eqb x h)) both.0 in
       absurd (none_else x first.0 (not-true (eqb x h) first.1))
 
-  empty_mask : (tell : ℕ) → tell ≡ 0 → AllByRecursion (λ (y : ℕ). ⊥) (hosts_where (has tell))
-  empty_mask tell q = rw (q, nobody) tt
-
   pub tells_nobody : (d : Decision) → TellsOthers view h d → AsksNobody d → TellsNobody d
   tells_nobody (Answer answer) a b = tt
-  tells_nobody (Commit c answer tell notice) a b = empty_mask tell (a.1 ∙ ap mask_of (none_told a.0 a.2))
+  tells_nobody (Commit c answer tell notice) a b = rw ((a.1 ∙ ap mask_of (none_told a.0 a.2)), nobody) tt
   tells_nobody (Ask dest notice c answer) a b = b
 
   pub asks_nobody : (pipe n : ℕ) (body : List ℕ) → AsksNobody (decided t view h pipe n body)

@@ -1,13 +1,13 @@
 -- What a node with one link keeps in a step is what is read off all entries until there: its tables and its journal, the messages that wait,
 -- and whether the first of them was noted as held.
-use Rattle.std.specs.Prelude.{nat_lt, length, Option, None}
-use Rattle.lone_laws.proofs.Words.{Acked, Active, AllByRecursion, AreTables, AreTables-apply, Bool, Command, Commits, Core, Deed, Desk, Down, Drops, End}
+use Rattle.std.specs.Prelude.{nat_lt, length, None}
+use Rattle.lone_laws.proofs.Words.{Acked, Active, AllByRecursion, AreTables, AreTables-apply, Bool, Command, Commits, Core, Deed, Down, Drops, End}
 use Rattle.lone_laws.proofs.Words.{Entry, FetchMessage, GaveUp, Give, Got, IsAnswered, IsCommand, JoinTwo, JoinTwo-after, LinkEnd, List, Message}
 use Rattle.lone_laws.proofs.Words.{Noted, Port, Release, Releases, Report, SaysOk, Sends, SetsErrors, Side, Turn, Up, Work, [], after_turn, ap, append-nil}
 use Rattle.lone_laws.proofs.Words.{append_assoc, arith, body_of, by_test, commit, commit_writes, common_steps, cond, core_noted, core_with, done, end_of}
 use Rattle.lone_laws.proofs.Words.{end_of_node, end_of_node_alone, entries_for, eqb, fails_within, false, fold, fold-append, holds_after, if_so, keeps, map}
 use Rattle.lone_laws.proofs.Words.{noted_of, noting, option_map_or, option_to_list, port_at, refl, same_end, sym, told, true, true≢false, turn, turn_at}
-use Rattle.lone_laws.proofs.Words.{unhandled_after, with_desk, with_port, ℕ, ◌++◌, ◌∙◌, ◌∷◌, ◌≡◌}
+use Rattle.lone_laws.proofs.Words.{unhandled_after, with_port, ℕ, ◌++◌, ◌∙◌, ◌∷◌, ◌≡◌}
 use Rattle.trace_model.specs.declared.entry.Entry.TheVariants as entry
 use Rattle.lone_laws.proofs.answered.Memories.{IsOwnDeed}
 
@@ -163,26 +163,12 @@ module _ (number h : ℕ) (r : Read) (t : List Entry) where
       alone_as a a.port w.ports (w.entries ++ es) a.ports_are a.host a.none
       (read_more w es (reads_of w.core a.port) (reads_of w.core a.port) a.read (nothing_read e es nothing (reads_of w.core a.port)))
 
-  -- the end is changed in nothing that is read
-  pub alone_change : (k : ℕ) (f : Port → Port) (w : Work) → ((p : Port) → IsSamePort p (f p)) → Of w → Of (record w { ports = with_port k f w.ports })
-  alone_change k f w same a = grind arith
-
-  sent_nothing : (core : Core) (x : Turn) (o : Option Port) → AreNothing e (option_map_or (noted_of core x) o [])
-  sent_nothing core x o = grind arith
-
   pub alone_turn : (k : ℕ) (x : Turn) (w : Work) → IsNoFetching x → Of w → Of (turn_at k x w)
   alone_turn k x w still a =
       alone_note (option_map_or (noted_of w.core x) (port_at w.ports k) []) (record w { ports = with_port k (after_turn x) w.ports })
-      (sent_nothing w.core x (port_at w.ports k)) (alone_change k (after_turn x) w (turn_same x still) a)
-
-  pub alone_desk : (k : ℕ) (f : Desk → Desk) (w : Work) → ((d : Desk) → (f d).host ≡ d.host) → ((d : Desk) → d.notice ≡ None → (f d).notice ≡ None)
-      → ((d : Desk) → (f d).holds ≡ d.holds) → Of w → Of (with_desk k f w)
-  alone_desk k f w host none holds a = grind arith
+      (let h0 = port_at w.ports k in grind arith) (let h0 = after_turn x in let h1 = turn_same x still in grind arith)
 
   -- ## Deeds
-
-  own_command : (n : ℕ) (core : Core) (c : Command) → eqb n core.node ≡ true → core_noted core (entry.Command n c) ≡ core_with core c
-  own_command n core c q = ap (λ b. cond b (core_with core c) core) q
 
   -- a command is kept
   alone_keeps : (c : Command) (w : Work) → (eqb number 0 ≡ true → IsCommand c) → Of w
@@ -200,7 +186,7 @@ module _ (number h : ℕ) (r : Read) (t : List Entry) where
             let good : AreTables w.core.tables × JoinTwo w.core.tables.rows = a.good zero in
             (AreTables-apply w.core.tables c (may zero) good.0, JoinTwo-after w.core.tables (c ∷ []) (may zero, tt) good.1);
         read = read_more w (entry.Command w.core.node c ∷ []) (reads_of w.core a.port) (reads_of (core_with w.core c) a.port) a.read
-            (ap (λ z. record (reads_of w.core a.port) { core = z }) (own_command w.core.node w.core c (eqb_same w.core.node)));
+            (ap (λ z. record (reads_of w.core a.port) { core = z }) (let h0 = eqb_same w.core.node in grind arith));
       }
 
   -- so it is while the power is on
@@ -217,7 +203,7 @@ module _ (number h : ℕ) (r : Read) (t : List Entry) where
   alone_does k (Sends to m) w may a = λ q. alone_turn to (Give m) w tt (a q)
   alone_does k SaysOk w may a = λ q. alone_note (entry.AnyOk w.core.node _ ∷ []) w ((λ z. refl), tt) (a q)
   alone_does k (Releases asker) w may a = λ q. alone_turn asker Release w tt (a q)
-  alone_does k IsAnswered w may a = λ q. alone_desk k (λ d. record d { notice = None }) w (λ d. refl) (λ d z. refl) (λ d. refl) (a q)
+  alone_does k IsAnswered w may a = λ q. (let h0 = a q in grind arith)
   alone_does k (Drops pid) w may a = λ q. alone_note (entry.Dropped (end_of_node w.core k) pid ∷ []) w ((λ z. refl), tt) (a q)
   alone_does k (SetsErrors errors) w may a = grind arith
   alone_does k _ w may a = absurd may

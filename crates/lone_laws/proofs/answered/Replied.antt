@@ -1,14 +1,14 @@
 -- At each turn of a step a node alone replies to its message as is read, and REC_ERROR is what is read.
 use Rattle.std.specs.Prelude.{None, Option, Some}
-use Rattle.lone_laws.proofs.Words.{AllByRecursion, AllByRecursion-append, AreNoBoots, AreTables, AreUnset, Bool, Core, Deed, End, Entry, ErrorCount}
-use Rattle.lone_laws.proofs.Words.{FetchMessage, IsNoBoot, IsUpAt, IsUpNow, JoinTwo, List, Message, NodeView, Noted, Port, Report, Sends, SetDeeds, SetsNone}
+use Rattle.lone_laws.proofs.Words.{AllByRecursion, AllByRecursion-append, AreNoBoots, AreUnset, Bool, Core, Deed, End, Entry, ErrorCount}
+use Rattle.lone_laws.proofs.Words.{FetchMessage, IsNoBoot, IsUpAt, IsUpNow, List, Message, NodeView, Noted, Port, Report, Sends, SetDeeds, SetsNone}
 use Rattle.lone_laws.proofs.Words.{Side, Turn, Work, [], after_turn, all_done, ap, append_assoc, ap₂, arith, by_test, cond, controller_deeds, controller_sets}
 use Rattle.lone_laws.proofs.Words.{controller_unset, core_noted, core_since, deeds_for, deeds_near, deeds_note, deeds_of, done, end_of_node, end_of_node_alone}
 use Rattle.lone_laws.proofs.Words.{end_since, end_view, entries_for, entry_of, eqb, eqb-true, errors_after, errors_found, errors_set_by, errors_since, false}
 use Rattle.lone_laws.proofs.Words.{first_lack, fold, fold-append, handles, host_deeds, host_sets, host_unset, is_asked_at, is_link_gate, is_up, is_up_read}
 use Rattle.lone_laws.proofs.Words.{lack, lack_since, lacking, leads_to_link_gate, needs, noted_by_deeds, own_gate, own_view, port_at, refl, reply_since}
 use Rattle.lone_laws.proofs.Words.{same_end, same_end_itself, session_now, spare, spare_since, spare_with, spare_with_link, subst, sym, takes_entries, takes_up}
-use Rattle.lone_laws.proofs.Words.{told, told_all, true, uncut, view_of, view_with_link, waiting_at, with_port, ℕ, ◌&&◌, ◌++◌, ◌||◌, ◌∙◌, ◌∷◌, ◌≡◌, ◌≤◌}
+use Rattle.lone_laws.proofs.Words.{told, told_all, true, uncut, view_of, view_with_link, waiting_at, ℕ, ◌&&◌, ◌++◌, ◌∙◌, ◌∷◌, ◌≡◌, ◌≤◌}
 use Rattle.node_laws.proofs.read_steps.Knowing.{same_deeds}
 use Rattle.node_laws.proofs.replies.Passes.{lack_alike}
 use Rattle.node_laws.proofs.views.Doing.SetDeeds.{IsDropped as IsDroppedSo, IsRefused as IsRefusedSo, IsSet as IsSetSo}
@@ -17,7 +17,7 @@ use Rattle.node_laws.specs.views.Views.{IsSameView}
 use Rattle.lone_laws.proofs.answered.Knowing.{KnowsAlone, begin_read}
 use Rattle.lone_laws.proofs.answered.Reading.{Alone, Read, core_is, eqb_same}
 use Rattle.lone_laws.proofs.answered.Replying.{IsLoneReply, IsNotedSo, TakesIt, answers_unbooted, controller_reply, deeds_answer, entries_of_deeds, host_reply}
-use Rattle.lone_laws.proofs.answered.Replying.{link_of_end, reply_noted, session_of_end}
+use Rattle.lone_laws.proofs.answered.Replying.{reply_noted, session_of_end}
 use Rattle.lone_laws.proofs.answered.Rooms.{Talks}
 use Rattle.lone_laws.proofs.answered.Turning.{IsHere, alone_here, link_is, own_end}
 use Rattle.gate_answers.specs.declared.response.Response.TheVariants as response
@@ -43,12 +43,9 @@ module _ (number h : ℕ) where
   abbrev HasTables : ErrorCount → Core → Type 0
   HasTables x c = (c.node ≡ number) × (eqb number 0 ≡ true → x.book.tables ≡ c.tables)
 
-  tables_noted : (y : Entry) (x : ErrorCount) (c : Core) → IsNoBoot y → HasTables x c → HasTables (errors_after its_end x y) (core_noted c y)
-  tables_noted y x c none a = grind arith
-
   tables_all : (t : List Entry) (x : ErrorCount) (c : Core) → AreNoBoots t → HasTables x c → HasTables (errs_all its_end x t) (fold core_noted c t)
   tables_all [] x c none a = a
-  tables_all (y ∷ t) x c none a = tables_all t (errors_after its_end x y) (core_noted c y) none.1 (tables_noted y x c none.0 a)
+  tables_all (y ∷ t) x c none a = tables_all t (errors_after its_end x y) (core_noted c y) none.1 (grind arith)
 
   -- Where a pipe leads is read off the tables that the node keeps.
   gate_read : (found : Core) (t : List Entry) (pid : ℕ) → found.node ≡ number → AreNoBoots t
@@ -59,9 +56,7 @@ module _ (number h : ℕ) where
         → leads_to_link_gate (errs_all its_end (errors_found found) t).book.tables its_end pid
         ≡ leads_to_link_gate (fold core_noted found t).tables its_end pid
     go true zero =
-        let read : HasTables (errs_all its_end (errors_found found) t) (fold core_noted found t) =
-        tables_all t (errors_found found) found none (node, λ _. refl) in
-        ap (λ d. leads_to_link_gate d its_end pid) (read.1 zero)
+        ap (λ d. leads_to_link_gate d its_end pid) ((tables_all t (errors_found found) found none (node, λ _. refl)).1 zero)
     go false another = grind arith
 
 -- ### What leaves it
@@ -108,10 +103,6 @@ abbrev pub desk_errors : List Port → ℕ
 desk_errors [] = 0
 desk_errors (p ∷ ports) = p.desk.errors
 
-pub errors_with : (k : ℕ) (f : Port → Port) → ((p : Port) → (f p).desk.errors ≡ p.desk.errors) → (ports : List Port)
-    → desk_errors (with_port k f ports) ≡ desk_errors ports
-errors_with k f keeps ports = grind arith
-
 -- ### A message that has its turn
 
 -- what a message sets at the one end of a node with this number
@@ -134,9 +125,7 @@ fits_by ports k m deeds false sets unset set = SetsNothing (unset refl)
 controller_fits : (core : Core) (ports : List Port) (k number h : ℕ) (m : Message) → eqb number 0 ≡ true → k ≡ h
     → FitsErrors ports k m.0 (controller_deeds (view_of core ports) k m) (sets_there core (end_of_node_alone number h) m)
 controller_fits core ports k number h m zero same =
-    let e : End = end_of_node_alone number h in
-    let here : leads_to_link_gate core.tables e m.0 ≡ is_link_gate (own_gate core.tables k m.0) = grind arith in
-    subst (FitsErrors ports k m.0 (controller_deeds (view_of core ports) k m)) (sym (ap (λ b. cond b (errors_set_by m.1) None) here))
+    subst (FitsErrors ports k m.0 (controller_deeds (view_of core ports) k m)) (sym (ap (λ b. cond b (errors_set_by m.1) None) (grind arith)))
     (fits_by ports k m (controller_deeds (view_of core ports) k m) (is_link_gate (own_gate core.tables k m.0)) (errors_set_by m.1)
     (controller_unset core ports k m) (λ v leads sets. controller_sets core ports k m v leads sets))
 
@@ -144,9 +133,7 @@ controller_fits core ports k number h m zero same =
 host_fits : (core : Core) (ports : List Port) (p : Port) (k number h : ℕ) (m : Message) → eqb number 0 ≡ false → core.node ≡ k → port_at ports k ≡ Some p
     → FitsErrors ports k m.0 (host_deeds (own_view core) (end_view p) m) (sets_there core (end_of_node_alone number h) m)
 host_fits core ports p k number h m another node here =
-    let e : End = end_of_node_alone number h in
-    let zero : leads_to_link_gate core.tables e m.0 ≡ eqb m.0 0 = grind arith in
-    subst (FitsErrors ports k m.0 (host_deeds (own_view core) (end_view p) m)) (sym (ap (λ b. cond b (errors_set_by m.1) None) zero))
+    subst (FitsErrors ports k m.0 (host_deeds (own_view core) (end_view p) m)) (sym (ap (λ b. cond b (errors_set_by m.1) None) (grind arith)))
     (fits_by ports k m (host_deeds (own_view core) (end_view p) m) (eqb m.0 0) (errors_set_by m.1) (host_unset core p m)
     (λ v leads sets. subst (λ n. SetDeeds ports n m.0 v (host_deeds (own_view core) (end_view p) m)) node
     (host_sets core ports p m v (subst (λ n. port_at ports n ≡ Some p) (sym node) here) leads sets)))
@@ -289,8 +276,7 @@ module _ (rest : Core) (number h : ℕ) (some : 1 ≤ h) (most : h ≤ 7) (s : �
       subst (λ ps. IsLoneReply (deeds_of w.core ps k m)) (sym a.ports_are) (go (eqb w.core.node 0) refl) where
         go : (b : Bool) → eqb w.core.node 0 ≡ b → IsLoneReply (deeds_of w.core (a.port ∷ []) k m)
         go true q =
-            let good : AreTables w.core.tables × JoinTwo w.core.tables.rows = a.good (ap (λ n. eqb n 0) (sym a.node) ∙ q) in
-            rw q (controller_reply w.core a.port k m (eqb-true a.port.desk.host k own) a.none good.1)
+            rw q (controller_reply w.core a.port k m (eqb-true a.port.desk.host k own) a.none (a.good (ap (λ n. eqb n 0) (sym a.node) ∙ q)).1)
         go false q = rw (q, own) (host_reply w.core a.port m a.command)
 
   module _ (its : eqb number 0 ≡ false → number ≡ h) where
@@ -387,7 +373,7 @@ module _ (rest : Core) (number h : ℕ) (some : 1 ≤ h) (most : h ≤ 7) (s : �
       up_then i = grind arith
 
       link_here : eqb k e.link ≡ true
-      link_here = ap₂ eqb same_link (link_of_end number h) ∙ eqb_same h
+      link_here = ap₂ eqb same_link (grind arith) ∙ eqb_same h
 
       pub errs_handled : lacking w k m ≡ None → (handles k m D w).cut ≡ false
           → ErrorsAre e (errors_found found) (t ++ (handles k m D w).entries) (desk_errors (handles k m D w).ports)

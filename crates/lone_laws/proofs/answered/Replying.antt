@@ -1,16 +1,15 @@
 -- What a node alone notes of a message that has its turn is the reply that is read: all is its own, of few shapes, and as for any node.
 use Rattle.lone_laws.proofs.Words.{AllByRecursion, Answer, AnswersSo, AreNoBoots, AreOwn, Ask, Bool, Clear, Command, Commit, Commits, Control, Core, Create}
-use Rattle.lone_laws.proofs.Words.{Decision, Deed, Delete, Desk, Drops, End, Entry, IsAnswered, IsDueAlone, IsOwn, IsRepliedAlone, IsUpNow}
-use Rattle.lone_laws.proofs.Words.{JoinTwo, LinkInput, LinkView, List, Lone, LoneCause, LoneEvent, Message, NodeInput, None, Option, Port, Running, SaysOk}
-use Rattle.lone_laws.proofs.Words.{Sends, SetsErrors, Some, Tells, Work, Write, [], accepts, all_append, all_done, answer_of, ap, ap₂, arith}
-use Rattle.lone_laws.proofs.Words.{before_turn, body_in, body_of, by_option, by_test, commit_deeds, commit_writes, cond, controller_deeds, controller_holds}
-use Rattle.lone_laws.proofs.Words.{core_since, core_with, count_of, decided, decided_tells_others, decision_deeds, done, end_of_node, end_of_node_alone}
-use Rattle.lone_laws.proofs.Words.{end_of_number, end_view, entries_of_reply, eqb, eqb-true, false, filter, finds_room, gates, give_refusal, goes_in, has}
-use Rattle.lone_laws.proofs.Words.{host_deeds, host_holds, hosts_where, if◌then◌else◌, inl, inr, is_answer_of, is_cut_of, is_turn_of, is_up, keeps, lack}
-use Rattle.lone_laws.proofs.Words.{lack_since, link_deeds, list_any, lone_arrival, lone_end, lone_work, loses_power, lpdu_of, map, needs, node_of, not}
-use Rattle.lone_laws.proofs.Words.{noted_by_deeds, noted_since, noting, option_map_or, ordered_deeds, ordered_holds, own_view, port_at, refl, reply_since}
-use Rattle.lone_laws.proofs.Words.{steps, subst, sym, sync_due, take_while-cons, telling_count, to_command, true, uncut, view_for, view_of, ℕ, ◌++◌, ◌||◌, ◌∙◌}
-use Rattle.lone_laws.proofs.Words.{◌∷◌, ◌≡◌}
+use Rattle.lone_laws.proofs.Words.{Decision, Deed, Delete, Desk, Drops, End, Entry, IsAnswered, IsDueAlone, IsOwn, IsRepliedAlone, IsUpNow, JoinTwo, LinkInput}
+use Rattle.lone_laws.proofs.Words.{LinkView, List, Lone, LoneCause, LoneEvent, Message, NodeInput, None, Option, Port, Running, SaysOk, Sends, SetsErrors, Some}
+use Rattle.lone_laws.proofs.Words.{Tells, Work, Write, [], accepts, all_append, all_done, answer_of, ap, ap₂, arith, before_turn, body_in, body_of, by_option}
+use Rattle.lone_laws.proofs.Words.{by_test, commit_deeds, commit_writes, cond, controller_deeds, controller_holds, core_since, core_with, count_of, decided}
+use Rattle.lone_laws.proofs.Words.{decided_tells_others, decision_deeds, done, end_of_node, end_of_node_alone, end_of_number, end_view, entries_of_reply, eqb}
+use Rattle.lone_laws.proofs.Words.{eqb-true, false, filter, finds_room, gates, give_refusal, goes_in, has, host_deeds, host_holds, hosts_where, if◌then◌else◌}
+use Rattle.lone_laws.proofs.Words.{inl, inr, is_answer_of, is_cut_of, is_turn_of, is_up, keeps, lack, lack_since, link_deeds, list_any, lone_arrival, lone_end}
+use Rattle.lone_laws.proofs.Words.{lone_work, loses_power, lpdu_of, map, needs, not, noted_by_deeds, noted_since, noting, option_map_or, ordered_deeds}
+use Rattle.lone_laws.proofs.Words.{ordered_holds, own_view, port_at, refl, reply_since, steps, subst, sym, sync_due, take_while-cons, telling_count, to_command}
+use Rattle.lone_laws.proofs.Words.{true, uncut, view_for, view_of, ℕ, ◌++◌, ◌||◌, ◌∙◌, ◌∷◌, ◌≡◌}
 use Rattle.gate_identity.specs.Identity.{identity_served}
 use Rattle.gate_link.specs.Link.{link_served}
 use Rattle.node_laws.proofs.power.Steps.{Fine, IsEndOf, steps_fine}
@@ -115,15 +114,12 @@ due_is found h t o own a = answers_are found.node o.entries (noted_since found h
 -- ### A step
 
 module _ (l : Lone) (its : eqb l.number 0 ≡ false → l.number ≡ l.link) where
-  end_own : node_of (lone_end l) ≡ l.number
-  end_own = by_test (eqb l.number 0) (λ q. rw q (sym (eqb-true l.number 0 q))) (λ q. rw q (sym (its q)))
-
   end_is : IsEndOf l.number l.link
   end_is = by_test (eqb l.number 0) (λ q. rw q (sym (eqb-true l.number 0 q))) (λ q. rw q (sym (its q)))
 
   frames_own : (frames : List Control) → AreOwn l.number (map (λ c. entry.Emit (lone_end l) (lpdu_of c)) frames)
   frames_own [] = tt
-  frames_own (c ∷ frames) = (end_own, frames_own frames)
+  frames_own (c ∷ frames) = ((grind arith), frames_own frames)
 
   fine_own : (w : Work) → Fine l.number w → AreOwn l.number w.entries
   fine_own w (inl r) = r.own
@@ -226,9 +222,6 @@ entries_of_deeds core e_of_told session (SaysOk ∷ deeds) = entry.AnyOk core.no
 entries_of_deeds core e_of_told session (Drops pid ∷ deeds) = entry.Dropped e_of_told pid ∷ entries_of_deeds core e_of_told session deeds
 entries_of_deeds core e_of_told session (_ ∷ deeds) = entries_of_deeds core e_of_told session deeds
 
-pub link_of_end : (number h : ℕ) → (end_of_node_alone number h).link ≡ h
-link_of_end number h = by_test (eqb number 0) (λ q. rw q refl) (λ q. rw q refl)
-
 pub same_number : (number h : ℕ) → end_of_number number h ≡ end_of_node_alone number h
 same_number number h = by_test (eqb number 0) (λ q. rw q refl) (λ q. rw q refl)
 
@@ -283,9 +276,6 @@ module _ (number h : ℕ) where
     abbrev reads : List Deed → List Entry
     reads deeds = entries_of_deeds u.core e (session_of_end p) deeds
 
-    send_noted : (to : ℕ) (m : Message) → TakesIt p to m → noted_by_deeds k (Sends to m ∷ []) u ≡ reads (Sends to m ∷ [])
-    send_noted to m takes = grind arith
-
     commit_noted : (c : Command) (to : ℕ) (m : Message) → TakesIt p to m
         → IsNotedSo (all_done k (Commits c ∷ Sends to m ∷ SaysOk ∷ []) u).cut (noted_by_deeds k (Commits c ∷ Sends to m ∷ SaysOk ∷ []) u)
         (reads (Commits c ∷ Sends to m ∷ SaysOk ∷ []))
@@ -325,7 +315,7 @@ module _ (number h : ℕ) where
         → lack u.ports (needs k deeds) ≡ None → IsNotedSo (all_done k deeds u).cut (noted_by_deeds k deeds u) (reads deeds)
     reply_noted _ IsNone takes room = subst (λ b. IsNotedSo b [] []) (sym on) refl
     reply_noted _ (IsDrop pid) takes room = grind arith
-    reply_noted _ (IsSend to m) takes room = quiet_noted (Sends to m) on (send_noted to m (takes to m room))
+    reply_noted _ (IsSend to m) takes room = quiet_noted (Sends to m) on (let h0 = takes to m room in grind arith)
     reply_noted _ (IsCommit c to m) takes room = commit_noted c to m (takes to m room)
     reply_noted _ (IsSet v to m) takes room = grind arith
     reply_noted _ IsHeard takes room = quiet_noted IsAnswered on (ap (λ b. cond b [] []) on)
@@ -346,9 +336,6 @@ mute_then x es answers cut mute a = grind arith
 pub mutes_then : (xs es answers : List Entry) (cut : Bool) → AllByRecursion IsMuteEntry xs → AreUntil answers cut es → AreUntil answers cut (xs ++ es)
 mutes_then [] es answers cut mute a = a
 mutes_then (x ∷ xs) es answers cut mute a = mute_then x (xs ++ es) answers cut mute.0 (mutes_then xs es answers cut mute.1 a)
-
-pub turn_then : (x : Entry) (es : List Entry) → is_own_turn x ≡ true → AreUntil [] false (x ∷ es)
-turn_then x es turn = (ap (λ b. filter is_own_answer (cond b [] (x ∷ to_turn es))) turn, ap (λ b. list_any is_own_cut (cond b [] (x ∷ to_turn es))) turn)
 
 -- these are answers alone
 abbrev pub IsAnswerEntry : Entry → Type 0

@@ -110,9 +110,8 @@ module _ (rest : Core) (t : List Entry) (l : Lone) (some : 1 ≤ l.link) (most :
 
   came_tells : list_any is_asked_down (all_come input first).entries ≡ resets c (is_up l.side.shdlc.phase)
   came_tells =
-      let told_it : List Entry = told_at first.core a.port (Some i) in
       ap (list_any is_asked_down) (came_entries l.number l.link (begin_read G) t i (lone_comes c i comes) first a)
-      ∙ (any_front (lone_arrival l c) told_it (arrival_quiet l c)
+      ∙ (any_front (lone_arrival l c) (told_at first.core a.port (Some i)) (arrival_quiet l c)
       ∙ (told_asked a.port.desk.host (own_side first.core) (session_with l i) (whole_acked (after_input l.side i)) (report l.side i)
       ∙ input_asked l.side c i comes k.talks.sound))
 

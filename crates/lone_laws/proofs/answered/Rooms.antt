@@ -3,9 +3,9 @@ use Rattle.lone_laws.proofs.Words.{Bool, Command, Commits, Deed, Desk, Drops, En
 use Rattle.lone_laws.proofs.Words.{None, Port, Release, Releases, SaysOk, Sends, SetAside, SetsErrors, Side, Some, Sound, Turn, Work, [], after_turn, ap}
 use Rattle.lone_laws.proofs.Words.{append-nil, append_assoc, arith, body_of, by_option, by_test, changed_if, commit, commit_writes, cond, done, end_of}
 use Rattle.lone_laws.proofs.Words.{end_of_node, end_of_node_alone, entries_for, eqb, eqb-true, fails_within, false, fetched_acked, fragments_of, give_refusal}
-use Rattle.lone_laws.proofs.Words.{given, is_up, keeps, length, loses_power, most_frames, noted_of, noting, option_map_or, own_side, packet_count, port_at}
+use Rattle.lone_laws.proofs.Words.{given, is_up, keeps, length, loses_power, most_frames, noted_of, noting, option_map_or, own_side, port_at}
 use Rattle.lone_laws.proofs.Words.{refl, same_end, same_end_itself, sent_all, sound_turn, spare, spare_at, subst, sym, true, true≢false, turn}
-use Rattle.lone_laws.proofs.Words.{turn_at, turn_entry, whole_acked, whole_among, whole_given, with_desk, with_port, ℕ, ◌++◌, ◌<◌, ◌∙◌, ◌∷◌, ◌≡◌}
+use Rattle.lone_laws.proofs.Words.{turn_at, turn_entry, whole_acked, whole_among, whole_given, with_desk, with_port, ℕ, ◌++◌, ◌∙◌, ◌∷◌, ◌≡◌}
 use Rattle.trace_model.specs.declared.entry.Entry.TheVariants as entry
 use Rattle.link_laws.proofs.sessions.Ties.{after_frames-phase}
 use Rattle.lone_laws.proofs.answered.Memories.{IsOwnDeed}
@@ -28,10 +28,9 @@ lone_turn_sound s x may a = sound_turn s x tt a
 given_talk : (s : LinkEnd) (m : Message) (k : ℕ) → IsSendable m → Sound s
     → talk_of_side (given s m) k ≡ record (talk_of_side s k) { sent = s.sent ++ m ∷ [] }
 given_talk s m k may sound =
-    let count : 0 < packet_count (length m.1) = let n = may.1 in omega (arith, n) in
     let len : length s.shdlc.session.out ≡ length (fragments_of s.sent) = ap (λ (xs : List (List ℕ)). length xs) sound.is.out in
     ap (λ c. record (talk_of_side s k) { sent = s.sent ++ m ∷ []; acked = c })
-    (whole_given s.sent m s.shdlc.session.acked count (omega (arith, len, sound.is.acked, sound.is.reached)))
+    (whole_given s.sent m s.shdlc.session.acked (let n = may.1 in omega (arith, n)) (omega (arith, len, sound.is.acked, sound.is.reached)))
 
 -- where a message isn't refused the end is up
 given_up : (s : LinkEnd) (m : Message) (k : ℕ) → give_refusal s m ≡ None → (talk_of_side s k).session ≡ Some k

@@ -4,7 +4,7 @@ use Rattle.std.specs.Prelude.{IsSome, None, Option, Some}
 use Rattle.lone_laws.proofs.Words.{AllByRecursion, AnsweredAlone, AreTables, Bool, CanCompact, Command, Control, Core, Counts, CountsAll, Deed, End, EndForm}
 use Rattle.lone_laws.proofs.Words.{Entry, FetchMessage, FindsAllButLast, FindsBehind, FindsSame, FindsTables, FrameIsRefused, HciTables, Hold, HoldsTables}
 use Rattle.lone_laws.proofs.Words.{IsHeldBehind, IsKeptIn, IsReadyMemory, IsRecordable, IsSound, IsTakenMemory, IsTrue, LinkInput, List, Lone, LoneCause}
-use Rattle.lone_laws.proofs.Words.{LoneEvent, MayBeDone, Memory, Message, Port, Running, Says, State, WaitsAt, Work, [], after_commands, after_planned}
+use Rattle.lone_laws.proofs.Words.{LoneEvent, MayBeDone, Memory, Message, Port, Running, Says, State, Work, [], after_commands, after_planned}
 use Rattle.lone_laws.proofs.Words.{after_writes, all_come, all_done, all_recordable, ap, append-nil, append_assoc, ap₂, are_bodies, are_commands, arith}
 use Rattle.lone_laws.proofs.Words.{behind_boot, boot_writes, by_option, by_test, close, close-close, comes_to_pass, commands_of_entries, compact_count}
 use Rattle.lone_laws.proofs.Words.{compact_writes, compacted, cond, count, count_of, counted, current, deeds_of, does_by_power, emits_behind, end_causes}
@@ -16,7 +16,7 @@ use Rattle.lone_laws.proofs.Words.{needs, new_desk, no_records_then, node_input,
 use Rattle.lone_laws.proofs.Words.{plainly_desk, plainly_noting, plainly_then, plainly_turn, planned_cut, planned_whole, port_at, records, refl, runs_on}
 use Rattle.lone_laws.proofs.Words.{says_formatted, session_with, snapshot_bodies, snapshot_fits, snapshot_of, some_other, sound_has_no_fault, started_state}
 use Rattle.lone_laws.proofs.Words.{state_of, steps, steps_are, subst, sym, syncs_in, syncs_one, tables_of, true, true≢false, turn_at, waiting_at, with_desk}
-use Rattle.lone_laws.proofs.Words.{with_refusal, ℕ, ◌++◌, ◌+◌, ◌-◌, ◌<◌, ◌==◌, ◌^◌, ◌||◌, ◌∙◌, ◌∷◌, ◌≡◌, ◌≤◌, ◌⊎◌}
+use Rattle.lone_laws.proofs.Words.{ℕ, ◌++◌, ◌+◌, ◌-◌, ◌<◌, ◌==◌, ◌^◌, ◌||◌, ◌∙◌, ◌∷◌, ◌≡◌, ◌≤◌, ◌⊎◌}
 use Rattle.hci_store.specs.Starting.{migrated, migration_writes, ready_state}
 use Rattle.journal_laws.specs.declared.banks.Side.{Side}
 use Rattle.node_laws.proofs.kept.Stepping.{OneOrNone, controller_may, host_may}
@@ -183,9 +183,6 @@ module _ (rest : Core) (number h : ℕ) (some : 1 ≤ h) (most : h ≤ 7) (its :
   abbrev Fine : Work → Type 0
   Fine w = HoldsOrLoses E tables many before old w
 
-  waits_none : (w : Work) → Of w → AllByRecursion WaitsAt w.ports
-  waits_none w a = grind arith
-
   on_none : (w : Work) → Of w → IsOnOrder w.core.command w.core.init
   on_none w a = subst (IsOnOrder w.core.command) (sym a.init) tt
 
@@ -195,7 +192,7 @@ module _ (rest : Core) (number h : ℕ) (some : 1 ≤ h) (most : h ≤ 7) (its :
   turn_may : (k : ℕ) (m : Message) (w : Work) → Has w → Of w → k ≡ h
       → MayBeDone (Some w.core.journal) w.core.command w.core.init (deeds_of w.core w.ports k m)
   turn_may k m w g a same = by_test (eqb w.core.node 0)
-      (λ q. rw q (controller_may w.core (on_none w a) g.sorted w.ports (waits_none w a) k (subst (λ n. 1 ≤ n) (sym same) some)
+      (λ q. rw q (controller_may w.core (on_none w a) g.sorted w.ports (grind arith) k (subst (λ n. 1 ≤ n) (sym same) some)
       (subst (λ n. n ≤ 7) (sym same) most) m))
       (λ q. rw q (by_option (port_at w.ports k) (λ q. rw q (on_none w a)) (λ p q. rw q (host_may w.core (on_none w a) g.sorted (small w a) p m))))
 
@@ -309,11 +306,6 @@ abbrev AllRemembered : Type 0 → HciTables → ℕ → List Entry → Lone → 
 AllRemembered E tables many t l = RemembersBy E tables many t l.memory l.node
 
 module _ (E : Type 0) (tables : HciTables) (many : ℕ) where
-  -- entries without commands
-  remembers_on : (t es : List Entry) (m : Memory) (n v : Running) → commands_of_entries es ≡ [] → v.core ≡ n.core → Remembers E tables many t m n
-      → Remembers E tables many (t ++ es) m v
-  remembers_on t es m n v none same a = let h0 = commands_more t es in let h1 = append-nil (commands_of_entries t) in grind arith
-
   input_remembers : (rest : Core) (t : List Entry) (l : Lone) → 1 ≤ l.link → l.link ≤ 7 → (eqb l.number 0 ≡ false → l.number ≡ l.link) → (n : Running)
       → l.node ≡ Some n → LoneKeeps (begin_read (record rest { node = l.number })) t l n → (c : LoneCause) (i : LinkInput) → lone_input c ≡ Some i
       → Remembers E tables many t l.memory n → AllRemembered E tables many (t ++ (lone_step l c).1) (lone_step l c).0
@@ -383,7 +375,7 @@ module _ (E : Type 0) (tables : HciTables) (many : ℕ) where
       → Remembers E tables many t l.memory n → AllRemembered E tables many (t ++ (lone_step l c).1) (lone_step l c).0
   refused_remembers t l n on (FrameIsRefused fault) q b =
       subst (λ (x : Lone × List Entry). AllRemembered E tables many (t ++ x.1) x.0) (sym (ap (does_by_power l (FrameIsRefused fault)) on))
-      (remembers_on t (noted_of_refused l (FrameIsRefused fault)) l.memory n (with_refusal l.link n) refl refl b)
+      (let h0 = commands_more t (noted_of_refused l (FrameIsRefused fault)) in let h1 = append-nil (commands_of_entries t) in grind arith)
   refused_remembers t l n on _ q b = absurd (cc q)
 
   module _ (rest : Core) (number h : ℕ) (some : 1 ≤ h) (most : h ≤ 7) (its : eqb number 0 ≡ false → number ≡ h) where
@@ -472,9 +464,6 @@ module _ (number h : ℕ) (m : Memory) (ready : IsReadyMemory m.content) where
     count_so =
         counted content (state_of content) (started_state (state_of content)) (record { size = f.size; state_is = refl; sound = f.sound }) refl
 
-    most : (n : ℕ) → n ≡ count content → n ≡ min (count content + 0) (2 ^ 32 - 1)
-    most n same = omega (arith, same)
-
     knows : (o : Option Side) → current content ≡ o → KnowsIf E (after_writes (boot_writes content) content) (started_state (state_of content)) tables
     knows (Some side) is =
         subst (λ w. KnowsIf E (after_writes w content) (started_state (state_of content)) tables) (sym (ap (λ p. option_map_or (λ _. []) p format_writes) is))
@@ -509,7 +498,7 @@ module _ (number h : ℕ) (m : Memory) (ready : IsReadyMemory m.content) where
       sorted = (good_found content).0;
       recordable = (good_found content).1;
       tables_are = refl;
-      count_is = λ e. most (count_of (started_state (state_of content))) count_so;
+      count_is = λ e. (omega (arith, count_so));
     }
 
 -- what is remembered is held

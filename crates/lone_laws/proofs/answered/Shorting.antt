@@ -56,9 +56,6 @@ module _ (F : Core) (h : ℕ) where
     up_same : is_up_read (T ++ X) F.node h ≡ is_up_read T F.node h
     up_same = ap is_some (sessions_same (end_of_number F.node h) F.node T X (idle_silent e F.node X idle))
 
-    spare_same : spare_at (T ++ X) e ≡ spare_at T e
-    spare_same = spares_same e T X (idle_silent e F.node X idle)
-
     errors_same : errors_since F e (T ++ X) ≡ errors_since F e T
     errors_same =
         ap (λ (r : ErrorCount). r.errors) (errs-append e (errors_found F) T X)
@@ -72,7 +69,7 @@ module _ (F : Core) (h : ℕ) where
         let c : Core = core_since F T in
         ap (λ d. lacks_of h m d (is_up_read (T ++ X) F.node h) (spare_at (T ++ X) e) (errors_since F e (T ++ X))) core_same
         ∙ (ap (λ d. lacks_of h m c d (spare_at (T ++ X) e) (errors_since F e (T ++ X))) up_same
-        ∙ (ap (λ d. lacks_of h m c (is_up_read T F.node h) d (errors_since F e (T ++ X))) spare_same
+        ∙ (ap (λ d. lacks_of h m c (is_up_read T F.node h) d (errors_since F e (T ++ X))) (spares_same e T X (idle_silent e F.node X idle))
         ∙ ap (λ d. lacks_of h m c (is_up_read T F.node h) (spare_at T e) d) errors_same))
 
 -- nothing comes behind the one end

@@ -1,7 +1,7 @@
 -- A node with one link keeps over each event what is read.
 use Rattle.std.proofs.Common.{Result, Ok, Err}
 use Rattle.lone_laws.proofs.Words.{AllByRecursion, ArePassed, Bool, ComesTo, Control, End, Entry, FrameComes, FrameIsRefused, LinkInput, List, LoneCause}
-use Rattle.lone_laws.proofs.Words.{LpduFault, NodeInput, ResetComes, Some, StartComes, StopComes, TickComes, Work, [], all_come, all_do, all_done, arith}
+use Rattle.lone_laws.proofs.Words.{LpduFault, NodeInput, ResetComes, Some, StartComes, StopComes, TickComes, Work, all_come, all_do, all_done, arith}
 use Rattle.lone_laws.proofs.Words.{comes_lasts, comes_to_pass, control_of, end_of_node_alone, false, hosts_of_ends, lone_input, lpdu_input, node_input, passes}
 use Rattle.lone_laws.proofs.Words.{refl, steps, steps_are, subst, sym, syncs_in, through, true, true≢false, unless_cut, ℕ, ◌∙◌, ◌≡◌, ◌≤◌}
 use Rattle.node_laws.specs.passes.Passing.ComesTo.{Begins}

@@ -7,11 +7,10 @@ use Rattle.lone_laws.proofs.Words.{Clf, Clt, Control, Data, Down, End, EndState,
 use Rattle.lone_laws.proofs.Words.{LinkState, List, Message, None, Noted, Option, Renews, Report, Reset, Rests, Role, Saying, SentAfter, Shift, Side, Some}
 use Rattle.lone_laws.proofs.Words.{Sound, Start, Stays, Stop, Take, TakeUnknown, Tick, Uicc, Up, [], acked_after, acked_in, activated, after_input, ap}
 use Rattle.lone_laws.proofs.Words.{append-nil, append_assoc, ap₂, arith, asking_after, asking_in, began_by, by_option, by_test, common_steps, cond, cond_both}
-use Rattle.lone_laws.proofs.Words.{drop, end_of, ended_by, entries_for, entry_of, eqb, false, filter_map, fold-append, got_by, heard, if_so, is_faulty, is_open}
-use Rattle.lone_laws.proofs.Words.{is_some, is_up, map, max, moved, moved_aside, nat_lt, need_of_all, news, not, put_down, refl, report, reset_refusal}
-use Rattle.lone_laws.proofs.Words.{reset_with, said_of, same_end, sent_by, sent_in, session_now, spare_at, stopped, subst, sym, take_answer, take_so, taken}
-use Rattle.lone_laws.proofs.Words.{told, true, unacknowledged_in, whole_acked, whole_among, whole_more, window_of, ℕ, ◌&&◌, ◌++◌, ◌+◌, ◌-◌, ◌<◌, ◌∙◌, ◌∷◌, ◌≡◌}
-use Rattle.lone_laws.proofs.Words.{◌≤◌}
+use Rattle.lone_laws.proofs.Words.{drop, end_of, ended_by, entries_for, entry_of, eqb, false, fold-append, got_by, heard, if_so, is_faulty, is_open, is_some}
+use Rattle.lone_laws.proofs.Words.{is_up, map, max, moved, moved_aside, nat_lt, need_of_all, news, not, put_down, refl, report, reset_refusal, reset_with}
+use Rattle.lone_laws.proofs.Words.{said_of, same_end, sent_by, sent_in, session_now, spare_at, stopped, subst, sym, take_answer, take_so, taken, told, true}
+use Rattle.lone_laws.proofs.Words.{unacknowledged_in, whole_acked, whole_among, whole_more, window_of, ℕ, ◌&&◌, ◌++◌, ◌+◌, ◌-◌, ◌<◌, ◌∙◌, ◌∷◌, ◌≡◌, ◌≤◌}
 use Rattle.lone_laws.proofs.answered.Coming.{IsLoneInput}
 use Rattle.lone_laws.proofs.answered.Reading.{eqb_same}
 use Rattle.trace_model.specs.declared.entry.Entry.TheVariants as entry
@@ -137,21 +136,18 @@ module _ (e : End) where
 
     sent_same : (t : List Entry) (x : Entry) → IsUnsent x → sent_in (t ++ x ∷ []) e j ≡ sent_in t e j
     sent_same t x a =
-        let one : filter_map (λ y. sent_by j (said_of e y)) (x ∷ []) ≡ [] = rw (unsent x a) refl in
-        filter_map-append (λ y. sent_by j (said_of e y)) t (x ∷ []) ∙ (ap (λ l. sent_in t e j ++ l) one ∙ append-nil (sent_in t e j))
+        filter_map-append (λ y. sent_by j (said_of e y)) t (x ∷ []) ∙ (ap (λ l. sent_in t e j ++ l) (grind arith) ∙ append-nil (sent_in t e j))
 
     sent_one : (t : List Entry) (f : End) (k pid : ℕ) (message : List ℕ) → same_end f e ≡ true → eqb k j ≡ true
         → sent_in (t ++ entry.Sent f k pid message ∷ []) e j ≡ sent_in t e j ++ (pid, message) ∷ []
     sent_one t f k pid message own is =
-        let one : filter_map (λ y. sent_by j (said_of e y)) (entry.Sent f k pid message ∷ []) ≡ (pid, message) ∷ [] = rw (own, is) refl in
-        filter_map-append (λ y. sent_by j (said_of e y)) t (entry.Sent f k pid message ∷ []) ∙ ap (λ l. sent_in t e j ++ l) one
+        filter_map-append (λ y. sent_by j (said_of e y)) t (entry.Sent f k pid message ∷ []) ∙ ap (λ l. sent_in t e j ++ l) (rw (own, is) refl)
 
     sent_other : (t : List Entry) (f : End) (k pid : ℕ) (message : List ℕ) → same_end f e ≡ true → eqb k j ≡ false
         → sent_in (t ++ entry.Sent f k pid message ∷ []) e j ≡ sent_in t e j
     sent_other t f k pid message own is =
-        let one : filter_map (λ y. sent_by j (said_of e y)) (entry.Sent f k pid message ∷ []) ≡ [] = rw (own, is) refl in
         filter_map-append (λ y. sent_by j (said_of e y)) t (entry.Sent f k pid message ∷ [])
-        ∙ (ap (λ l. sent_in t e j ++ l) one ∙ append-nil (sent_in t e j))
+        ∙ (ap (λ l. sent_in t e j ++ l) (rw (own, is) refl) ∙ append-nil (sent_in t e j))
 
     same_count : (before : ℕ) (b : Bool) (s : Saying) → acked_after j before (Some s) ≡ before → acked_after j before (cond b (Some s) None) ≡ before
     same_count before b s q = grind arith
@@ -289,7 +285,6 @@ module _ (e : End) (n : ℕ) where
           session = fold-append _ None t (y ∷ []) ∙ r.session;
           low = r.low;
           sent = λ j q.
-              let both : Some k ≡ Some j = sym now ∙ q in
               let same : k ≡ j = cc in
               sent_one e j t f k pid message own (subst (λ z. eqb k z ≡ true) same (eqb_same k)) ∙ ap (λ l. l ++ (pid, message) ∷ []) (r.sent j q);
           acked = λ j q. acked_same e j t y tt ∙ r.acked j q;
@@ -309,10 +304,8 @@ module _ (e : End) (n : ℕ) where
           low = r.low;
           sent = λ j q. sent_same e j t y tt ∙ r.sent j q;
           acked = λ j q.
-              let both : Some k ≡ Some j = sym now ∙ q in
               let same : k ≡ j = cc in
-              let before = r.acked j q in
-              acked_one e j t f k count own (subst (λ z. eqb k z ≡ true) same (eqb_same k)) ∙ omega (arith, before, more);
+              acked_one e j t f k count own (subst (λ z. eqb k z ≡ true) same (eqb_same k)) ∙ omega (arith, (r.acked j q), more);
           none_sent = λ j q. sent_same e j t y tt ∙ r.none_sent j q;
           none_acked = λ j q.
               let most = r.low k now in acked_other e j t f k count own (apart k j (omega (arith, q, most))) ∙ r.none_acked j q;
@@ -392,8 +385,7 @@ module _ (e : End) (n h : ℕ) (who : Side) (own : same_end (end_of h who) e ≡
       let t3 : List Entry = t2 ++ noted three in
       let t4 : List Entry = t3 ++ noted four in
       let t5 : List Entry = t4 ++ noted five in
-      let r1 : Reads e n s t1 x1 = down_told s t rep.ended x r in
-      let r2 : Reads e n k t2 x2 = up_told s k t1 rep.began x1 more same r1 in
+      let r2 : Reads e n k t2 x2 = up_told s k t1 rep.began x1 more same (down_told s t rep.ended x r) in
       let r3 : Reads e n k t3 x2 = reads_silent e n k t2 (noted three) x2 (by_test rep.became_active (λ q. rw q (tt, tt)) (λ q. rw q tt)) r2 in
       let r4 : Reads e n k t4 x2 = reads_silent e n k t3 (noted four) x2 (by_option rep.gave_up (λ q. rw q tt) (λ k q. rw q (tt, tt))) r3 in
       let r5 : Reads e n k t5 x5 = acked_told k k acked t4 (nat_lt 0 rep.acked) x2 grows r4 in
@@ -426,10 +418,8 @@ module _ (e f : LinkEnd) (ended began : Bool) (k m : ℕ) (d : Data e) (number :
     go : Shift e.shdlc f.shdlc ended began
         → acked_if acked_more (whole_acked f) (began_if began k (ended_if ended (talk_of_side e m))) ≡ talk_of_side f k
     go (Stays p q g) =
-        let sent : f.sent ≡ e.sent = sent_still p b.sent in
-        let w : whole_acked f ≡ whole_among e.sent f.shdlc.session.acked = ap (λ xs. whole_among xs f.shdlc.session.acked) sent in
         let z = whole_more e.sent e.shdlc.session.acked f.shdlc.session.acked g.low in
-        let low : whole_acked e ≤ whole_acked f = omega (arith, z, w) in
+        let low : whole_acked e ≤ whole_acked f = omega (arith, z, (ap (λ xs. whole_among xs f.shdlc.session.acked) (sent_still p b.sent))) in
         ap (acked_if acked_more (whole_acked f)) (goes p q)
         ∙ (grind arith)
     go (EndsSession p q up still s) = grind arith

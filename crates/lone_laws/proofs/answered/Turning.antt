@@ -39,8 +39,7 @@ module _ (number h : ℕ) (some : 1 ≤ h) (most : h ≤ 7) (r : Read) (t : List
 
   pub own_deeds : (k : ℕ) (m : Message) (w : Work) (a : Of w) → eqb a.port.desk.host k ≡ true → AreOwnDeeds number (deeds_of w.core w.ports k m)
   own_deeds k m w a own =
-      let P : List Port → Type 0 = λ ps. AreOwnDeeds number (deeds_of w.core ps k m) in
-      subst P (sym a.ports_are) (go (eqb w.core.node 0) refl) where
+      subst (λ ps. AreOwnDeeds number (deeds_of w.core ps k m)) (sym a.ports_are) (go (eqb w.core.node 0) refl) where
         same : k ≡ h
         same = link_is k a.port a.host own
 
@@ -57,15 +56,12 @@ module _ (number h : ℕ) (some : 1 ≤ h) (most : h ≤ 7) (r : Read) (t : List
       let f : Port → Port = after_turn FetchMessage in
       let g : Port → Port = λ p. record p { desk = record p.desk { holds = false } } in
       let one : with_port k f (a.port ∷ []) ≡ f a.port ∷ [] = ap (λ b. changed_if b f a.port ∷ []) here.own in
-      let two : with_port k g (f a.port ∷ []) ≡ g (f a.port) ∷ [] = ap (λ b. changed_if b g (f a.port) ∷ []) here.own in
-      let turned : List Entry = entry.Turn (end_of_node w.core k) m.0 m.1 ∷ [] in
-      let its : end_of_node w.core k ≡ e = own_end w.core number h k a.node (link_is k a.port a.host here.own) in
-      let own : same_end (end_of_node w.core k) e ≡ true = ap (λ x. same_end x e) its ∙ same_end_itself e in
+      let own : same_end (end_of_node w.core k) e ≡ true = ap (λ x. same_end x e) (grind arith) ∙ same_end_itself e in
       let R : Read = reads_of w.core a.port in
       alone_as a (g (f a.port)) (takes_up k m w).ports (takes_up k m w).entries
-      (ap (λ ps. with_port k g (with_port k f ps)) a.ports_are ∙ (ap (with_port k g) one ∙ two)) a.host a.none
+      (ap (λ ps. with_port k g (with_port k f ps)) a.ports_are ∙ (ap (with_port k g) one ∙ (grind arith))) a.host a.none
       (ap (λ es. read_all e r (t ++ es)) (takes_entries k m w)
-      ∙ read_more number h r t w turned R (reads_of w.core (g (f a.port))) a.read
+      ∙ read_more number h r t w (entry.Turn (end_of_node w.core k) m.0 m.1 ∷ []) R (reads_of w.core (g (f a.port))) a.read
       (ap (λ b. record R { left = cond b (drop 1 R.left) R.left; held = cond b false R.held }) own))
 
   abbrev While : Work → Type 0
@@ -85,12 +81,10 @@ module _ (number h : ℕ) (some : 1 ≤ h) (most : h ≤ 7) (r : Read) (t : List
   alone_marked k m messages need spare w a waits =
       let here : IsHere a.port k m messages = alone_here k m messages w a waits in
       let g : Port → Port = λ p. record p { desk = record p.desk { holds = true } } in
-      let one : with_port k g (a.port ∷ []) ≡ g a.port ∷ [] = ap (λ b. changed_if b g a.port ∷ []) here.own in
       let held : List Entry = entry.Held (end_of_node w.core k) need spare ∷ [] in
-      let its : end_of_node w.core k ≡ e = own_end w.core number h k a.node (link_is k a.port a.host here.own) in
-      let own : same_end (end_of_node w.core k) e ≡ true = ap (λ x. same_end x e) its ∙ same_end_itself e in
+      let own : same_end (end_of_node w.core k) e ≡ true = ap (λ x. same_end x e) (grind arith) ∙ same_end_itself e in
       let R : Read = reads_of w.core a.port in
-      alone_as a (g a.port) (with_port k g w.ports) (w.entries ++ held) (ap (with_port k g) a.ports_are ∙ one) a.host a.none
+      alone_as a (g a.port) (with_port k g w.ports) (w.entries ++ held) (ap (with_port k g) a.ports_are ∙ (grind arith)) a.host a.none
       (read_more number h r t w held R (reads_of w.core (g a.port)) a.read (ap (λ b. record R { held = cond b true R.held }) own))
 
   pub alone_held : (k : ℕ) (m : Message) (messages : List Message) (short : ℕ × ℕ) (w : Work) → Of w → waiting_at w.ports k ≡ m ∷ messages

@@ -1,8 +1,8 @@
 -- Every history of a node alone answers as is read: turns stand in order, and power that is lost is noted.
 use Rattle.std.specs.List.{filter_map}
-use Rattle.std.specs.Prelude.{None, Option, Some, is_none, is_some, length, min, not, ◌+◌}
+use Rattle.std.specs.Prelude.{None, Option, Some, is_none, is_some, length, not, ◌+◌}
 use Rattle.lone_laws.proofs.Words.{AllByRecursion, AllByRecursion-append, AnsweredAlone, AreInTurn, AreNoTurns, AreOwn, AreTables, AreTables-apply}
-use Rattle.lone_laws.proofs.Words.{AreTables-close, AreTables-none, AtEachLoneEvent, AtEachNoted, Bool, Command, Commits, Control, Core, Deed, Desk, End, Entry}
+use Rattle.lone_laws.proofs.Words.{AreTables-close, AreTables-none, AtEachLoneEvent, AtEachNoted, Bool, Command, Commits, Control, Core, Deed, End, Entry}
 use Rattle.lone_laws.proofs.Words.{ErrorCount, FetchMessage, FrameIsRefused, HciTables, HearsFirstAlone, Hold, IsAscending, IsCommand, IsDueAlone, IsFirstThere}
 use Rattle.lone_laws.proofs.Words.{IsHeldAlone, IsNoBoot, IsRepliedAlone, IsResetAlone, JoinTwo, JoinTwo-after, JoinTwo-closed, Lasts, LinkInput, List, Lone}
 use Rattle.lone_laws.proofs.Words.{LoneCause, LoneEvent, Memory, NodeInput, Port, Running, Sends, Turn, TurnsAscendAlone, Work, [], after_sessions, all_come}
@@ -265,8 +265,6 @@ module _ (rest : Core) (t : List Entry) (l : Lone) (n : Running) (on : l.node �
 
   counted_errors : (errs_all e (errors_found J) (t ++ lost)).errors ≡ errors_of (with_error l.link n.desks)
   counted_errors =
-      let x : ErrorCount = errs_all e (errors_found J) t in
-      let g : Desk → Desk = λ d. record d { errors = min 65535 (d.errors + 1) } in
       ap (λ (r : ErrorCount). r.errors) (errs-append e (errors_found J) t lost)
       ∙ (grind arith)
 

@@ -7,9 +7,8 @@ pub fours-preserved : goal.fours-preserved
 fours-preserved c =
     let bytes = c.args.bytes.now in
     let at = c.fours.read in
-    let four = c.in-Some.ensures.cases.0 ∙ ap (take 4) (take_rest bytes at) in
     record {
       within = omega (arith, c.in-Some.ensures.cases.2, ap length (take_rest bytes at), length-drop at bytes, c.fours.invariant.within);
       so_far = c.push_four.ensures (take at bytes) c.fours.invariant.so_far
-          ∙ ap running_of (ap (λ xs. take at bytes ++ xs) four ∙ sym (take-add at 4 bytes));
+          ∙ ap running_of (ap (λ xs. take at bytes ++ xs) (c.in-Some.ensures.cases.0 ∙ ap (take 4) (take_rest bytes at)) ∙ sym (take-add at 4 bytes));
     }

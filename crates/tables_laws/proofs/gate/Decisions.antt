@@ -1,7 +1,6 @@
 -- What holds of each decision holds of what is decided.
 use Rattle.std.specs.Prelude.{is_none, unwrap_or}
-use Rattle.std.proofs.lemmas.Bool.{and_cases, eqb-false, not-false, not-true}
-use Rattle.std.proofs.lemmas.Bool.{true≢false}
+use Rattle.std.proofs.lemmas.Bool.{and_cases, eqb-false, not-false, not-true, true≢false}
 use Rattle.tables_laws.proofs.Words.{Ask, Bool, Clear, Create, Delete, HciTables, IfSome, IsLeastFree, IsTrue, LinkView, List, None, Option, PipeRow, Set}
 use Rattle.tables_laws.proofs.Words.{SetOpened, Some, [], and_from, and_parts, ap, cond, cond_both, decided, eqb, eqb-true, false, false≢true, filter, inl, inr}
 use Rattle.tables_laws.proofs.Words.{is_free, is_opened, list_all, ne_eqb, not, not_from_false, option_and_then, option_map_or, pipe_at, range_with_len, refl}
@@ -13,9 +12,8 @@ use Rattle.gate_answers.specs.Answers.{answer_of, first_of, tests_to_get, param_
 use Rattle.gate_admin.specs.declared.decision.Decision.{Decision}
 use Rattle.gate_admin.specs.View.{is_connected, hosts_where}
 use Rattle.gate_admin.specs.Decide.{answers, commits, unless_refused, tests_of_pipe, tests_to_open, tests_to_set_it, tests_to_create, tests_to_delete}
-use Rattle.gate_admin.specs.Decide.{carried_out, clearing, closing, created, creating, creation, deleting, getting, opening, setting, tests_to_clear}
-use Rattle.gate_admin.specs.Decide.{dest_in, allows, told_of_deletion, told_of_clearing, shares, far_end_of, value_of, others_opened, ends_of}
-use Rattle.gate_admin.specs.Decide.{commits_and_tells}
+use Rattle.gate_admin.specs.Decide.{carried_out, clearing, closing, created, creating, creation, deleting, getting, opening, setting, tests_to_clear, dest_in}
+use Rattle.gate_admin.specs.Decide.{allows, told_of_deletion, told_of_clearing, shares, far_end_of, value_of, others_opened, ends_of, commits_and_tells}
 use Rattle.gate_admin.proofs.CreationLemmas.{AllFalse, all_false}
 use Rattle.tables_laws.specs.gate.Rules.{AreOthers, AsksAsAllowed, TellsOthers}
 use Rattle.tables_laws.proofs.gate.FreePipes.{lowest_free-least}

@@ -52,8 +52,7 @@ ends-apply t (Delete gone) pid h =
     subst From (sym (row_of-without_row pid_of gone t.rows pid))
     (cond_both (eqb gone pid) None (pipe_at t.rows pid) From (λ same. tt) (λ other. as_before t pid))
 ends-apply t (Clear host) pid h =
-    let From : Option PipeRow → Type 0 = λ o. IfSome o (WasThere t pid) in
-    subst From (sym (row_of-filter pid_of 2 112 (λ row. not (joins_host row host)) pid t.rows h.rows))
+    subst (λ o. IfSome o (WasThere t pid)) (sym (row_of-filter pid_of 2 112 (λ row. not (joins_host row host)) pid t.rows h.rows))
     (filtered t pid (λ row. not (joins_host row host)) (pipe_at t.rows pid) refl)
 ends-apply t (SetOpened host other opened) pid h =
     let From : Option PipeRow → Type 0 = λ o. IfSome o (WasThere t pid) in

@@ -7,18 +7,16 @@ pub row_of-map : {X : Type 0} (key : X → ℕ) (change : X → X) (k : ℕ) (ro
     → row_of key k (map change rows) ≡ option_map change (row_of key k rows)
 row_of-map key change k [] keeps = refl
 row_of-map {X} key change k (row ∷ rows) keeps =
-    let rest = row_of-map key change k rows keeps in
     ap (λ n. cond (eqb n k) (Some (change row)) (row_of key k (map change rows))) (keeps row)
     ∙ cond_both (eqb (key row) k) (Some row) (row_of key k rows)
     (λ o. cond (eqb (key row) k) (Some (change row)) (row_of key k (map change rows)) ≡ option_map change o)
     (λ same. cond-true (eqb (key row) k) (Some (change row)) (row_of key k (map change rows)) same)
-    (λ other. cond-false (eqb (key row) k) (Some (change row)) (row_of key k (map change rows)) other ∙ rest)
+    (λ other. cond-false (eqb (key row) k) (Some (change row)) (row_of key k (map change rows)) other ∙ (row_of-map key change k rows keeps))
 
 -- no row has a key below all keys
 row_of-above : {X : Type 0} (key : X → ℕ) (k low high : ℕ) (rows : List X) → k < low → AreRows key low high rows → row_of key k rows ≡ None
 row_of-above key k low high [] less h = refl
 row_of-above key k low high (row ∷ rows) less h =
-    let from = h.0 in
     cond-false (eqb (key row) k) (Some row) (row_of key k rows) (ne_eqb (key row) k (λ same. omega arith))
     ∙ row_of-above key k (key row + 1) high rows (omega arith) h.2
 
@@ -35,12 +33,11 @@ row_of-filter {X} key low high test k (row ∷ rows) h =
     elim (cases_eq (key row) k) [
       | inl same ↦
           let here = eq-eqb (key row) k same in
-          let none = row_of-above key k (key row + 1) high rows (omega arith) h.2 in
           cond_both (test row) (row ∷ passed) passed (λ rs. row_of key k rs ≡ option_and_then (if_passes test) (row_of key k (row ∷ rows)))
           (λ yes. cond-true (eqb (key row) k) (Some row) (row_of key k passed) here
           ∙ (sym (cond-true (test row) (Some row) None yes)
           ∙ ap (option_and_then (if_passes test)) (sym (cond-true (eqb (key row) k) (Some row) (row_of key k rows) here))))
-          (λ no. rest ∙ (ap (option_and_then (if_passes test)) none
+          (λ no. rest ∙ (ap (option_and_then (if_passes test)) (row_of-above key k (key row + 1) high rows (omega arith) h.2)
           ∙ (sym (cond-false (test row) (Some row) None no)
           ∙ ap (option_and_then (if_passes test)) (sym (cond-true (eqb (key row) k) (Some row) (row_of key k rows) here)))))
       | inr other ↦
@@ -63,7 +60,6 @@ pub found_is : {X : Type 0} (key : X → ℕ) (P : X → Type 0) (k : ℕ) (rows
     → P row × (key row ≡ k)
 found_is key P k [] row each e = absurd (cc e)
 found_is {X} key P k (r ∷ rows) row each e =
-    let Is : X → Type 0 = λ x. P x × (key x ≡ k) in
     cond_both (eqb (key r) k) (Some r) (row_of key k rows) (λ o. o ≡ Some row → P row × (key row ≡ k))
-    (λ same is. let r_is : r ≡ row = cc in subst Is r_is (each.0, eqb-true (key r) k same))
+    (λ same is. let r_is : r ≡ row = cc in subst (λ x. P x × (key x ≡ k)) r_is (each.0, eqb-true (key r) k same))
     (λ other found. found_is key P k rows row each.1 found) e

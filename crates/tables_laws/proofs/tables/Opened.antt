@@ -5,7 +5,7 @@ use Rattle.std.proofs.lemmas.Bool.{cases_Bool, le-ltb, ltb-false, or_left, or_ri
 use Rattle.tables_laws.proofs.Words.{AllByRecursion, AreTables, Bool, Clear, Command, Create, Delete, HciTables, IsCommand, IsTrue, List, None, Option, PipeRow}
 use Rattle.tables_laws.proofs.Words.{Set, SetOpened, Some, Sync, [], after_commands, all_closed, and_from, and_parts, apply, as_opened, close, cond, cond-false}
 use Rattle.tables_laws.proofs.Words.{cond-true, cond_both, eq-eqb, eqb, eqb-true, false, false≢true, filter, inl, inr, is_opened, joins_host, ltb, not}
-use Rattle.tables_laws.proofs.Words.{not_from_false, option_and_then, option_map, option_map_or, or_cases, pid_of, pipe_at, refl, row_of, row_of-with_row}
+use Rattle.tables_laws.proofs.Words.{not_from_false, option_and_then, option_map, option_map_or, or_cases, pid_of, pipe_at, refl, row_of-with_row}
 use Rattle.tables_laws.proofs.Words.{row_of-without_row, rows_before, rows_behind, static_place, subst, sym, true, with_opened, with_static, ℕ, ◌&&◌, ◌||◌, ◌∙◌}
 use Rattle.tables_laws.proofs.Words.{◌∷◌, ◌≡◌, ◌≤◌, ◌⊎◌}
 use Rattle.tables_laws.specs.tables.Changes.{opens}

@@ -34,8 +34,7 @@ AreTables-apply t (Create row) may h =
     let closed = and_parts (is_dynamic row.pid && is_host row.creator && is_host row.dest && not (eqb row.creator row.dest)) (not row.opened) may in
     let apart = and_parts (is_dynamic row.pid && is_host row.creator && is_host row.dest) (not (eqb row.creator row.dest)) closed.0 in
     let hosts = and_parts (is_dynamic row.pid && is_host row.creator) (is_host row.dest) apart.0 in
-    let creator = and_parts (is_dynamic row.pid) (is_host row.creator) hosts.0 in
-    let pid = and_parts (leb 2 row.pid) (ltb row.pid 112) creator.0 in
+    let pid = and_parts (leb 2 row.pid) (ltb row.pid 112) (and_parts (is_dynamic row.pid) (is_host row.creator) hosts.0).0 in
     record {
       rows = AreRows-with_row pipes.pid_of 2 112 (pipes.as_opened false row) t.rows h.rows (leb-true 2 row.pid pid.0) (ltb-true row.pid 112 pid.1);
       statics = h.statics;
@@ -70,11 +69,10 @@ AreTables-apply t (SetOpened host pid opened) may h =
       syncs = h.syncs;
     })
 AreTables-apply t (Set host gate param value) may h =
-    let parts = and_parts (registry.is_kept host gate param) _ may in
     record {
       rows = h.rows;
       statics = h.statics;
-      values = AreValues-with_value t.values host gate param value.items parts.0 h.values;
+      values = AreValues-with_value t.values host gate param value.items (and_parts (registry.is_kept host gate param) _ may).0 h.values;
       syncs = h.syncs;
     }
 AreTables-apply t (Sync host id) may h =

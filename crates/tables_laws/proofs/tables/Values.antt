@@ -19,8 +19,7 @@ read param o = option_map_or (λ (v : RegValue). v.value.items) o (default_of pa
 -- the kept parameters are 01 and 03, of gate 00
 pub kept_param : (host gate param : ℕ) → IsTrue (is_kept host gate param) → (param ≡ 1) ⊎ (param ≡ 3)
 kept_param host gate param kept =
-    let parts = and_parts (leb 1 host && leb host 7 && eqb gate 0) (eqb param 1 || eqb param 3) kept in
-    elim (or_cases (eqb param 1) (eqb param 3) parts.1) [
+    elim (or_cases (eqb param 1) (eqb param 3) (and_parts (leb 1 host && leb host 7 && eqb gate 0) (eqb param 1 || eqb param 3) kept).1) [
       | inl first ↦ inl (eqb-true param 1 first)
       | inr third ↦ inr (eqb-true param 3 third)
     ]
@@ -65,9 +64,6 @@ default_bytes true value e =
     all_ones value parts.1 ∙ ap (λ n. replicate n 255) (eqb-true (length value) 8 parts.0)
 default_bytes false value e = nil_from_length value (eqb-true (length value) 0 e)
 
-default_is : (param : ℕ) (value : List ℕ) → is_default param value ≡ true → value ≡ default_of param
-default_is param value e = default_bytes (eqb param 1) value e
-
 taken_out : (param : ℕ) (here : Bool) (value : List ℕ) (o : Option RegValue) → (here ≡ true → default_of param ≡ value)
     → read param (cond here None o) ≡ cond here value (read param o)
 taken_out param true value o is = is refl
@@ -89,7 +85,7 @@ value_at-with_value values h gate p value host param one other =
     ap (read param) (row_of-without_row place_of_value (value_place h p) values (value_place host param))
     ∙ (ap (λ b. read param (cond b None old)) same
     ∙ taken_out param (eqb h host && eqb p param) value old
-    (λ here. ap default_of (sym (eqb-true p param (and_parts (eqb h host) (eqb p param) here).1)) ∙ sym (default_is p value default))))
+    (λ here. ap default_of (sym (eqb-true p param (and_parts (eqb h host) (eqb p param) here).1)) ∙ sym (default_bytes (eqb p 1) value default))))
     (λ kept.
     ap (read param) (row_of-with_row place_of_value v values (value_place host param))
     ∙ (ap (λ b. read param (cond b (Some v) old)) same
@@ -100,8 +96,7 @@ found_host : (values : List RegValue) (host param : ℕ) (v : RegValue) → (par
     → row_of place_of_value (value_place host param) values ≡ Some v → v.host ≡ host
 found_host values host param v which h is =
     let found = found_is place_of_value IsPresent (value_place host param) values v h.present is in
-    let kept = (and_parts (is_kept v.host v.gate v.param) (not (is_default v.param v.value.items)) found.0).0 in
-    (same_place v.host v.param host param (kept_param v.host v.gate v.param kept) which found.1).0
+    (same_place v.host v.param host param (kept_param v.host v.gate v.param (grind arith)) which found.1).0
 
 eqb_turned : (a b : ℕ) → eqb a b ≡ eqb b a
 eqb_turned a b =
@@ -141,8 +136,7 @@ values-apply t (SetOpened other pid opened) host param h may kept =
     cond_both (ltb pid 2) (record t { statics = with_static t.statics other pid opened }) (record t { rows = with_opened t.rows pid opened })
     (λ u. value_at u.values host 0 param ≡ value_at t.values host 0 param) (λ static. refl) (λ dynamic. refl)
 values-apply t (Set other gate p value) host param h may kept =
-    let set = (and_parts (is_kept other gate p) _ may).0 in
-    value_at-with_value t.values other gate p value.items host param (kept_param other gate p set) (kept_param host 0 param kept)
+    value_at-with_value t.values other gate p value.items host param (kept_param other gate p (grind arith)) (kept_param host 0 param kept)
 values-apply t (Sync other id) host param h may kept =
     let same = is_kept_sync t.syncs other id in
     let old = value_at t.values host 0 param in

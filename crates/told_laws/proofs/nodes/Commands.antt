@@ -10,7 +10,7 @@ use Rattle.told_laws.proofs.Words.{among, ap, apply, arith, as_opened, book_afte
 use Rattle.told_laws.proofs.Words.{entries_for, entry_of, exchanged, false, find, finished, flat_map, fold, frames_out, has_input, has_restarted, has_taken}
 use Rattle.told_laws.proofs.Words.{heard, if_up, in_front, is_command, is_default, is_faulty, is_kept_sync, is_open, is_some, length, length-append, length-map}
 use Rattle.told_laws.proofs.Words.{lpdu_of, map, moved, nat_lt, new_book, no_tables, pid_of, place_of_value, put_down, refl}
-use Rattle.told_laws.proofs.Words.{replicate, reset_by, reset_refusal, reset_with, role_after, sent_all, silent, slice_index, static_place, steps_at_controller}
+use Rattle.told_laws.proofs.Words.{reset_by, reset_refusal, reset_with, role_after, sent_all, silent, slice_index, static_place, steps_at_controller}
 use Rattle.told_laws.proofs.Words.{stopped, subst, suc, sync_host, tables_in, take, take_answer, taken, tick_answer, ticked, told, took, true, turn, turned}
 use Rattle.told_laws.proofs.Words.{unless, value_at, value_place, window_of, with_act, with_command, with_ended, with_found, with_opened, with_static}
 use Rattle.told_laws.proofs.Words.{with_value, without_identity, zero, ℕ, ◌%◌, ◌++◌, ◌+◌, ◌-◌, ◌/◌, ◌<◌, ◌==◌, ◌∷◌, ◌≡◌, ◌≤◌}
@@ -36,10 +36,8 @@ split_few (suc k) (x ∷ xs) = let rest = split_few k xs in omega (arith, rest)
 among_few : (n : ℕ) (acts : List ActDue) (cs : List Control) → length (among n acts cs) ≤ length acts + length cs
 among_few n [] cs = omega arith
 among_few n (a ∷ acts) cs =
-    let later = among_few a.behind acts (drop (a.behind - n) cs) in
-    let parts = split_few (a.behind - n) cs in
     let long = length-append (take (a.behind - n) cs) (ActFrame a.frame false ∷ among a.behind acts (drop (a.behind - n) cs)) in
-    omega (arith, later, parts, long)
+    omega (arith, (among_few a.behind acts (drop (a.behind - n) cs)), (split_few (a.behind - n) cs), long)
 
 out_few : (e : LinkEnd) → length (frames_out e) ≤ 12 + length e.acts
 out_few e =
@@ -66,10 +64,9 @@ act_acts (Some act) e = let long = length-append e.acts (record { frame = act; b
 
 activated_acts : (e : LinkEnd) (event : ActEvent) → length (activated e event).acts ≤ length e.acts + 1
 activated_acts e event =
-    let down = down_acts e (act_answer e.role event).ended_link in
     let more =
     act_acts (act_answer e.role event).send (record (put_down (act_answer e.role event).ended_link e) { role = role_after e.role event }) in
-    omega (arith, down, more)
+    omega (arith, (down_acts e (act_answer e.role event).ended_link), more)
 
 heard_acts : (e : LinkEnd) (c : Control) → length (heard e c).acts ≤ length e.acts
 heard_acts e c =
@@ -101,11 +98,9 @@ input_acts b e (Reset window) is =
     (moved_acts e (is_some (if_up e.shdlc Asked)) (reset_with e.shdlc (window_of e window))) in
     omega (arith, few)
 input_acts b e (Start value) is =
-    let few = moved_acts e true (stopped e.shdlc) in
-    let more = activated_acts (moved e true (stopped e.shdlc)) (ActStart value) in omega (arith, few, more)
+    let more = activated_acts (moved e true (stopped e.shdlc)) (ActStart value) in omega (arith, (moved_acts e true (stopped e.shdlc)), more)
 input_acts b e Stop is =
-    let few = moved_acts e true (stopped e.shdlc) in
-    let more = activated_acts (moved e true (stopped e.shdlc)) ActStop in omega (arith, few, more)
+    let more = activated_acts (moved e true (stopped e.shdlc)) ActStop in omega (arith, (moved_acts e true (stopped e.shdlc)), more)
 input_acts b e _ is = absurd is
 
 turn_acts : (e : LinkEnd) (t : Turn) → length (turn e t).acts ≤ length e.acts
@@ -154,8 +149,7 @@ finish_in b c n l e ending is few h = by ending (so_more IsLineFrame n n l (omeg
   where
     by : (ending : Ending) → AllBut c (n + 13) n l → LinkIn b c (n + 13) (finished l e ending)
     by GoesOut up =
-        let out = out_few e in
-        so_becomes IsLineFrame n (n + 13) l e (out_in b (n + 8) e is) (omega (arith, out, few))
+        so_becomes IsLineFrame n (n + 13) l e (out_in b (n + 8) e is) (omega (arith, (out_few e), few))
         (record { side = side_more b (n + 8) (n + 13) (sent_all e) (omega arith) (side_sent b (n + 8) e is); calm = refl }) up
     by CutOff up = grind arith
 
@@ -170,9 +164,8 @@ ComesIn b _ = Unit {0}
 module _ (b c : Bool) (n : ℕ) where
   acts_after : (l : Link) (i : LinkInput) (ts : List Turn) → IsInputIn b i → LinkIn b c n l → length (turned (after_input l.controller.side i) ts).acts ≤ 1
   acts_after l i ts is h =
-      let none = ap length h.near.side.calm in
       let one = input_acts b l.controller.side i is in
-      let later = turned_acts ts (after_input l.controller.side i) in omega (arith, none, one, later)
+      let later = turned_acts ts (after_input l.controller.side i) in omega (arith, (ap length h.near.side.calm), one, later)
 
   side_after : (l : Link) (i : LinkInput) (ts : List Turn) → IsInputIn b i → AreTurnsIn ts → LinkIn b c n l
       → SideIn b (n + 8) (turned (after_input l.controller.side i) ts)
@@ -360,12 +353,6 @@ value_in values host gate param value a b c bytes short h =
     (λ _. row_put IsValueIn place_of_value (record { host = host; gate = gate; param = param; value = record { items = value } }) values
     ((a, b, c, each_all IsByte value bytes), short) h)
 
-default_in : (param : ℕ) → AreBytes (default_of param)
-default_in param = grind arith
-
-default_short : (param : ℕ) → length (default_of param) ≤ 4095
-default_short param = cond_both (param == 1) (replicate 8 255) [] (λ (v : List ℕ). length v ≤ 4095) (λ _. omega arith) (λ _. omega arith)
-
 pub applied_in : (c : Command) (t : HciTables) → IsSaidCommand c → IsShortCommand c → AreTablesIn t → AreTablesIn (apply t c)
 applied_in (Create row) t is short h = record {
   pipes = row_put IsSaidPipe pid_of (as_opened false row) t.rows
@@ -396,7 +383,7 @@ applied_in (Sync host id) t is short h = record {
   pipes = h.pipes;
   statics = h.statics;
   values = cond_both (is_kept_sync t.syncs host id) t.values (without_identity t.values host) (AllByRecursion IsValueIn) (λ _. h.values)
-      (λ _. value_in t.values host 0 1 (default_of 1) is.0 (omega arith) (omega arith) (default_in 1) (default_short 1) h.values);
+      (λ _. value_in t.values host 0 1 (default_of 1) is.0 (omega arith) (omega arith) (grind arith) (grind arith) h.values);
   syncs = row_put IsSaidSync sync_host (host, id) t.syncs is h.syncs;
 }
 
@@ -457,7 +444,7 @@ tables_read_in n k t is = (books_in n k t new_book is (record { commands = tt; t
 pub value_read_in : (values : List RegValue) (host gate param : ℕ) → AllByRecursion IsValueIn values
     → AreBytes (value_at values host gate param) × (length (value_at values host gate param) ≤ 4095)
 value_read_in values host gate param h = by_option (row_of place_of_value (value_place host param) values)
-    (λ q. rw q (default_in param, default_short param))
+    (λ q. rw q ((grind arith), (grind arith)))
     (λ v q. rw q (let is = found_in IsValueIn _ values v h q in (all_each IsByte v.value.items is.0.3, is.1)))
 
 -- a command that may be recorded makes a pipe between 02 and 6F

@@ -130,9 +130,6 @@ number_low b n h is = let e = is.emitted in let t = is.took in omega (arith, e, 
 near_in : (b c : Bool) (n : ℕ) (l : Link) (comes : Comes) → LinkIn b c n l → NumberedIn b n (near_end_in l comes)
 near_in b c n l comes h = grind arith
 
-arrives_in : (b c : Bool) (n : ℕ) (who : Side) (l : Link) (comes : Comes) → LinkIn b c n l → AreNotedIn n (arrival who l comes)
-arrives_in b c n who l comes h = grind arith
-
 work_begins : (b : Bool) (n : ℕ) (r : Running) (plan : Option Plan) (near_ends : ℕ → NumberedEnd) (t : List Entry) → IsNodeIn r → HasTables r
     → ((h : ℕ) → NumberedIn b n (near_ends h)) → AreIn n t → IsWorkIn b n (work_of r plan near_ends t)
 work_begins b n r plan near_ends t is has are noted = record {
@@ -162,9 +159,6 @@ pub record IsStepIn (n : ℕ) (p : NodeWorld × List Entry) : Type 0 where
 abbrev KeepsIn : Bool → ℕ → (Work → Work) → Type 0
 KeepsIn b n f = (v : Work) → IsWorkIn b n v → IsWorkIn b (n + 8) (f v)
 
-here_comes : (h : ℕ) (comes : Comes) (k : ℕ) → ComesIn false comes → ComesIn false (comes_to h comes k)
-here_comes h comes k may = cond_both (k == h) comes NoInput (ComesIn false) (λ _. may) (λ _. tt)
-
 module _ (n : ℕ) (w : NodeWorld) (is : IsWorldIn n w) where
   after_step : (h : ℕ) (comes : Comes) (k : Work) → ComesIn false comes → IsWorkIn false (n + 8) k → IsStepIn (n + 13) (after_controller w h comes k)
   after_step h comes k may a = record {
@@ -172,7 +166,7 @@ module _ (n : ℕ) (w : NodeWorld) (is : IsWorldIn n w) where
       sites = all_map (IsSiteIn n) (IsSiteIn (n + 13)) (link_after_controller h comes k)
           (λ s x. record {
             host = x.host;
-            link = link_steps false true n s.link (comes_to h comes s.host) (turns_at k s.host) (ending_of k) (here_comes h comes s.host may)
+            link = link_steps false true n s.link (comes_to h comes s.host) (turns_at k s.host) (ending_of k) (grind arith)
                 (turns_of false (n + 8) k a s.host) x.link;
             node = x.node;
           }) w.sites is.sites;
@@ -199,7 +193,7 @@ module _ (n : ℕ) (w : NodeWorld) (is : IsWorldIn n w) where
       (work_begins false n r w.memory.plan near_ends _ (subst IfNodeIn q is.controller) (subst IfTables q has)
       (λ k. near_in false true n (link_to w.sites k) (comes_to h comes k) (link_there n w.sites k is.sites))
       (all_entries_in h n (omega (arith, small)) (arrival Controller (link_to w.sites h) comes)
-      (arrives_in false true n Controller (link_to w.sites h) comes (link_there n w.sites h is.sites))))))
+      (let h0 = link_to w.sites h in let h1 = link_there n w.sites h is.sites in grind arith)))))
 
   host_step : (h : ℕ) (comes : Comes) (f : Work → Work) → ComesIn true comes → KeepsIn true n f → SitesHave w.sites
       → IsStepIn (n + 13) (host_does w h comes f)
@@ -215,7 +209,7 @@ module _ (n : ℕ) (w : NodeWorld) (is : IsWorldIn n w) where
       (work_begins true n r s.memory.plan (λ j. near_end_in (exchanged s.link) comes) _ (subst IfNodeIn q here.node)
       (subst IfTables q (site_is (λ (x : Site). IfTables x.node) w.sites h s has there))
       (λ j. near_in true false n (exchanged s.link) comes far)
-      (all_entries_in s.host n (omega (arith, small)) (arrival Host (exchanged s.link) comes) (arrives_in true false n Host (exchanged s.link) comes far))) in
+      (all_entries_in s.host n (omega (arith, small)) (arrival Host (exchanged s.link) comes) (grind arith))) in
       record {
         world = record {
           sites = site_changed n (n + 13) (omega arith) h (after_host comes k)
@@ -396,10 +390,8 @@ module _ (n : ℕ) (w : NodeWorld) (is : IsWorldIn n w) (has : WorldHas w) where
           step_more ((n + 13) + 13) (n + 26) (comes_at between (end_h h) (Starts sync)) (omega arith)
           (by_coming (IsStepIn ((n + 13) + 13)) between (end_h h) (Starts sync) (nothing_done (n + 13) between near.world)
           (λ i q z.
-          let input = comes_input true false (n + 13) (exchanged (link_to between.sites h)) (Starts sync) i id
-          (link_exchanged false true (n + 13) (link_to between.sites h) (link_there (n + 13) between.sites h near.world.sites)) z in
           host_step (n + 13) between near.world h (Starts sync) (steps (AtEnd h i)) id
-          (λ v a. steps_in true (n + 13) (AtEnd h i) v input a) (near_leaves h power))
+          (λ v a. steps_in true (n + 13) (AtEnd h i) v (grind arith) a) (near_leaves h power))
           (λ i q z. absurd (cc q)))
 
 -- ### Time

@@ -3,13 +3,13 @@ use Rattle.told_laws.proofs.Words.{AllByRecursion, AllByRecursion-get, ArePipeRo
 use Rattle.told_laws.proofs.Words.{Desk, Drops, Ends, Err, GoesOn, HciTables, Init, InitFailed, InitMade, InitSame, IsByte, IsCommand, IsDynamic, IsEnd}
 use Rattle.told_laws.proofs.Words.{IsEvent, IsResponse, IsSaidCommand, List, Message, MessageFault, MessageKind, None, Ok, Option, Orders, PipeRow, Port}
 use Rattle.told_laws.proofs.Words.{Result, Sends, Set, SetOpened, SetsErrors, Some, Tells, [], about_at, answer_of, answers_on, anyone, ap, arith}
-use Rattle.told_laws.proofs.Words.{asks_for, body_in, by_option, by_test, code_of, commit_deeds, cond, cond_both, controller_deeds, count_by-le-length}
+use Rattle.told_laws.proofs.Words.{asks_for, body_in, by_option, by_test, code_of, cond, cond_both, controller_deeds, count_by-le-length}
 use Rattle.told_laws.proofs.Words.{count_in, creation_deeds, creation_in, decision_deeds, drop, each-append, end_of_node, end_view, ends_at, eqb, false}
-use Rattle.told_laws.proofs.Words.{finds_room, first_of, gates, goes_through, has_link, header_of, identity_served, instruction_in, is_dynamic, is_host}
-use Rattle.told_laws.proofs.Words.{is_opened, is_some, is_up, kind_deeds, leb-true, length, length-rows, link_deeds, link_served, link_unless, map, nat_lt, not}
+use Rattle.told_laws.proofs.Words.{finds_room, first_of, gates, goes_through, has_link, header_of, identity_served, instruction_in, is_dynamic}
+use Rattle.told_laws.proofs.Words.{is_opened, is_some, is_up, kind_deeds, length, length-rows, link_deeds, link_served, link_unless, map, nat_lt, not}
 use Rattle.told_laws.proofs.Words.{notice_deeds, opened_on, option_map_or, ordered_holds, own_gate, own_side, own_view, param_in, pid_of, pipe_at, port_at}
-use Rattle.told_laws.proofs.Words.{refl, relay_deeds, relayed_to, row_of-within, served_at, slice_get, subst, tests_to_get, tests_to_set_errors, told_hold}
-use Rattle.told_laws.proofs.Words.{true, value_at, value_behind, view_for, view_of, ℕ, ◌&&◌, ◌++◌, ◌+◌, ◌<◌, ◌==◌, ◌^◌, ◌∷◌, ◌≡◌, ◌≤◌}
+use Rattle.told_laws.proofs.Words.{refl, relayed_to, row_of-within, served_at, slice_get, subst, tests_to_get, tests_to_set_errors, told_hold}
+use Rattle.told_laws.proofs.Words.{true, value_at, value_behind, view_for, view_of, ℕ, ◌&&◌, ◌++◌, ◌+◌, ◌<◌, ◌==◌, ◌∷◌, ◌≡◌, ◌≤◌}
 use Rattle.gate_admin.proofs.CreationLemmas.{creation-recordable}
 use Rattle.gate_admin.specs.Decide.{answers, carried_out, clearing, closing, commits, commits_and_tells, creating, creation, decided, deleting, dest_in}
 use Rattle.gate_admin.specs.Decide.{ends_of, far_end, getting, opening, others_opened, setting, tests_of_pipe, tests_to_clear, tests_to_create, tests_to_delete}
@@ -97,10 +97,6 @@ low = omega arith
 answers_in : (h pipe : ℕ) (message : List ℕ) → pipe < 112 → IsSaying message → AreDeedsIn (answers_on h pipe message)
 answers_in h pipe message p a = (saying pipe message p a, tt)
 
-commits_in : (room : Bool) (h pipe : ℕ) (c : Command) (answer : List ℕ) (behind : List Deed) → pipe < 112 → IsCommandIn c → IsSaying answer
-    → AreDeedsIn behind → AreDeedsIn (commit_deeds room h pipe c answer behind)
-commits_in room h pipe c answer behind p is a b = grind arith
-
 -- ### What the administration gate decides
 
 abbrev IsDecisionIn : Decision → Type 0
@@ -126,9 +122,8 @@ others_low t host pipe rows =
     by : (o : Option (ℕ × ℕ)) → option_map_or (λ (end : ℕ × ℕ). opened_on t.rows end.0 end.1 pipe) o 0 < 256
     by None = omega arith
     by (Some end) =
-        let long = length-rows pid_of 2 112 t.rows rows in
         let few = count_by-le-length (λ (row : PipeRow). row.opened && ends_at row end.0 end.1 && not (row.pid == pipe)) t.rows in
-        omega (arith, long, few)
+        omega (arith, (length-rows pid_of 2 112 t.rows rows), few)
 
 host_bytes : (test : ℕ → Bool) → AreBytes (hosts_where test)
 unfolding hosts_where
@@ -155,7 +150,6 @@ row_in t v host body small bytes passed =
     let made = recordable_made (Create (new_row t v host body)) (creation-recordable t v host body small passed) in
     let upto = made.1 in
     let a = index_in body 0 bytes in
-    let b = index_in body 1 bytes in
     let c = index_in body 2 bytes in
     let pid : (new_row t v host body).pid < 256 = omega (arith, upto) in (grind arith)
 
@@ -245,9 +239,7 @@ link_in errors instruction body few bytes =
     set_low : (k : ℕ) → Some (count_in (value_behind body)) ≡ Some k → k < 65536
     set_low k is =
         let same : count_in (value_behind body) ≡ k = cc in
-        let a = index_in (value_behind body) 0 rest in
-        let b = index_in (value_behind body) 1 rest in
-        omega (arith, same, a, b)
+        omega (arith, same, (index_in (value_behind body) 0 rest), (index_in (value_behind body) 1 rest))
 
 link_deeds_in : (h pipe : ℕ) (served : List ℕ × Option ℕ) → pipe < 112 → IsServedIn served → AreDeedsIn (link_deeds h pipe served)
 link_deeds_in h pipe served p a = grind arith
@@ -257,7 +249,7 @@ link_deeds_in h pipe served p a = grind arith
 decision_in : (core : Core) (h pipe : ℕ) (d : Decision) → pipe < 112 → IsDecisionIn d → AreDeedsIn (decision_deeds (own_view core) h pipe d)
 decision_in core h pipe (Answer answer) p a = answers_in h pipe answer.items p a
 decision_in core h pipe (Commit c answer tell notice) p a =
-    commits_in (finds_room core c) h pipe c answer.items _ p a.0 a.1 (told_hold IsDeedIn notice.items (hosts_where (has tell)) a.2)
+    let h0 = finds_room core c in let h1 = told_hold IsDeedIn notice.items (hosts_where (has tell)) a.2 in grind arith
 decision_in core h pipe (Ask dest notice c answer) p a = ((a.0, a.1, record { command = a.2; answer = a.3 }), tt)
 
 abbrev pub AreDesksIn : List Port → Type 0
@@ -303,13 +295,10 @@ module _ (core : Core) (ports : List Port) (h : ℕ) (m : Message) (tables : Are
   kind_in (Ok (IsResponse, code)) = by_test (m.0 == 1) (λ q. rw q (noticed_in code (port_at ports h) refl)) (λ q. rw q drops_in)
   kind_in (Err fault) = drops_in
 
-  relayed_in : (other : ℕ) (up : Bool) → AreDeedsIn (relay_deeds (has_link ports) h m other up)
-  relayed_in other up = grind arith
-
   pub controller_in : AreDeedsIn (controller_deeds (view_of core ports) h m)
   controller_in = by_option (relayed_to core.tables h m)
       (λ is. rw is (by_test (has_link ports h) (λ q. rw q (kind_in (header_of m.1))) (λ q. rw q drops_in)))
-      (λ other is. rw is (relayed_in other (has_link ports other)))
+      (λ other is. rw is (grind arith))
 
 -- ## What hosts do with a message is in its range
 
@@ -343,7 +332,7 @@ own_end core h small = end_in h (own_side core) (omega (arith, small))
 -- ### What a host commits
 
 accepts_in : (core : Core) (c : Command) → IsCommandIn c → AreDeedsIn (accepts (own_view core) c)
-accepts_in core c is = commits_in (finds_room core c) core.node 1 c (answer_of response.Ok []) [] low is (answer_in response.Ok [] tt (omega arith)) tt
+accepts_in core c is = grind arith
 
 learns_in : (core : Core) (c : Command) → IsSaidCommand c → IsShortCommand c → AreDeedsIn (learns (own_view core) c)
 learns_in core c said short = grind arith
@@ -419,11 +408,10 @@ module _ (core : Core) (is : IsCoreIn core) where
       → AreDeedsIn (response_deeds (own_view core) code value)
   response_in code value byte bytes None q = rw q tt
   response_in code value byte bytes (Some order) q =
-      let a : AreBytes order = subst IfBytes q is.command in
       rw q (
         tt,
         each-append IsDeedIn (cond (eqb code 0) (learned (own_view core) order value) []) (init_deeds (own_view core) code value core.init)
-            (cond_both (eqb code 0) (learned (own_view core) order value) [] AreDeedsIn (λ _. learned_in order value a bytes) (λ _. tt))
+            (cond_both (eqb code 0) (learned (own_view core) order value) [] AreDeedsIn (λ _. learned_in order value (grind arith) bytes) (λ _. tt))
             (init_in code value byte core.init is.init),
       )
 
@@ -435,7 +423,7 @@ module _ (core : Core) (is : IsCoreIn core) where
     refuses = λ r. (answers_in core.node 1 (answer_of r []) low (answer_in r [] tt (omega arith)));
     creates = λ row named welcome. accepts_in core (Create row) ((grind arith));
     deletes = λ pid kept. accepts_in core (Delete pid) (record { said = kept_pid pid kept; short = tt; made = tt });
-    clears = λ x host. accepts_in core (Clear x) (record { said = host_low x host; short = tt; made = tt });
+    clears = λ x host. accepts_in core (Clear x) (record { said = (grind arith); short = tt; made = tt });
     counts = λ zero. link_deeds_in core.node 0 (link_served errors n body) (omega arith) (link_in errors n body few bytes);
     names = λ off. answers_in core.node pipe (identity_served gates n body) p (grind arith);
   })
@@ -446,9 +434,6 @@ module _ (core : Core) (is : IsCoreIn core) where
       kept_pid : (pid : ℕ) → is_some (pipe_at core.tables.rows pid) ≡ true → pid < 256
       kept_pid pid q = let within = row_of-within pid_of 2 112 pid core.tables.rows is.rows q in
           let upto = within.1 in omega (arith, upto)
-
-      host_low : (x : ℕ) → is_host x ≡ true → x < 256
-      host_low x q = let few = leb-true x 7 q in omega (arith, few)
 
   -- ### Messages
 
@@ -461,9 +446,6 @@ module _ (core : Core) (is : IsCoreIn core) where
       drops : m.0 < 256
       drops = let upto = s.pipe in omega (arith, upto)
 
-      code_byte : (message : List ℕ) (code : ℕ) → header_of message ≡ Ok (IsResponse, code) → code < 256
-      code_byte message code q = subst IsCodeIn q (grind arith)
-
       go : (b : Bool) (x : Result (MessageKind × ℕ) MessageFault) → is_up p.side.shdlc.phase ≡ b → header_of m.1 ≡ x
           → AreDeedsIn (host_deeds (own_view core) (end_view p) m)
       go false x up q = rw up (drops, tt)
@@ -471,5 +453,5 @@ module _ (core : Core) (is : IsCoreIn core) where
       go true (Ok (IsEvent, n)) up q = grind arith
       go true (Ok (IsResponse, code)) up q =
           rw (up, q) (cond_both (eqb m.0 1) (response_deeds (own_view core) code (body_in m.1)) [] AreDeedsIn
-          (λ _. response_in code (body_in m.1) (code_byte m.1 code q) body core.command refl) (λ _. tt))
+          (λ _. response_in code (body_in m.1) (grind arith) body core.command refl) (λ _. tt))
       go true (Err fault) up q = rw (up, q) tt

@@ -1,20 +1,19 @@
 -- The ends of the links of a world of nodes, with their activation and messages, are in their ranges, whatever comes to them.
 use Rattle.told_laws.proofs.Words.{Act, ActDue, ActEvent, ActFrame, ActStart, ActStop, ActTake, ActTick, AllByRecursion, AllByRecursion-filter}
-use Rattle.told_laws.proofs.Words.{AllByRecursion-take, Asked, Bare, Bool, Clf, Clt, Control, Down, Due, EndState, FetchMessage, Fragment, Give, Hold, I}
-use Rattle.told_laws.proofs.Words.{IsByte, Kind, LinkEnd, LinkInput, LinkState, List, Message, None, Option, PowerMode, Ready, Refused, Release, Report, Reset}
+use Rattle.told_laws.proofs.Words.{AllByRecursion-take, Asked, Bare, Bool, Clf, Clt, Control, Down, EndState, FetchMessage, Fragment, Give, Hold, I}
+use Rattle.told_laws.proofs.Words.{IsByte, LinkEnd, LinkInput, LinkState, List, Message, None, Option, PowerMode, Ready, Refused, Release, Report, Reset}
 use Rattle.told_laws.proofs.Words.{Role, Rset, S, Session, SetAside, Some, Start, Stop, SyncId, Take, Tick, Turn, Ua, Uicc, Up, Waiting, [], accepted}
 use Rattle.told_laws.proofs.Words.{acknowledged, act_answer, activated, after_frames, after_input, ahead, all_frames, all_map, all_mapped, among, arith}
-use Rattle.told_laws.proofs.Words.{brought, cond, cond_both, deactivated, discarded, drop, each-append, false, fetched, fragment_due, frames_out}
+use Rattle.told_laws.proofs.Words.{brought, cond, cond_both, deactivated, discarded, drop, each-append, false, fetched, frames_out}
 use Rattle.told_laws.proofs.Words.{give_refusal, given, good_of, had_tick, heard, if_up, in_front, in_phase, is_faulty, is_good, is_open, is_some, leb-true}
 use Rattle.told_laws.proofs.Words.{length, ltb-false, map, messages_got, moved, nat_le, nat_lt, news, not, packet_bytes, packet_count, packets_in}
 use Rattle.told_laws.proofs.Words.{packets_of, place_of, put_down, put_out, received, refl, report, reset_by, reset_refusal, reset_with, role_after, sent_all}
 use Rattle.told_laws.proofs.Words.{started, stopped, suc, take, take_answer, taken, tick_answer, ticked, took, true, turn, turned, unless, whole_acked}
-use Rattle.told_laws.proofs.Words.{whole_among, window_of, with_act, zero, ℕ, ◌%◌, ◌+◌, ◌-◌, ◌<◌, ◌==◌, ◌∷◌, ◌≡◌, ◌≤◌}
+use Rattle.told_laws.proofs.Words.{whole_among, window_of, with_act, zero, ℕ, ◌+◌, ◌-◌, ◌<◌, ◌==◌, ◌∷◌, ◌≡◌, ◌≤◌}
 use Rattle.hcp_chain.specs.Joining.{given_by, grown, is_fifth, join_step, message_in, others, so_far}
 use Rattle.hcp_packet.specs.declared.Packet.{Packet}
 use Rattle.swp_act.specs.declared.ActOut.{ActOut}
-use Rattle.told_laws.proofs.told.Links.{IfTries, IsFragment, IsFrame, IsLowWindow, Ranged, drop_each, fragments_in, frames_in, ranged_after}
-use Rattle.told_laws.proofs.told.Links.{ranged_out, ranged_reset, ranged_stopped, ranged_taken, ranged_ticked}
+use Rattle.told_laws.proofs.told.Links.{IfTries, IsFragment, IsFrame, IsLowWindow, Ranged, drop_each, fragments_in, frames_in, ranged_after, ranged_out}
 
 -- ## The ends of the links of a world of nodes are in their ranges, whatever comes to them: frames and messages are bytes, and no count is above a bound
 
@@ -65,19 +64,14 @@ module _ (n : ℕ) where
   fragment_heard e ns nr info None q bytes h = rw q (heard_more n (n + 8) (in_phase Up e) (omega arith) (record { acc = h.acc; acked = h.acked }))
   fragment_heard e ns nr info (Some x) q bytes h =
       let low = place_low e.session nr x q in
-      let a = h.acked in
-      rw q (received_in (n + 8) (acknowledged (in_phase Up e) x) ns info bytes (record { acc = h.acc; acked = omega (arith, low, a) }))
-
-  supervised_heard : (e : EndState) (kind : Kind) (nr : ℕ) (o : Option ℕ) → place_of e.session nr ≡ o → HeardIn n e
-      → HeardIn (n + 8) (taken (in_phase Up e) (S kind nr))
-  supervised_heard e kind nr o q h = grind arith
+      rw q (received_in (n + 8) (acknowledged (in_phase Up e) x) ns info bytes (record { acc = h.acc; acked = omega (arith, low, h.acked) }))
 
   reset_heard : (e : EndState) (p : LinkState) (w caps : ℕ) (b : Bool) → (w == 0) ≡ b → HeardIn n e → HeardIn (n + 8) (taken (in_phase p e) (Rset w caps))
   reset_heard e p w caps b q h = grind arith
 
   heard_in : (e : EndState) (p : LinkState) (c : Control) → IsLineFrame c → HeardIn n e → HeardIn (n + 8) (taken (in_phase p e) c)
   heard_in e Up (I ns nr info) is h = fragment_heard e ns nr info _ refl is.2.0 h
-  heard_in e Up (S kind nr) is h = supervised_heard e kind nr _ refl h
+  heard_in e Up (S kind nr) is h = grind arith
   heard_in e Waiting Ua is h = record { acc = tt; acked = omega arith }
   heard_in e p (Rset w caps) is h = reset_heard e p w caps _ refl h
   heard_in e Up _ is h = let a = h.acked in record { acc = h.acc; acked = omega (arith, a) }
@@ -90,12 +84,9 @@ module _ (n : ℕ) where
   asks_heard : (e : EndState) (p : LinkState) (w : ℕ) → HeardIn n e → HeardIn n (reset_with (in_phase p e) w)
   asks_heard e p w h = grind arith
 
-  fetch_heard : (e : EndState) (due : List Due) (q : Option Fragment) → e.due ≡ due → fragment_due e.session ≡ q → HeardIn n e → HeardIn n (fetched e)
-  fetch_heard e due q p f h = grind arith
-
   after_heard : (k : ℕ) (e : EndState) → HeardIn n e → HeardIn n (after_frames k e)
   after_heard zero e h = h
-  after_heard (suc k) e h = after_heard k (fetched e) (fetch_heard e _ _ refl refl h)
+  after_heard (suc k) e h = after_heard k (fetched e) (grind arith)
 
 -- an end whose fragments are bytes
 pub record EndIn (n : ℕ) (e : EndState) : Type 0 where
@@ -103,16 +94,13 @@ pub record EndIn (n : ℕ) (e : EndState) : Type 0 where
   pub heard : HeardIn n e
 
 end_taken : (n : ℕ) (e : EndState) (c : Control) → IsLineFrame c → EndIn n e → EndIn (n + 8) (taken e c)
-end_taken n e c is h = record { ranged = ranged_taken e c h.ranged; heard = heard_in n e e.phase c is h.heard }
+end_taken n e c is h = record { ranged = (grind arith); heard = heard_in n e e.phase c is h.heard }
 
 end_ticked : (n : ℕ) (e : EndState) → EndIn n e → EndIn n (ticked e)
-end_ticked n e h = record { ranged = ranged_ticked e h.ranged; heard = tick_heard n e e.phase h.heard }
+end_ticked n e h = record { ranged = (grind arith); heard = tick_heard n e e.phase h.heard }
 
 end_reset : (n : ℕ) (e : EndState) (w : ℕ) → w ≤ 4 → EndIn n e → EndIn n (reset_with e w)
-end_reset n e w low h = record { ranged = ranged_reset e w low h.ranged; heard = asks_heard n e e.phase w h.heard }
-
-end_stopped : (n : ℕ) (e : EndState) → EndIn n e → EndIn n (stopped e)
-end_stopped n e h = record { ranged = ranged_stopped e h.ranged; heard = record { acc = tt; acked = omega arith } }
+end_reset n e w low h = record { ranged = (grind arith); heard = asks_heard n e e.phase w h.heard }
 
 end_out : (n : ℕ) (e : EndState) (fragments : List Fragment) → AllByRecursion IsFragment fragments → EndIn n e → EndIn n (put_out e fragments)
 end_out n e fragments more h =
@@ -200,9 +188,8 @@ whole_low : (ms : List Message) (places : ℕ) → AreMail ms → whole_among ms
 whole_low [] places h = omega arith
 whole_low (m ∷ ms) places h =
     let later = whole_low ms (places - packet_count (length m.1)) h.1 in
-    let some = h.0.some in
     cond_both (nat_le (packet_count (length m.1)) places) (suc (whole_among ms (places - packet_count (length m.1)))) 0 (λ k. k ≤ places)
-    (λ q. let fits = leb-true (packet_count (length m.1)) places q in omega (arith, later, some, fits)) (λ _. omega arith)
+    (λ q. let fits = leb-true (packet_count (length m.1)) places q in omega (arith, later, h.0.some, fits)) (λ _. omega arith)
 
 -- ## An end of a link of a world of nodes with its activation and its messages is in its range, whatever comes to it and whatever its node does to it
 
@@ -277,7 +264,7 @@ side_down b n e false h = h
 side_down b n e true h = by e.shdlc.phase refl
   where
     stops : SideIn b n (moved e true (stopped e.shdlc))
-    stops = side_moved b n n e true (stopped e.shdlc) (end_stopped n e.shdlc h.end) h
+    stops = side_moved b n n e true (stopped e.shdlc) (grind arith) h
 
     by : (p : LinkState) → e.shdlc.phase ≡ p → SideIn b n (put_down true e)
     by Up p = rw p stops
@@ -304,7 +291,7 @@ side_activated b n e event is h =
     (record { role = step.role; end = down.end; sent = down.sent; acts = down.acts; got = down.got })
 
 side_ended : (b : Bool) (n : ℕ) (e : LinkEnd) → SideIn b n e → SideIn b n (moved e true (stopped e.shdlc))
-side_ended b n e h = side_moved b n n e true (stopped e.shdlc) (end_stopped n e.shdlc h.end) h
+side_ended b n e h = side_moved b n n e true (stopped e.shdlc) (grind arith) h
 
 news_in : (b : Bool) (n : ℕ) (e : LinkEnd) (c : Control) → IsLineFrame c → SideIn b n e → AreMail (news e.shdlc.session (taken e.shdlc c))
 news_in b n e c is h =
@@ -341,9 +328,6 @@ module _ (b : Bool) (n : ℕ) where
       (λ _. side_moved b n n e (is_some (tick_answer e.shdlc).ended) (ticked e.shdlc) (end_ticked n e.shdlc h.end) h)
       (λ _. side_activated b n e ActTick tt h)
 
-  window_in : (e : LinkEnd) (window : Option ℕ) → IsLowWindow window → SideIn b n e → window_of e window ≤ 4
-  window_in e window low h = grind arith
-
   side_unless : (o : Option Refused) (e f : LinkEnd) → SideIn b n e → SideIn b n f → SideIn b n (unless o e f)
   side_unless o e f p q = grind arith
 
@@ -351,7 +335,7 @@ module _ (b : Bool) (n : ℕ) where
   side_reset e window low h =
       side_unless (reset_refusal e) e (reset_by e (window_of e window)) h
       (side_moved b n n e (is_some (if_up e.shdlc Asked)) (reset_with e.shdlc (window_of e window))
-      (end_reset n e.shdlc (window_of e window) (window_in e window low h) h.end) h)
+      (end_reset n e.shdlc (window_of e window) (grind arith) h.end) h)
 
 -- ### What its node does to it
 

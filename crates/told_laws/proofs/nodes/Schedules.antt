@@ -1,16 +1,15 @@
 -- All that is told of plays in a world of nodes is in its range, and so is all that is told of a history that follows their lines.
 use Rattle.told_laws.proofs.Words.{All, AllByRecursion, AreDifferent, AreFewPlays, AreNodeLinesOf, Bool, End, Entry, FollowsNodes, Happening, Header, IsByte}
 use Rattle.told_laws.proofs.Words.{IsEntry, IsFew, IsHost, IsNodeHeader, IsNodeLineOf, IsPlayFor, IsPlayedLine, IsRoundLine, IsSentByHost, IsSound, Line}
-use Rattle.told_laws.proofs.Words.{LineOutcome, LineStep, List, MayAllHappen, NoCause, NodeHistory, NodeWorld, None, NoneIsMisread, Occurrence}
-use Rattle.told_laws.proofs.Words.{OnWire, Option, Play, Round, Running, Said, Site, Some, Takes, Ticks, [], after-append, all_happen, all_joined, all_map}
-use Rattle.told_laws.proofs.Words.{all_mapped, ap, append-nil, append_assoc, arith, by_test, cond_both, each-append, end_takes_all, ends_in_order}
-use Rattle.told_laws.proofs.Words.{ends_take_all, entries_below, entries_in, eqb, false, few_front, few_in_new_world, flat_map, flat_map-append, for_with}
-use Rattle.told_laws.proofs.Words.{frames_at, goes_on, happenings, hosts_stay, hosts_stay_behind, if◌then◌else◌, inr, is_clear, is_running, length, line_may}
-use Rattle.told_laws.proofs.Words.{line_step, lines_asking, lines_may_be_played, lines_of_play, lines_played, lines_said, new_site, new_world, node_at, node_of}
-use Rattle.told_laws.proofs.Words.{nodes_behind, not, noted_below, occurrences_of, played-append, played_more, refl, refusal_in, replicate, round_behind}
-use Rattle.told_laws.proofs.Words.{round_in, round_is, round_known, round_lines, round_told, rounds_played, said-append, site_at, sound_new, steps_from, subst}
-use Rattle.told_laws.proofs.Words.{sym, tables_told, takes_so, taking_in, told-append, told_in, true, world_after, world_round, ℕ, ◌&&◌, ◌*◌, ◌++◌, ◌+◌, ◌∙◌}
-use Rattle.told_laws.proofs.Words.{◌∷◌, ◌≡◌, ◌≤◌}
+use Rattle.told_laws.proofs.Words.{LineOutcome, LineStep, List, MayAllHappen, NoCause, NodeHistory, NodeWorld, None, NoneIsMisread, Occurrence, OnWire, Option}
+use Rattle.told_laws.proofs.Words.{Play, Round, Running, Said, Site, Some, Takes, Ticks, [], after-append, all_happen, all_joined, all_map, all_mapped, ap}
+use Rattle.told_laws.proofs.Words.{append-nil, append_assoc, arith, by_test, cond_both, each-append, end_takes_all, ends_in_order, ends_take_all, entries_below}
+use Rattle.told_laws.proofs.Words.{entries_in, eqb, false, few_front, few_in_new_world, flat_map, flat_map-append, for_with, frames_at, goes_on, happenings}
+use Rattle.told_laws.proofs.Words.{hosts_stay, hosts_stay_behind, if◌then◌else◌, inr, is_clear, is_running, length, line_may, line_step, lines_asking}
+use Rattle.told_laws.proofs.Words.{lines_may_be_played, lines_of_play, lines_played, lines_said, new_site, new_world, node_at, node_of, nodes_behind, not}
+use Rattle.told_laws.proofs.Words.{noted_below, occurrences_of, played-append, played_more, refl, refusal_in, replicate, round_behind, round_in, round_is}
+use Rattle.told_laws.proofs.Words.{round_known, round_lines, round_told, rounds_played, said-append, site_at, sound_new, steps_from, subst, sym, tables_told}
+use Rattle.told_laws.proofs.Words.{takes_so, taking_in, told-append, told_in, true, world_after, world_round, ℕ, ◌&&◌, ◌*◌, ◌++◌, ◌+◌, ◌∙◌, ◌∷◌, ◌≡◌, ◌≤◌}
 use Rattle.trace_model.specs.declared.entry.Entry.TheVariants as entry
 use Rattle.trace_model.specs.declared.line.Line.TheVariants as line
 use Rattle.told_laws.proofs.texts.ShownLemmas.{said_in}
@@ -40,13 +39,9 @@ told_entry (entry.Up at session) h = let a = h.0.1 in (h.0.0, omega (arith, a))
 told_entry (entry.GaveUp at tries) h = let a = h.0.1 in (h.0.0, omega (arith, a))
 told_entry (entry.Acked at session count) h = grind arith
 told_entry (entry.Sent at session pid message) h =
-    let a = h.0.1 in
-    let pipe = h.0.2.pipe in
-    (h.0.0, omega (arith, a), omega (arith, pipe), (h.0.2.some, each_all IsByte message h.0.2.bytes))
+    (h.0.0, omega (arith, h.0.1), omega (arith, h.0.2.pipe), (h.0.2.some, each_all IsByte message h.0.2.bytes))
 told_entry (entry.Got at session pid message) h =
-    let a = h.0.1 in
-    let pipe = h.0.2.pipe in
-    (h.0.0, omega (arith, a), omega (arith, pipe), (h.0.2.some, each_all IsByte message h.0.2.bytes))
+    (h.0.0, omega (arith, h.0.1), omega (arith, h.0.2.pipe), (h.0.2.some, each_all IsByte message h.0.2.bytes))
 told_entry (entry.AnyOk node count) h = (h.0, h.1)
 told_entry (entry.Booted node count) h = (h.0, h.1)
 told_entry (entry.Command node command) h = (h.0.0, h.0.1)
@@ -73,9 +68,8 @@ module _ (header : Header) (nodes : IsNodeHeader header) where
       → LineIn (n + 2600) t ((all_happen w causes).0, Occurred (all_happen w causes).1)
   by_events n t w causes short is may s small few =
       let es : List Entry = entries_in (all_happen w causes).1 in
-      let k : ℕ = n + 26 * length causes in
       let after : StandsIn (n + 2600) (t ++ es) (all_happen w causes).0 =
-      stands_more hosts (hosts_are header nodes) k (n + 2600) (t ++ es) (all_happen w causes).0 (omega (arith, short))
+      stands_more hosts (hosts_are header nodes) (n + 26 * length causes) (n + 2600) (t ++ es) (all_happen w causes).0 (omega (arith, short))
       (events_in hosts (hosts_are header nodes) causes n t w is may s (omega (arith, short, small)) few) in
       record {
         stands = after;
@@ -147,10 +141,9 @@ module _ (header : Header) (nodes : IsNodeHeader header) where
   entries-append (x ∷ xs) ys w =
       let o : NodeWorld × LineOutcome = line_step w x in
       let es : List Occurrence = occurrences_of o.1 in
-      let rest : List Occurrence = flat_map (λ (s : LineStep). occurrences_of s.outcome) (steps_from o.0 (xs ++ ys)) in
       let near : List Occurrence = flat_map (λ (s : LineStep). occurrences_of s.outcome) (steps_from o.0 xs) in
       let far : List Entry = entries_behind (world_after o.0 xs) ys in
-      flat_map-append (λ (x : Occurrence). x.entries) es rest
+      flat_map-append (λ (x : Occurrence). x.entries) es (flat_map (λ (s : LineStep). occurrences_of s.outcome) (steps_from o.0 (xs ++ ys)))
       ∙ (ap (λ (u : List Entry). entries_in es ++ u) (entries-append xs ys o.0)
       ∙ (sym (append_assoc (entries_in es) (entries_behind o.0 xs) far)
       ∙ ap (λ (u : List Entry). u ++ far) (sym (flat_map-append (λ (x : Occurrence). x.entries) es near))))
@@ -190,10 +183,9 @@ module _ (header : Header) (nodes : IsNodeHeader header) where
       go true [] p q = grind arith
       go true (x ∷ xs) p q =
           let said : Line = line.Deliver e None in
-          let some : taking_in w e ≡ said ∷ [] = ap (λ (b : Bool). taken_if b (frames_at w e)) p ∙ ap (taken_if true) q in
           let none : refusal_in w said ≡ None = rw (p, q) refl in
           let step : line_step w said ≡ goes_on w said = rw none refl in
-          ap (entries_behind w) some
+          ap (entries_behind w) (ap (λ (b : Bool). taken_if b (frames_at w e)) p ∙ ap (taken_if true) q)
           ∙ (one_line w said ∙ ap (λ (o : NodeWorld × LineOutcome). entries_in (occurrences_of o.1)) step)
 
   round_happens : (ends : List End) (w : NodeWorld) → entries_behind w (round_in w ends)
@@ -241,10 +233,9 @@ module _ (header : Header) (nodes : IsNodeHeader header) where
 
   sound_behind : (lines : List Line) → AreNodeLinesOf header lines → IsSound (nodes_behind header lines)
   sound_behind lines is =
-      let new = sound_new hosts (hosts_are header nodes).different in
       record {
         fine = world_fine hosts lines (playable header lines is);
-        different = subst AreDifferent (sym (hosts_stay lines w0)) new.different;
+        different = subst AreDifferent (sym (hosts_stay lines w0)) (sound_new hosts (hosts_are header nodes).different).different;
       }
 
   play_in : (n : ℕ) (t : List Entry) (before : List Line) (p : Play) → IsPlayFor header p → AreNodeLinesOf header before
@@ -286,9 +277,8 @@ module _ (header : Header) (nodes : IsNodeHeader header) where
       let rounds = played-append (p ∷ []) plays in
       let one : PlayIn (n + now) t w lp =
       play_in n t lb p may.0 (plays_lines before so) s (omega (arith, small, said, rounds)) (subst IsFew told front) in
-      let stands : StandsIn (n + now) (entries_behind w0 (lines_played header after)) (nodes_behind header (lines_played header after)) = grind arith in
       let later : AreToldIn (told_in (nodes_behind header (lines_played header after)) (lines_from header after plays)) =
-      plays_told plays after (n + now) (for_with header before p so may.0) may.1 stands (omega (arith, small, said, rounds)) whole in
+      plays_told plays after (n + now) (for_with header before p so may.0) may.1 (grind arith) (omega (arith, small, said, rounds)) whole in
       subst AreToldIn (sym (told-append lp (lines_from header after plays) w))
       (each-append IsToldIn (told_in w lp) (told_in (world_after w lp) (lines_from header after plays)) one.told
       (subst (λ (v : NodeWorld). AreToldIn (told_in v (lines_from header after plays))) world later))
@@ -309,11 +299,8 @@ module _ (header : Header) (nodes : IsNodeHeader header) where
   plays_ask : (plays before : List Play) → lines_asking (lines_from header before plays) ≤ lines_said plays
   plays_ask [] before = omega arith
   plays_ask (p ∷ plays) before =
-      let now = play_asks (lines_played header before) p in
-      let later = plays_ask plays (before ++ p ∷ []) in
       let both = asking-append (lines_of_play header (lines_played header before) p) (lines_from header (before ++ p ∷ []) plays) in
-      let said = said-append (p ∷ []) plays in
-      omega (arith, now, later, both, said)
+      omega (arith, (play_asks (lines_played header before) p), (plays_ask plays (before ++ p ∷ [])), both, (said-append (p ∷ []) plays))
 
   begins : StandsIn 0 [] (new_world hosts)
   begins = record {

@@ -12,7 +12,7 @@ use Rattle.trace_model.specs.declared.entry.Entry.TheVariants as entry
 use Rattle.hci_tables.specs.Bodies.{body_of}
 use Rattle.hci_store.specs.Committing.{commit_writes}
 use Rattle.node_machine.specs.Parts.About.{Waits, Removed}
-use Rattle.node_machine.specs.Turns.{deeds_of, handles, holds_back, lets_go, have_turns, goes_through_ends, passes}
+use Rattle.node_machine.specs.Turns.{deeds_of, handles, holds_back, have_turns, goes_through_ends, passes}
 use Rattle.node_laws.proofs.steps.StepWalks.{got_at, lets, unless}
 use Rattle.told_laws.proofs.told.BarePlays.{each_all}
 use Rattle.told_laws.proofs.nodes.Machines.{AreMail, AreTurnsIn, IfSync, IsInputIn, IsMail, IsTurnIn, SideIn, acked_in, report_in, side_input, side_reset_at}
@@ -94,8 +94,7 @@ module _ (b : Bool) (n : ℕ) where
       go None q = tt
       go (Some p) q =
           let there = at_in w.ports h p a.ports q in
-          let small = there.is.desk.host in
-          all_entries_in p.desk.host n (omega (arith, small)) (turn_entry (own_side w.core) p.session p.side t)
+          all_entries_in p.desk.host n (omega (arith, there.is.desk.host)) (turn_entry (own_side w.core) p.session p.side t)
           (turn_noted (own_side w.core) p.session p.side t there.is.session is)
 
   notified_in : (h : ℕ) (about : About) (message : List ℕ) (w : Work) → IsSaying message
@@ -140,10 +139,9 @@ module _ (b : Bool) (n : ℕ) where
   done_in h (Sends to m) w f a = turn_in to (Give m) w f.1 a
   done_in h SaysOk w f a = noting_in _ w (node_byte w a, tt) a
   done_in h (Asks to message c) w f a =
-      let aside : IsWorkIn b n (turn_at c.asker SetAside w) = turn_in c.asker SetAside w tt a in
       let octets = each_all IsByte message f.1.1.bytes in
       notified_in to (Waits c) message (noting (entry.Ask to message ∷ []) (turn_at c.asker SetAside w)) f.1.1 f.1.2
-      (noting_in (entry.Ask to message ∷ []) (turn_at c.asker SetAside w) ((f.1.0, (f.1.1.some, octets)), tt) aside)
+      (noting_in (entry.Ask to message ∷ []) (turn_at c.asker SetAside w) ((f.1.0, (f.1.1.some, octets)), tt) (turn_in c.asker SetAside w tt a))
   done_in h (Releases asker) w f a = turn_in asker Release w tt a
   done_in h (Tells to message) w f a = notified_in to Removed message w f.1 tt a
   done_in h IsAnswered w f a =
@@ -206,13 +204,11 @@ module _ (b : Bool) (n : ℕ) where
 
   handled_in : (h : ℕ) (m : Message) (deeds : List Deed) (w : Work) → IsHostNumber h → IsMail m → AreDeedsIn deeds → J w → J (handles h m deeds w)
   handled_in h m deeds w small mail is a =
-      let upto = mail.pipe in
-      let octets = each_all IsByte m.1 mail.bytes in
       let told : Work = noting (entry.Turn (end_of_node w.core h) m.0 m.1 ∷ []) w in
       let fetched : Work = turn_at h FetchMessage told in
       all_deeds_in h deeds (with_desk h (λ d. record d { holds = false }) fetched) small is
       (marked_in h false fetched (turn_in h FetchMessage told tt
-      (noting_in _ w ((own_end w.core h small, omega (arith, upto), (mail.some, octets)), tt) a)))
+      (noting_in _ w ((own_end w.core h small, omega (arith, mail.pipe), (mail.some, (each_all IsByte m.1 mail.bytes))), tt) a)))
 
   held_back_in : (h : ℕ) (short : ℕ × ℕ) (w : Work) → IsHostNumber h → IfLack (Some short) → J w → J (holds_back h short w)
   held_back_in h short w small few a = by_test (option_map_or (λ (p : Port). p.desk.holds) (port_at w.ports h) false)
@@ -235,11 +231,8 @@ module _ (b : Bool) (n : ℕ) where
       go false None q r = rw (q, r) tt
       go false (Some p) q r = rw (q, r) (host_in w.core a.core p m (at_in w.ports h p a.ports r).is.desk mail)
 
-  lets_in : (h : ℕ) (w : Work) → J w → J (lets_go h w)
-  lets_in h w a = lets J held_in h w a
-
   having_in : (h : ℕ) (messages : List Message) (w : Work) → IsHostNumber h → AreMail messages → J w → J (have_turns h messages w)
-  having_in h [] w small mail a = lets_in h w a
+  having_in h [] w small mail a = lets J held_in h w a
   having_in h (m ∷ messages) w small mail a = go (lack w.ports (needs h deeds)) (lack_few w.ports (needs h deeds) (needs_few h deeds are))
       (λ v c. having_in h messages v small mail.1 c) where
         deeds : List Deed
@@ -308,12 +301,6 @@ module _ (b : Bool) (n : ℕ) where
       (each_in n (IsPortIn b n) (told_late w.core) (told_late_in w.core) ports old)
       (record { core = a.core; ports = all_map (IsPortIn b n) (IsPortIn b n) reset_late late_in ports old; entries = a.entries })
 
-  without_in : (p : Port) → IsPortIn b n p → IsPortIn b n (without_notice p)
-  without_in p a = grind arith
-
-  forgets_in : (ports : List Port) (p : Port) → IsPortIn b n p → IsPortIn b n (forgets ports p)
-  forgets_in ports p a = grind arith
-
   after_in : (core : Core) (ports : List Port) → IsCoreIn core → IsCoreIn (after_sessions core ports)
   after_in core ports a = grind arith
 
@@ -333,17 +320,14 @@ if_input b input p is = grind arith
 module _ (b : Bool) (n : ℕ) where
   come_port : (p : Port) (o : Option LinkInput) → IfInput b o → IsPortIn b n p → IsPortIn b (n + 8) (has_come p o)
   come_port p None is a = port_more b n (n + 8) (omega arith) p a
-  come_port p (Some i) is a =
-      let s = a.session in
-      record { desk = a.desk; side = side_input b n p.side i is a.side; session = omega (arith, s); turns = a.turns }
+  come_port p (Some i) is a = record { desk = a.desk; side = side_input b n p.side i is a.side; session = omega (arith, a.session); turns = a.turns }
 
   told_port : (core : Core) (p : Port) (o : Option LinkInput) → IfInput b o → IsPortIn b n p → AreIn (n + 8) (told_at core p o)
   told_port core p None is a = tt
   told_port core p (Some i) is a =
       let small = a.desk.host in
-      let s = a.session in
       all_entries_in p.desk.host (n + 8) (omega (arith, small)) (told (own_side core) p.session (report p.side i) (whole_acked (after_input p.side i)))
-      (told_in_range (n + 8) (own_side core) p.session (report p.side i) (whole_acked (after_input p.side i)) (omega (arith, s))
+      (told_in_range (n + 8) (own_side core) p.session (report p.side i) (whole_acked (after_input p.side i)) (omega (arith, a.session))
       (acked_in b (n + 8) (after_input p.side i) (side_input b n p.side i is a.side)) (report_in b n p.side i is a.side))
 
   all_come_in : (input : NodeInput) (w : Work) → IsNodeInputIn b input → IsWorkIn b n w → IsWorkIn b (n + 8) (all_come input w)
@@ -368,7 +352,6 @@ module _ (b : Bool) (n : ℕ) where
         by : (o : Option ℕ) → IfSync o → (report p.side i).sync ≡ o → AreDeedsIn (synced core input p)
         by None id_in e = rw (q, e) tt
         by (Some id) id_in e =
-            let small = a.desk.host in
             rw (q, e) (grind arith)
 
   syncs_in : (core : Core) (input : NodeInput) (ports : List Port) → IsNodeInputIn b input → ArePortsIn b n ports
@@ -389,8 +372,8 @@ module _ (b : Bool) (n : ℕ) where
       (all_owed_hold IsDeedIn (λ asker. tt) (λ to r. saying 1 (answer_of r []) low (answer_in r [] tt (omega arith))) left)
       (record {
         core = after_in b (n + 8) came.core came.ports now.core;
-        ports = all_map (IsPortIn b (n + 8)) (IsPortIn b (n + 8)) without_notice (without_in b (n + 8)) left
-            (all_map (IsPortIn b (n + 8)) (IsPortIn b (n + 8)) (forgets came.ports) (forgets_in b (n + 8) came.ports) came.ports now.ports);
+        ports = all_map (IsPortIn b (n + 8)) (IsPortIn b (n + 8)) without_notice (grind arith) left
+            (all_map (IsPortIn b (n + 8)) (IsPortIn b (n + 8)) (forgets came.ports) (grind arith) came.ports now.ports);
         entries = now.entries;
       })
 

@@ -50,8 +50,7 @@ same_map f R same [] (y ∷ ys) rx ry h = cc
 same_map f R same (x ∷ xs) [] rx ry h = cc
 same_map f R same (x ∷ xs) (y ∷ ys) rx ry h =
     let first : x ≡ y = same x y (rx 0 x (omega arith)) (ry 0 y (omega arith)) cc in
-    let rest : map f xs ≡ map f ys = cc in
-    let more : xs ≡ ys = same_map f R same xs ys (λ k d within. rx (suc k) d (omega arith)) (λ k d within. ry (suc k) d (omega arith)) rest in cc
+    let more : xs ≡ ys = same_map f R same xs ys (λ k d within. rx (suc k) d (omega arith)) (λ k d within. ry (suc k) d (omega arith)) cc in cc
 
 same_maybe : (a b : Option ℕ) → IfSome a IsNumber → IfSome b IsNumber → number_words a ≡ number_words b → a ≡ b
 same_maybe None None ra rb h = refl
@@ -110,12 +109,11 @@ same_row a b opened pid creator creator_gate dest dest_gate = grind arith
 
 same_command : (a b : Command) → IsSaidCommand a → IsSaidCommand b → command_words a ≡ command_words b → a ≡ b
 same_command (command.Create r) (command.Create s) ra rb h =
-    let pid : r.pid ≡ s.pid = same_byte r.pid s.pid ra.1.pid rb.1.pid cc in
     let creator : r.creator ≡ s.creator = same_byte r.creator s.creator ra.1.creator rb.1.creator cc in
     let creator_gate : r.creator_gate ≡ s.creator_gate = same_byte r.creator_gate s.creator_gate ra.1.creator_gate rb.1.creator_gate cc in
     let dest : r.dest ≡ s.dest = same_byte r.dest s.dest ra.1.dest rb.1.dest cc in
     let dest_gate : r.dest_gate ≡ s.dest_gate = same_byte r.dest_gate s.dest_gate ra.1.dest_gate rb.1.dest_gate cc in
-    ap command.Create (same_row r s (ra.0 ∙ sym rb.0) pid creator creator_gate dest dest_gate)
+    ap command.Create (same_row r s (ra.0 ∙ sym rb.0) (same_byte r.pid s.pid ra.1.pid rb.1.pid cc) creator creator_gate dest dest_gate)
 same_command (command.Delete p) (command.Delete q) ra rb h = ap command.Delete (same_byte p q ra rb cc)
 same_command (command.Clear n) (command.Clear m) ra rb h = ap command.Clear (same_byte n m ra rb cc)
 same_command (command.SetOpened n p o) (command.SetOpened m q u) ra rb h =
@@ -123,12 +121,10 @@ same_command (command.SetOpened n p o) (command.SetOpened m q u) ra rb h =
     let pid : p ≡ q = same_byte p q ra.1 rb.1 cc in
     let opened : o ≡ u = same_flag o u cc in cc
 same_command (command.Set n g p x) (command.Set m k q y) ra rb h =
-    let host : n ≡ m = same_byte n m ra.0 rb.0 cc in
     let gate : g ≡ k = same_byte g k ra.1 rb.1 cc in
     let param : p ≡ q = same_byte p q ra.2 rb.2 cc in
-    let value : x.items ≡ y.items = same_value x.items y.items ra.3 rb.3 cc in
-    ap (λ i. command.Set i g p x) host ∙ ap (λ i. command.Set m i p x) gate ∙ ap (λ i. command.Set m k i x) param
-    ∙ ap (λ xs. command.Set m k q (record { items = xs })) value
+    ap (λ i. command.Set i g p x) (same_byte n m ra.0 rb.0 cc) ∙ ap (λ i. command.Set m i p x) gate ∙ ap (λ i. command.Set m k i x) param
+    ∙ ap (λ xs. command.Set m k q (record { items = xs })) (same_value x.items y.items ra.3 rb.3 cc)
 same_command (command.Sync n i) (command.Sync m j) ra rb h =
     let host : n ≡ m = same_byte n m ra.0 rb.0 cc in
     let id : i ≡ j = same_two i j ra.1 rb.1 cc in cc
@@ -144,9 +140,8 @@ same_said (line.Deliver e n) (line.Deliver f m) ra rb h =
     let number : n ≡ m = same_maybe n m ra.1 rb.1 (behind_two _ _ _ _ _ _ h) in cc
 same_said (line.Lose e) (line.Lose f) ra rb h = ap line.Lose (same_end e f ra rb cc)
 same_said (line.Damage e p) (line.Damage f q) ra rb h =
-    let end : e ≡ f = same_end e f ra.0 rb.0 cc in
     let places : p.items ≡ q.items = same_map decimal IsNumber same_number p.items q.items ra.1 rb.1 (behind_two _ _ _ _ _ _ h) in
-    ap (λ at. line.Damage at p) end ∙ ap (λ ps. line.Damage f (record { items = ps })) places
+    ap (λ at. line.Damage at p) (same_end e f ra.0 rb.0 cc) ∙ ap (λ ps. line.Damage f (record { items = ps })) places
 same_said (line.Tick n) (line.Tick m) ra rb h = ap line.Tick (same_maybe n m ra rb (behind _ _ _ _ h))
 same_said (line.Reset e n) (line.Reset f m) ra rb h =
     let end : e ≡ f = same_end e f ra.0 rb.0 cc in
@@ -160,10 +155,9 @@ same_said (line.Activate n s p) (line.Activate m t q) ra rb h =
     let sync : s ≡ t = same_two s t ra.1 rb.1 cc in
     let power : p ≡ q = same_byte p q ra.2 rb.2 cc in cc
 same_said (line.Arm n k x) (line.Arm m l y) ra rb h =
-    let node : n ≡ m = same_byte n m ra.0 rb.0 cc in
     let nth : k ≡ l = same_number k l ra.1 rb.1 cc in
     let fill : x.items ≡ y.items = same_bytes x.items y.items ra.2 rb.2 cc in
-    ap (λ i. line.Arm i k x) node ∙ ap (λ i. line.Arm m i x) nth ∙ ap (λ xs. line.Arm m l (record { items = xs })) fill
+    ap (λ i. line.Arm i k x) (same_byte n m ra.0 rb.0 cc) ∙ ap (λ i. line.Arm m i x) nth ∙ ap (λ xs. line.Arm m l (record { items = xs })) fill
 same_said (line.Init e i p) (line.Init f j q) ra rb h =
     let end : e ≡ f = same_end e f ra.0 rb.0 cc in
     let identity : i ≡ j = same_bytes i j ra.1 rb.1 cc in
@@ -258,8 +252,7 @@ same_pair a b first second = ap (λ x. (x, a.1)) first ∙ ap (λ x. (b.0, x)) s
 
 same_static : (a b : ℕ × ℕ) → IsSaidStatic a → IsSaidStatic b → static_words a ≡ static_words b → a ≡ b
 same_static a b ra rb h =
-    let host : a.0 ≡ b.0 = same_byte a.0 b.0 ra.0 rb.0 cc in
-    let pid : a.1 ≡ b.1 = same_byte a.1 b.1 ra.1 rb.1 cc in same_pair a b host pid
+    let pid : a.1 ≡ b.1 = same_byte a.1 b.1 ra.1 rb.1 cc in same_pair a b (same_byte a.0 b.0 ra.0 rb.0 cc) pid
 
 same_reg : (a b : RegValue) → IsSaidValue a → IsSaidValue b → value_words a ≡ value_words b → a ≡ b
 same_reg a b ra rb h =
@@ -271,8 +264,7 @@ same_reg a b ra rb h =
 
 same_sync : (a b : ℕ × ℕ) → IsSaidSync a → IsSaidSync b → sync_words a ≡ sync_words b → a ≡ b
 same_sync a b ra rb h =
-    let host : a.0 ≡ b.0 = same_byte a.0 b.0 ra.0 rb.0 cc in
-    let id : a.1 ≡ b.1 = same_two a.1 b.1 ra.1 rb.1 cc in same_pair a b host id
+    let id : a.1 ≡ b.1 = same_two a.1 b.1 ra.1 rb.1 cc in same_pair a b (same_byte a.0 b.0 ra.0 rb.0 cc) id
 
 -- lists of the same length, with something behind them
 pub cut_at : {X : Type 0} (xs ys r s : List X) → length xs ≡ length ys → xs ++ r ≡ ys ++ s → (xs ≡ ys) × (r ≡ s)
@@ -281,8 +273,7 @@ cut_at [] (y ∷ ys) r s e h = absurd (omega arith)
 cut_at (x ∷ xs) [] r s e h = absurd (omega arith)
 cut_at (x ∷ xs) (y ∷ ys) r s e h =
     let first : x ≡ y = cc in
-    let more : xs ++ r ≡ ys ++ s = cc in
-    let behind = cut_at xs ys r s (omega arith) more in (ap (λ z. z ∷ xs) first ∙ ap (λ zs. y ∷ zs) behind.0, behind.1)
+    let behind = cut_at xs ys r s (omega arith) cc in (ap (λ z. z ∷ xs) first ∙ ap (λ zs. y ∷ zs) behind.0, behind.1)
 
 -- tables have so many rows of each kind
 pub record SameCounts (t u : HciTables) : Type 0 where
@@ -333,7 +324,6 @@ hosts_are_bytes header known = grind arith
 same_header : (a b : Header) → MayBegin a → MayBegin b → header_words a ≡ header_words b → a ≡ b
 same_header a b ra rb h =
     let hosts : map byte_text a.hosts.items ≡ map byte_text b.hosts.items = cc in
-    let world : cond a.hci (codes "hci") (codes "bare") ≡ cond b.hci (codes "hci") (codes "bare") = cc in
     let items = same_map byte_text IsByte same_byte a.hosts.items b.hosts.items (hosts_are_bytes a ra) (hosts_are_bytes b rb) hosts in
     let made : Bool → List ℕ → Header = λ hci xs. record { hci = hci; hosts = record { items = xs } } in
     ap (λ hci. made hci a.hosts.items) (grind arith) ∙ ap (made b.hci) items

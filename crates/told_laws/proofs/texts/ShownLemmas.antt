@@ -3,17 +3,16 @@ use Rattle.hex.specs.Hex.{encode_with}
 use Rattle.std.proofs.lemmas.Grind.{flat_map-append}
 use Rattle.std.specs.Char.{is_ascii_digit}
 use Rattle.std.specs.Str.{all_ascii_digits}
-use Rattle.told_laws.proofs.Words.{All, AllByRecursion, AreOctets, Bool, Command, Contains, End, Entry, Err, HciTables, Header, IfSome, IsCause, IsEnd}
-use Rattle.told_laws.proofs.Words.{IsEndOf, IsEntry, IsHeader, IsLineOf, IsLineSaid, IsNodeOf, IsNumber, IsSome, IsTrue, IsWord, Line, List}
-use Rattle.told_laws.proofs.Words.{MayBegin, MayFollow, MayFollow-line_of, NoCause, None, Ok, Option, PipeRow, RegValue, Says, Some, [], ap, append-nil}
-use Rattle.told_laws.proofs.Words.{append_assoc, arith, by_row, by_words, byte_text, cause_words, command_words, cond, decimal, digits_decimal}
-use Rattle.told_laws.proofs.Words.{encode_upper, end_text, end_word, entry_line, entry_text, entry_words, false, flat_map, found_in, has_nodes}
-use Rattle.told_laws.proofs.Words.{header_hosts, hex_or_dash, hex_word, hosts_of, inl, is_comment, length, length-append, line_of, line_words, lines_behind}
-use Rattle.told_laws.proofs.Words.{list_all, list_all-append, list_any, map, may_stand, nat_lt, node_fits, not, number_word, number_words, own}
-use Rattle.told_laws.proofs.Words.{read_of, refl, says_activate, says_arm, says_boot, says_busy, says_cut, says_damage, says_deliver, says_header, says_init}
-use Rattle.told_laws.proofs.Words.{says_lose, says_nodes, says_ready, says_reset, says_send, says_settle, says_tables, says_tick, slice_index, spaced}
-use Rattle.told_laws.proofs.Words.{subst, suc, sym, true, two_bytes_text, unless_fault, upper_digits, words, words-spaced, ℕ, ◌%◌, ◌&&◌, ◌++◌}
-use Rattle.told_laws.proofs.Words.{◌/◌, ◌<◌, ◌==◌, ◌^◌, ◌↔◌, ◌∙◌, ◌∷◌, ◌≡◌, ◌≤◌}
+use Rattle.told_laws.proofs.Words.{All, AllByRecursion, AreOctets, Bool, Command, Contains, End, Entry, Err, HciTables, Header, IfSome, IsCause, IsEnd, IsEndOf}
+use Rattle.told_laws.proofs.Words.{IsEntry, IsHeader, IsLineOf, IsLineSaid, IsNodeOf, IsNumber, IsSome, IsTrue, IsWord, Line, List, MayBegin, MayFollow}
+use Rattle.told_laws.proofs.Words.{MayFollow-line_of, NoCause, None, Ok, Option, PipeRow, RegValue, Says, Some, [], ap, append-nil, append_assoc, arith, by_row}
+use Rattle.told_laws.proofs.Words.{by_words, byte_text, cause_words, command_words, cond, decimal, digits_decimal, encode_upper, end_text, end_word, entry_line}
+use Rattle.told_laws.proofs.Words.{entry_text, entry_words, false, flat_map, found_in, has_nodes, header_hosts, hex_or_dash, hex_word, hosts_of, inl}
+use Rattle.told_laws.proofs.Words.{is_comment, length, length-append, line_of, line_words, lines_behind, list_all, list_all-append, list_any, map, may_stand}
+use Rattle.told_laws.proofs.Words.{nat_lt, node_fits, not, number_word, number_words, own, read_of, refl, says_activate, says_arm, says_boot, says_busy}
+use Rattle.told_laws.proofs.Words.{says_cut, says_damage, says_deliver, says_header, says_init, says_lose, says_nodes, says_ready, says_reset, says_send}
+use Rattle.told_laws.proofs.Words.{says_settle, says_tables, says_tick, slice_index, spaced, subst, suc, sym, true, two_bytes_text, unless_fault, upper_digits}
+use Rattle.told_laws.proofs.Words.{words, words-spaced, ℕ, ◌%◌, ◌&&◌, ◌++◌, ◌/◌, ◌<◌, ◌==◌, ◌^◌, ◌↔◌, ◌∙◌, ◌∷◌, ◌≡◌, ◌≤◌}
 use Rattle.schedule_text.proofs.HostsLemmas.{row_unknown}
 use Rattle.schedule_text.proofs.RowsLemmas.{no_fault, row_cases}
 use Rattle.schedule_text.specs.Forms.{FormRow, activate_row, arm_row, boot_row, busy_row, cut_row, damage_row, deliver_row, header_row, init_row, lose_row}
@@ -371,9 +370,7 @@ all_words (w ∷ ws) h = (h.0.0, all_words ws h.1)
 spaced_inside : (ws : List (List ℕ)) → AllByRecursion IsClean ws → list_all is_inside (spaced ws) ≡ true
 spaced_inside [] h = refl
 spaced_inside (w ∷ []) h = h.0.1
-spaced_inside (w ∷ v ∷ ws) h =
-    let behind : list_all is_inside (spaced (v ∷ ws)) ≡ true = spaced_inside (v ∷ ws) h.1 in
-    list_all-append is_inside w (32 ∷ spaced (v ∷ ws)) ∙ rw (h.0.1, behind) refl
+spaced_inside (w ∷ v ∷ ws) h = list_all-append is_inside w (32 ∷ spaced (v ∷ ws)) ∙ rw (h.0.1, (spaced_inside (v ∷ ws) h.1)) refl
 
 inside_end : (b : ℕ) (t : Bool) → (not (b == 10) && t) ≡ true → b ≡ 10 → ⊥
 inside_end b t h e = let bad : (not (10 == 10) && t) ≡ true = subst (λ c. (not (c == 10) && t) ≡ true) e h in cc
@@ -388,19 +385,14 @@ cut [] (c ∷ y) r s a b h = absurd (inside_end c _ b cc)
 cut (c ∷ x) [] r s a b h = absurd (inside_end c _ a cc)
 cut (c ∷ x) (d ∷ y) r s a b h =
     let same : c ≡ d = cc in
-    let tails : x ++ (10 ∷ r) ≡ y ++ (10 ∷ s) = cc in
-    let behind = cut x y r s (rest_inside _ _ a) (rest_inside _ _ b) tails in
+    let behind = cut x y r s (rest_inside _ _ a) (rest_inside _ _ b) cc in
     (ap (λ e. e ∷ x) same ∙ ap (λ t. d ∷ t) behind.0, behind.1)
 
 same_words : (ws vs : List (List ℕ)) → IsCleanLine ws → IsCleanLine vs → spaced ws ≡ spaced vs → ws ≡ vs
 same_words ws vs rw rv h = sym (words-spaced ws (all_words ws rw)) ∙ ap words h ∙ words-spaced vs (all_words vs rv)
 
 no_line : (ws : List (List ℕ)) (rest : List ℕ) → told_line ws ++ rest ≡ [] → ⊥
-no_line ws rest h =
-    let long = length-append (told_line ws) rest in
-    let line = length-append (spaced ws) (10 ∷ []) in
-    let none : length (told_line ws ++ rest) ≡ 0 = ap length h in
-    omega (arith, long, line, none)
+no_line ws rest h = omega (arith, (length-append (told_line ws) rest), (length-append (spaced ws) (10 ∷ [])), (ap length h))
 
 -- texts of lines
 same_lines : (xs ys : List (List (List ℕ))) → AllByRecursion IsCleanLine xs → AllByRecursion IsCleanLine ys
@@ -462,8 +454,7 @@ same_said_lines (a ∷ xs) (b ∷ ys) ra rb h =
     let is_a = ra 0 a (omega arith) in
     let is_b = rb 0 b (omega arith) in
     let first : entry_words a ≡ entry_words b = cc in
-    let behind : words_behind a ++ flat_map entry_lines xs ≡ words_behind b ++ flat_map entry_lines ys = cc in
-    let parts = cut_at (words_behind a) (words_behind b) _ _ (as_many a b is_a is_b first) behind in
+    let parts = cut_at (words_behind a) (words_behind b) _ _ (as_many a b is_a is_b first) cc in
     let entry : a ≡ b = same_entry a b is_a is_b first parts.0 in
     let rest : xs ≡ ys = same_said_lines xs ys (λ k d within. ra (suc k) d (omega arith)) (λ k d within. rb (suc k) d (omega arith)) parts.1 in cc
 
@@ -483,9 +474,8 @@ same_ended xs ys v w rv rz ra rb h =
     (sym (with_last xs v) ∙ h ∙ with_last ys w) in
     let long = length-append (flat_map entry_lines xs) (v ∷ []) in
     let other = length-append (flat_map entry_lines ys) (w ∷ []) in
-    let same = ap length lines in
     same_said_lines xs ys ra rb
-    (cut_at (flat_map entry_lines xs) (flat_map entry_lines ys) (v ∷ []) (w ∷ []) (omega (arith, long, other, same)) lines).0
+    (cut_at (flat_map entry_lines xs) (flat_map entry_lines ys) (v ∷ []) (w ∷ []) (omega (arith, long, other, (ap length lines))) lines).0
   where
     with_last : (xs : List Entry) (v : List (List ℕ)) → flat_map entry_line xs ++ told_line v ≡ flat_map told_line (flat_map entry_lines xs ++ v ∷ [])
     with_last xs v =

@@ -1,15 +1,14 @@
 -- The frames of ends and wires, and a bare link with them, are in their ranges behind each thing that happens.
 use Rattle.told_laws.proofs.Words.{AllByRecursion, AllByRecursion-get, AllByRecursion-take, AsksReset, Bare, Bool, Control, Due, End, EndEvent, EndIsLow}
-use Rattle.told_laws.proofs.Words.{EndState, FetchMessage, FewRsets, Fragment, Give, Given, GoesOut, Hold, I, IsByte, Link, LinkEnd, LinkInput, List}
-use Rattle.told_laws.proofs.Words.{Lose, Loss, Message, NextFrame, NoInput, None, NumberedEnd, OnWire, Option, Readied, Refused, Reset, Rset, S, Some}
-use Rattle.told_laws.proofs.Words.{Step, Take, Taken, Tick, Ticked, Ua, WasLost, WasReset, WireIsLow, [], after_frames, after_input, aged, aged_wire}
-use Rattle.told_laws.proofs.Words.{all_frames, all_mapped, among, ap, arith, at, bare_link, becomes, by_list, by_option, by_test, common_steps}
-use Rattle.told_laws.proofs.Words.{control_due, drop, each-append, ended_by, exchanged, expected, fetched, fits, fragment_due, frame_due, frames_of, frames_out}
-use Rattle.told_laws.proofs.Words.{give_refusal, given, had_tick, happens, happens_at_controller, has_input, is_open, is_rset, is_some, length}
-use Rattle.told_laws.proofs.Words.{length-append, link_after, map, nat_lt, not, packet_bytes, packet_count, packets_of, parts_of, put}
-use Rattle.told_laws.proofs.Words.{put_all, put_out, refl, reset_with, sent_all, silent, stopped, subst, suc, sym, take, taken, ticked}
-use Rattle.told_laws.proofs.Words.{ticks_at_controller, took, took_with, true, turn, unless, with_controller, with_ended, with_ready, zero, ℕ, ◌%◌, ◌++◌, ◌+◌}
-use Rattle.told_laws.proofs.Words.{◌<◌, ◌==◌, ◌∷◌, ◌≡◌, ◌≤◌}
+use Rattle.told_laws.proofs.Words.{EndState, FetchMessage, FewRsets, Fragment, Give, Given, GoesOut, Hold, I, IsByte, Link, LinkEnd, LinkInput, List, Lose}
+use Rattle.told_laws.proofs.Words.{Loss, Message, NextFrame, NoInput, None, NumberedEnd, OnWire, Option, Readied, Refused, Reset, Rset, S, Some, Step, Take}
+use Rattle.told_laws.proofs.Words.{Taken, Tick, Ticked, Ua, WasLost, WasReset, WireIsLow, [], after_frames, after_input, aged, aged_wire, all_frames}
+use Rattle.told_laws.proofs.Words.{all_mapped, among, ap, arith, at, bare_link, becomes, by_list, by_option, by_test, common_steps, control_due, drop}
+use Rattle.told_laws.proofs.Words.{each-append, ended_by, exchanged, expected, fetched, fits, fragment_due, frame_due, frames_of, frames_out, give_refusal}
+use Rattle.told_laws.proofs.Words.{given, had_tick, happens, happens_at_controller, has_input, is_open, is_rset, is_some, length, length-append, link_after}
+use Rattle.told_laws.proofs.Words.{map, nat_lt, not, packet_bytes, packet_count, packets_of, parts_of, put, put_all, put_out, refl, sent_all, silent, subst}
+use Rattle.told_laws.proofs.Words.{suc, sym, take, ticks_at_controller, took, took_with, true, turn, unless, with_controller, with_ended, zero, ℕ, ◌%◌, ◌++◌}
+use Rattle.told_laws.proofs.Words.{◌+◌, ◌<◌, ◌∷◌, ◌≡◌, ◌≤◌}
 use Rattle.history.specs.Histories.{Cause}
 
 -- ## The frames of an SHDLC end are in their ranges, whatever comes to it
@@ -43,13 +42,7 @@ fresh out own tries made few h = record { fragments = tt; window = h.window; few
 
 -- ### Frames that come
 
-pub ranged_taken : (e : EndState) (c : Control) → Ranged e → Ranged (taken e c)
-ranged_taken e c h = grind arith
-
 -- ### Ticks
-
-pub ranged_ticked : (e : EndState) → Ranged e → Ranged (ticked e)
-ranged_ticked e h = grind arith
 
 -- after so many tries an end gives up, where it does
 abbrev pub IfTries : Option ℕ → Type 0
@@ -57,15 +50,6 @@ IfTries None = Unit {0}
 IfTries (Some tries) = tries ≤ 5
 
 -- ### What the node asks for
-
-pub ranged_reset : (e : EndState) (w : ℕ) → w ≤ 4 → Ranged e → Ranged (reset_with e w)
-ranged_reset e w low h = grind arith
-
-pub ranged_stopped : (e : EndState) → Ranged e → Ranged (stopped e)
-ranged_stopped e h = fresh _ _ e.tries _ (omega arith) h
-
-ready-in : (e : EndState) (before after answered : Bool) → e.ready ≡ before → e.session.answered_rnr ≡ answered → Ranged e → Ranged (with_ready e after)
-ready-in e before after answered q r h = grind arith
 
 pub ranged_out : (e : EndState) (fragments : List Fragment) → AllByRecursion IsFragment fragments → Ranged e → Ranged (put_out e fragments)
 ranged_out e fragments more h =
@@ -78,7 +62,6 @@ due_frame : (e : EndState) (due : List Due) (q : Option Fragment) (c : Control) 
 due_frame e (d ∷ due) q c f h is = let same : control_due e d ≡ c = cc in subst IsFrame same (grind arith)
 due_frame e [] None c f h is = absurd (let z : None ≡ Some c = rw f at is in cc)
 due_frame e [] (Some info) c f h is =
-    let z : Some (I (e.session.next % 8) (expected e.session) info) ≡ Some c = rw f at is in
     let same : I (e.session.next % 8) (expected e.session) info ≡ c = cc in
     let frame : IsFrame (I (e.session.next % 8) (expected e.session) info) = (
       omega arith,
@@ -87,18 +70,15 @@ due_frame e [] (Some info) c f h is =
     ) in
     subst IsFrame same frame
 
-ranged_fetched : (e : EndState) → Ranged e → Ranged (fetched e)
-ranged_fetched e h = grind arith
-
 pub ranged_after : (n : ℕ) (e : EndState) → Ranged e → Ranged (after_frames n e)
 ranged_after zero e h = h
-ranged_after (suc n) e h = ranged_after n (fetched e) (ranged_fetched e h)
+ranged_after (suc n) e h = ranged_after n (fetched e) (grind arith)
 
 pub frames_in : (n : ℕ) (e : EndState) → Ranged e → AllByRecursion IsFrame (frames_of n e)
 frames_in zero e h = tt
 frames_in (suc n) e h = by_option (frame_due e)
     (λ q. rw q tt)
-    (λ c q. rw q (due_frame e e.due (fragment_due e.session) c refl h q, frames_in n (fetched e) (ranged_fetched e h)))
+    (λ c q. rw q (due_frame e e.due (fragment_due e.session) c refl h q, frames_in n (fetched e) (grind arith)))
 
 pub frames_few : (n : ℕ) (e : EndState) → length (frames_of n e) ≤ n
 frames_few zero e = omega arith
@@ -136,12 +116,8 @@ module _ (P : Control → Type 0) where
   each_pushed n [] x h is = (is, tt)
   each_pushed n (y ∷ w) x h is = (h.0, each_pushed n w x h.1 is)
 
-  -- the frames on a wire with one more
-  pushed_is : (n : ℕ) (w : List OnWire) (x : OnWire) → WireIs P n w → FrameIs P n x → AllByRecursion (FrameIs P n) (w ++ x ∷ [])
-  pushed_is n w x h is = each_pushed n w x h.frames is
-
   wire_put : (n : ℕ) (w : List OnWire) (x : OnWire) → WireIs P n w → FrameIs P n x → WireIs P n (fits (w ++ x ∷ []))
-  wire_put n w x h is = let h0 = pushed_is n w x h is in let h1 = length-append w (x ∷ []) in grind arith
+  wire_put n w x h is = let h0 = (each_pushed n w x h.frames is) in let h1 = length-append w (x ∷ []) in grind arith
 
   each_aged : (n : ℕ) (w : List OnWire) → AllByRecursion (FrameIs P n) w → AllByRecursion (FrameIs P n) (aged_wire w)
   each_aged n [] h = tt
@@ -202,13 +178,12 @@ module _ (P : Control → Type 0) where
   pub so_more : {Q R S T : LinkEnd → Type 0} (n k : ℕ) (l : Link) → n ≤ k → (Q l.controller.side → S l.controller.side) → (R l.host.side → T l.host.side)
       → LinkSo P Q R n l → LinkSo P S T k l
   so_more n k l more near far h =
-      let r = h.resets in
       record {
         near = numbered_more n k l.controller more near h.near;
         far = numbered_more n k l.host more far h.far;
         to_near = wire_more P n k l.to_controller more h.to_near;
         to_far = wire_more P n k l.to_host more h.to_far;
-        resets = omega (arith, r, more);
+        resets = omega (arith, h.resets, more);
       }
 
   -- no number is above a greater one
@@ -219,8 +194,7 @@ module _ (P : Control → Type 0) where
   pub so_within : {Q R S T : LinkEnd → Type 0} (n k : ℕ) (l : Link) → FewRsets k l → (Q l.controller.side → S l.controller.side)
       → (R l.host.side → T l.host.side) → LinkSo P Q R n l → LinkSo P S T k l
   so_within n k l few near far h =
-      let made = few.made in
-      let low : l.resets ≤ k = omega (arith, made) in
+      let low : l.resets ≤ k = omega (arith, few.made) in
       record {
         near = numbered_within n k l.resets l.controller low near few.numbered.controller h.near;
         far = numbered_within n k l.resets l.host low far few.numbered.host h.far;
@@ -367,10 +341,7 @@ end_given n e m is h =
     })
 
 pub end_held : (n : ℕ) (e : LinkEnd) (held : Bool) → EndIs n e → EndIs n (turn e (Hold held))
-end_held n e held h = record { bare = h.bare; acts = h.acts; few = h.few; ranged = ready-in e.shdlc e.shdlc.ready (not held) _ refl refl h.ranged }
-
-pub end_fetched : (n : ℕ) (e : LinkEnd) → EndIs n e → EndIs n (turn e FetchMessage)
-end_fetched n e h = record { bare = h.bare; acts = h.acts; few = h.few; ranged = h.ranged }
+end_held n e held h = record { bare = h.bare; acts = h.acts; few = h.few; ranged = (grind arith) }
 
 -- ### The link
 
@@ -417,7 +388,7 @@ link_taken most n l h = by_list l.to_controller
     (λ x xs q. let wire : WireIs IsFrame n (x ∷ xs) = subst (WireIs IsFrame n) q h.to_near in
     let e : LinkEnd = after_input l.controller.side (Take x.frame) in
     rw q (link_becomes most n (left_with l x xs) (turn e FetchMessage)
-    (end_fetched most e (end_took most l.controller.side x.frame wire.frames.0.frame h.near.side)) (so_left IsFrame n l x xs q h)))
+    (grind arith) (so_left IsFrame n l x xs q h)))
 
 pub link_ticked : (most n : ℕ) (l : Link) → LinkIs most n l → LinkIs most (n + 12) (ticks_at_controller l [] GoesOut)
 link_ticked most n l h = link_input most n l Tick (end_ticked most l.controller.side h.near.side) h

@@ -1,7 +1,7 @@
 -- What is noted of an input, of frames and of an event of a bare link is in its range, but for the messages that came.
 use Rattle.std.specs.Prelude.{is_some, not}
 use Rattle.told_laws.proofs.Words.{Acked, AllByRecursion, AsksReset, Bool, Control, Controller, Emit, EndEvent, FetchMessage, GaveUp, Give, Given}
-use Rattle.told_laws.proofs.Words.{GoesOut, Got, HasTick, Hold, Host, Link, LinkEnd, LinkInput, List, Loss, Lost, Message, NamedEnd, NextFrame, NoInput}
+use Rattle.told_laws.proofs.Words.{GoesOut, Got, HasTick, Hold, Host, Link, LinkEnd, LinkInput, List, Lost, Message, NamedEnd, NextFrame, NoInput}
 use Rattle.told_laws.proofs.Words.{NumberedEnd, OnWire, Option, Readied, Report, Reset, Sent, Take, Taken, Ticked, TooMany, Took, WasLost, WasReset}
 use Rattle.told_laws.proofs.Words.{[], after_input, aged, aged_entries, all_map, all_mapped, anyone, arith, at, by_test, cond_both, each-append, ended_by}
 use Rattle.told_laws.proofs.Words.{event_entries, event_of, exchanged, far, first_lost, frames_out, gave_up_by, here_entries, idle, if_so, length}
@@ -12,7 +12,7 @@ use Rattle.history.specs.Histories.{Cause}
 use Rattle.link_laws.proofs.machine.Sound.{whole_few}
 use Rattle.link_laws.specs.entries.Entries.{End, Entry}
 use Rattle.link_laws.specs.entries.Entries.Entry.{Up}
-use Rattle.told_laws.proofs.told.Links.{CanTell, EndIs, FrameIs, IfTries, IsFrame, IsLowWindow, IsTellable, LinkIs, WireIs, end_fetched, end_given, end_held}
+use Rattle.told_laws.proofs.told.Links.{CanTell, EndIs, FrameIs, IfTries, IsFrame, IsLowWindow, IsTellable, LinkIs, WireIs, end_given, end_held}
 use Rattle.told_laws.proofs.told.Links.{end_reset, end_ticked, end_took, left_with, link_more, link_ticked, out_is, so_aged, so_ended, so_exchanged, so_left}
 
 -- ## What is noted of an input and of frames is in its range, whichever frames and messages may be
@@ -50,20 +50,16 @@ module _ (P : Control → Type 0) (S G : Message → Type 0) (n : ℕ) where
   pub noted_told : (who : End) (k : ℕ) (r : Report) (acked : ℕ) → k ≤ n → acked ≤ n → IfTries r.gave_up → AllByRecursion G r.got
       → AreNotedOfNoting (told who k r acked)
   noted_told who k r acked low few tries got =
-      let h0 = if_so (nat_lt 0 r.acked) (Acked who k acked) in let h1 = so_noted (nat_lt 0 r.acked) (Acked who k acked) (low, few) in
       let h2 = all_map G IsNotedOfNoting (Got who k) (λ m is. (low, is)) r.got got in grind arith
 
   -- ### Of frames
-
-  pub noted_first : (who : End) (why : Loss) (w : List OnWire) → AreFrames P w → AreNotedOfNoting (first_lost who why w)
-  noted_first who why w h = grind arith
 
   pub noted_aged : (who : End) (w : List OnWire) → AreFrames P w → AreNotedOfNoting (aged_entries who w)
   noted_aged who [] h = tt
   noted_aged who (x ∷ xs) h = by_test (nat_lt x.age 4) (λ q. rw q (noted_aged who xs h.1)) (λ q. rw q (h.0, noted_aged who xs h.1))
 
   pushed : (who : End) (w : List OnWire) → AreFrames P w → AreNotedOfNoting (pushed_out who w)
-  pushed who w h = cond_both (nat_lt 64 (length w)) (first_lost who TooMany w) [] AreNotedOfNoting (λ _. noted_first who TooMany w h) (λ _. tt)
+  pushed who w h = cond_both (nat_lt 64 (length w)) (first_lost who TooMany w) [] AreNotedOfNoting (λ _. (grind arith)) (λ _. tt)
 
   wire_after : (l : Link) (c : Control) → AreFrames P (wire_with l c) → AreFrames P (put l c).to_host
   wire_after l c h = grind arith
@@ -126,8 +122,6 @@ noted_rest n k who l e is h = noted_out n k who (frames_out e) l (out_is k e is)
 
 noted_sent : (n : ℕ) (who : End) (l : Link) (m : Message) → IsTellable m → LinkIs n n l → AreNoted (n + 1) (step_entries who l NoInput (Give m ∷ []) GoesOut)
 noted_sent n who l m is h =
-    let a = h.near.emitted in
-    let b = h.near.took in
     let e : LinkEnd = turn l.controller.side (Give m) in
     each-append (IsNoted (n + 1)) (turn_entries who (number_of l.controller) l.controller.side (Give m ∷ [])) (puts_entries who l (frames_out e))
     (each-append (IsNoted (n + 1)) (turn_entry who (number_of l.controller) l.controller.side (Give m)) [] (grind arith) tt)
@@ -173,7 +167,7 @@ noted_taken n who l h = go l.to_controller refl
           wire.frames.0.frame,
           each-append (IsNoted n) (told_of who near_end (Take x.frame)) (rest_entries who (left_with l x xs) e (FetchMessage ∷ []) GoesOut)
               (noted_input n who near_end (Take x.frame) h.near.emitted (grind arith) is tt)
-              (noted_out n n who (frames_out (turn e FetchMessage)) (left_with l x xs) (out_is n (turn e FetchMessage) (end_fetched n e is))
+              (noted_out n n who (frames_out (turn e FetchMessage)) (left_with l x xs) (out_is n (turn e FetchMessage) (grind arith))
               (so_left IsFrame n l x xs q h)),
         )
 

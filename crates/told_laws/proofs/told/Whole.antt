@@ -61,8 +61,7 @@ module _ (header : Header) where
     nodes_sure : header.hci ≡ true → (lines before : List Line) → AreSure before lines → NoneIsMisread (nodes_behind header before) lines
     nodes_sure hci [] before sure = tt
     nodes_sure hci (l ∷ lines) before sure =
-        let w : NodeWorld = nodes_behind header before in
-        let same : misread_below header before l ≡ misread_in w l = rw hci refl in (
+        let same : misread_below header before l ≡ misread_in (nodes_behind header before) l = rw hci refl in (
           sym same ∙ sure.0,
           subst (λ (v : NodeWorld). NoneIsMisread v lines) (after-append before (l ∷ []) (new_world header.hosts.items))
               (nodes_sure hci lines (before ++ l ∷ []) sure.1),
@@ -95,11 +94,10 @@ module _ (header : Header) where
         let outcome : Outcome = outcome_of (host_of header) l said in
         let here : List Entry = noted outcome in
         let later : List Entry = flat_map step_told (steps_on (link_after_line l outcome) lines) in
-        let same : told_below header before said ≡ here = rw bare (ap (λ (m : Link). noted (outcome_of (host_of header) m said)) is) in
         let next : bare_link_behind header (before ++ said ∷ []) ≡ link_after_line l outcome =
         one_more before said ∙ ap (λ (m : Link). link_after_line m (outcome_of (host_of header) m said)) is in
         each-append IsEntry (told_below header before said) (told_behind header (before ++ said ∷ []) lines)
-        (subst (AllByRecursion IsEntry) (sym same) (front_each IsEntry here later told.1))
+        (subst (AllByRecursion IsEntry) (sym (grind arith)) (front_each IsEntry here later told.1))
         (bare_behind bare lines (before ++ said ∷ []) (link_after_line l outcome) next (back_each IsEntry here later told.1))
 
     told_plays : (plays : List Play) → AllByRecursion (IsPlayFor header) plays → AreFewPlays plays → AreSurePlays plays
@@ -153,9 +151,8 @@ module _ (header : Header) where
         → AllByRecursion IsEntry (told_of_line header before said)
     line_told before (line.Settle n) may told =
         let few = at_most header before n in
-        let most = may.1 in
         each-append IsEntry (told_of_rounds header before (rounds_to_rest header before n)) _
-        (subst (AllByRecursion IsEntry) (sym (rounds_told (rounds_to_rest header before n) before)) told) (omega (arith, few, most), tt)
+        (subst (AllByRecursion IsEntry) (sym (rounds_told (rounds_to_rest header before n) before)) told) (omega (arith, few, may.1), tt)
     line_told before l may told = said_told before l told
 
     abbrev NoneIsMisreadOf : List Line → Type 0
@@ -172,27 +169,21 @@ module _ (header : Header) where
         let may_now : AllByRecursion (MayFollow header) now =
         front_each (MayFollow header) now lines (subst (AllByRecursion (MayFollow header)) parts may) in
         let may_said : MayFollow header said = (back_each (MayFollow header) front (said ∷ []) may_now).0 in
-        let same = ap length parts in
-        let long = length-append now lines in
-        let few_now : length now ≤ 20000 = omega (arith, same, long, few) in
         let next : plays_of header now ≡ before ++ plays_of_line header before said = plays_more header front said in
         let sure_now : AreSurePlays (before ++ plays_of_line header before said) = sure_line before said (none front lines said is) sure in
         let told : AllByRecursion IsEntry (told_of_line header before said) =
         line_told before said may_said
         (told_later before (plays_of_line header before said) (subst (AllByRecursion (IsPlayFor header)) next (plays_for header now may_now))
-        (subst AreFewPlays next (few_plays header now may_now few_now)) sure_now) in
+        (subst AreFewPlays next (few_plays header now may_now (omega (arith, (ap length parts), (length-append now lines), few)))) sure_now) in
         let rest : AllByRecursion IsEntry (told_of_lines header (plays_of header now) lines) =
         lines_told lines now whole parts may few none (subst AreSurePlays (sym next) sure_now) in
         each-append IsEntry (Echo said ∷ told_of_line header before said) (told_of_lines header (before ++ plays_of_line header before said) lines)
         (said_in header begin said may_said, told) (subst (λ (ps : List Play). AllByRecursion IsEntry (told_of_lines header ps lines)) next rest)
-
-    opening_in : AllByRecursion IsEntry (opening_told header)
-    opening_in = grind arith
 
     pub schedule_told_in : (lines : List Line) → AllByRecursion (MayFollow header) lines → length lines ≤ 20000 → NoneIsMisreadOf lines
         → All IsEntry (schedule_told header lines)
     schedule_told_in lines may few none =
         each_all IsEntry (schedule_told header lines) (
           begin,
-          each-append IsEntry (opening_told header) (told_of_lines header [] lines) opening_in (lines_told lines [] lines refl may few none tt),
+          each-append IsEntry (opening_told header) (told_of_lines header [] lines) (grind arith) (lines_told lines [] lines refl may few none tt),
         )

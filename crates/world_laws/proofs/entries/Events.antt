@@ -3,7 +3,7 @@ use Rattle.std.specs.Prelude.{is_some}
 use Rattle.world_laws.proofs.Words.{ActTick, Activate, Activation, AllAllowed, AllKeepPower, AreOwn, AreSendableTurns, AtController, AtHost, Bool, CanStart}
 use Rattle.world_laws.proofs.Words.{Control, Controller, CoreActs, CoreAreTurns, CoreAtController, CoreAtHost, CoreEndEvent, CoreLink, CoreLinkEvent, CoreTick}
 use Rattle.world_laws.proofs.Words.{CoreTickWithout, CoreTurn, CutOff, EndEvent, EndState, EndStep, Ending, GoesOut, Good, HasItsTick, HasTick, Host, IsAllowed}
-use Rattle.world_laws.proofs.Words.{IsDown, IsEvent, IsNode, IsOwn, IsStart, IsUicc, Link, LinkEnd, LinkEvent, List, Lose, Mid, Node, None, NoneIsCut, Now}
+use Rattle.world_laws.proofs.Words.{IsDown, IsEvent, IsNode, IsOwn, IsStart, IsUicc, Link, LinkEnd, LinkEvent, List, Lose, Mid, Node, None, NoneIsCut}
 use Rattle.world_laws.proofs.Words.{NumberedEnd, Option, Reached, Rests, Role, SafeLink, Some, Starts, StartsSo, Step, Tells, Ticks, TicksWithout, Turn, Turns}
 use Rattle.world_laws.proofs.Words.{[], act_answer, act_mid, activated, after_input, aged, aged_entries, all_at_controller, all_here-append, all_step, allowed}
 use Rattle.world_laws.proofs.Words.{ap, append-nil, append_assoc, arith, can_start, clf_starts, core_after, core_aged, core_all, core_all_here, core_event}
@@ -12,12 +12,11 @@ use Rattle.world_laws.proofs.Words.{core_tick_rests, core_ticks_here, core_ticks
 use Rattle.world_laws.proofs.Words.{emitted_here, emitted_if_waiting, emitted_tick, emitted_turns, ended_by, entries, entries_of_events, event_entries}
 use Rattle.world_laws.proofs.Words.{event_step, exchanged, false, first_entries, frames_by, frames_heard, frames_now, frames_of, frames_out, from_controller}
 use Rattle.world_laws.proofs.Words.{from_host, got, got_event, got_here, got_turns, gots_noted, happens, happens_at_controller, here_entries, is_bare, is_clf}
-use Rattle.world_laws.proofs.Words.{is_open, lpdus_heard, map, map-append, mid_moved, most_frames, moved, opened, option_to_list, own_here, own_turns}
-use Rattle.world_laws.proofs.Words.{reached_more, refl, reports_to, rest_both, rest_entries, rests, rests_of, safe_aged, safe_exchanged, safe_reached}
-use Rattle.world_laws.proofs.Words.{safe_turns, seen, sent_then, shdlc_moved, start_good, start_reached, started_clf, step_own, step_tick, subst, sym, tapped}
-use Rattle.world_laws.proofs.Words.{tapped_lpdus, tells_same, tick_answer, tick_closed, tick_closes, tick_entries, tick_if_waiting, tick_open, tick_or_cut}
-use Rattle.world_laws.proofs.Words.{tick_role, ticked, ticked_keeps, ticks_at_controller, told_of, trace, true, true≢false, turned, turns_mid, with_ended, ℕ}
-use Rattle.world_laws.proofs.Words.{◌++◌, ◌∙◌, ◌∷◌, ◌≡◌}
+use Rattle.world_laws.proofs.Words.{is_open, lpdus_heard, map, map-append, most_frames, moved, option_to_list, own_here, own_turns, reached_more, refl}
+use Rattle.world_laws.proofs.Words.{reports_to, rest_both, rest_entries, rests, rests_of, safe_aged, safe_exchanged, safe_reached, safe_turns, seen, sent_then}
+use Rattle.world_laws.proofs.Words.{shdlc_moved, start_good, start_reached, started_clf, step_own, step_tick, subst, sym, tapped, tapped_lpdus, tells_same}
+use Rattle.world_laws.proofs.Words.{tick_answer, tick_closed, tick_closes, tick_entries, tick_if_waiting, tick_open, tick_or_cut, tick_role, ticked}
+use Rattle.world_laws.proofs.Words.{ticks_at_controller, told_of, trace, true, true≢false, turned, turns_mid, with_ended, ℕ, ◌++◌, ◌∙◌, ◌∷◌, ◌≡◌}
 use Rattle.link_laws.specs.entries.Entries.{End, Entry}
 use Rattle.link_laws.specs.entries.Entries.Entry.{Tick}
 use Rattle.link_laws.specs.sessions.Sessions.ShdlcEndEvent.{Cut, Reset, Stop}
@@ -139,8 +138,7 @@ tick_sends who l ts a h r = go (is_open e.role) refl
         let b : Bool = is_some (tick_answer e.shdlc).ended in
         let f : LinkEnd = moved e b (ticked e.shdlc) in
         let us : List CoreTurn = core_turns f ts in
-        let now : Now f = mid_moved e b (ticked e.shdlc) h.now (ticked_keeps e.shdlc h.now.idle) (opened e.role ((ticked e.shdlc).phase ≡ IsDown) o) in
-        let tm = turns_mid None f ts a now in
+        let tm = turns_mid None f ts a (grind arith) in
         let s : EndState = core_turned (ticked e.shdlc) us in
         let is : (turned f ts).shdlc ≡ s = tm.is ∙ ap (λ z. core_turned z us) (shdlc_moved e b (ticked e.shdlc)) in
         let first : core_tick e ts GoesOut ≡ Some us = rw o refl ∙ ap (λ (g : LinkEnd). Some (core_turns g ts)) t.0 in
@@ -154,8 +152,7 @@ tick_sends who l ts a h r = go (is_open e.role) refl
         let t = tick_closed e o in
         let f : LinkEnd = activated e ActTick in
         let act : Option Activation = (act_answer e.role ActTick).send in
-        let down : (act_answer e.role ActTick).ended_link ≡ true → e.shdlc.phase ≡ IsDown = λ z. absurd (true≢false (sym z ∙ tick_closes e.role o)) in
-        let mid = act_mid e ActTick h.now r.due down (λ z. h.now.closed (tick_role e.role z)) in
+        let mid = act_mid e ActTick h.now r.due (λ z. absurd (true≢false (sym z ∙ tick_closes e.role o))) (λ z. h.now.closed (tick_role e.role z)) in
         let us : List CoreTurn = core_turns f ts in
         let tm = turns_mid act f ts a mid.mid in
         let s : EndState = core_turned e.shdlc us in
@@ -362,16 +359,14 @@ tick_frames l m x h t f a b p =
     let first : List Control = emitted_tick (core_exchanged x) (core_tick l.host.side h.turns h.ending) in
     let rest : List Control = emitted_turns (core_ticks_or_cut (core_tick l.host.side h.turns h.ending) (core_exchanged x))
     (core_tick_rest l.host.side h.turns h.ending) in
-    let head : List (Bool × Control) = frames_by true (f ++ (a ++ b)) ++ frames_by false first in
-    let far : AreWritten (first ++ rest) = subst AreWritten same p.last.written in
-    let parts = written_parts first rest far in
+    let parts = written_parts first rest (subst AreWritten same p.last.written) in
     record {
       notes = record {
         frames = n.frames ∙ (ap (λ z. fs ++ frames_by false z) same
             ∙ (append_assoc (frames_by true (f ++ a)) (frames_by true b) (frames_by false (first ++ rest)) ∙ shuffle f a b first rest));
         gots = n.gots;
       };
-      written = both-append head (frames_by false rest)
+      written = both-append (frames_by true (f ++ (a ++ b)) ++ frames_by false first) (frames_by false rest)
           (both-append (frames_by true (f ++ (a ++ b))) (frames_by false first) (both_by true (f ++ (a ++ b)) p.written) (both_by false first parts.0))
           (both_by false rest parts.1);
     }
@@ -415,12 +410,9 @@ tick_done : (l : Link) (e : CoreLinkEvent) (x : CoreLink) (us : List Control) (h
 tick_done l e x us h n sends gets goes power =
     let rest : List CoreEndEvent = core_tick_rest l.host.side h.turns h.ending in
     let d : CoreLink = core_happens (core_of l) e in
-    let turns = (rest_both l.host.side h.turns h.ending).turns in
-    let head : List (Bool × Control) = frames_by true us ++ frames_by false (emitted_tick (core_exchanged x) (core_tick l.host.side h.turns h.ending)) in
     let last : emitted d (map CoreAtHost rest)
     ≡ frames_by false (emitted_turns (core_ticks_or_cut (core_tick l.host.side h.turns h.ending) (core_exchanged x)) rest) =
     emitted_there_all rest d ∙ ap (λ c. frames_by false (emitted_turns c rest)) goes in
-    let all : emitted_event (core_of l) e ++ emitted d (map CoreAtHost rest) ≡ tick_all us x l.host.side h = grind arith in
     grind arith
 
 event_notes : (l : Link) (e : LinkEvent) → IsEvent l e → Good l → Reached (core_of l) → NoCut (event_entries l e)
@@ -444,8 +436,7 @@ event_notes l (Ticks c es h) a g r q =
     let all : List CoreEndEvent = core_all near es in
     let x : CoreLink = core_all_here start (rest ++ all) in
     let one = step_tick (aged l) c.turns c.ending a.0.0 a.0.1 g.controller (rests_of 1 1 (core_of (aged l)) s0) in
-    let rest_turns = rest_both e c.turns c.ending in
-    let s1 = safe_turns 1 rest start rest_turns.turns (tick_or_cut 1 t (core_aged (core_of l)) s0) in
+    let s1 = safe_turns 1 rest start (rest_both e c.turns c.ending).turns (tick_or_cut 1 t (core_aged (core_of l)) s0) in
     let P : CoreLink → Type 0 = λ d. SafeLink 0 1 d in
     let near_safe : SafeLink 0 1 (core_of near) = subst P (sym one.core) s1 in
     let two = all_step 1 near es a.1 one.tells near_safe in
@@ -457,15 +448,13 @@ event_notes l (Ticks c es h) a g r q =
     let f : List Control = emitted_tick (core_aged (core_of l)) t in
     let ra : List Control = emitted_turns start rest in
     let b : List Control = emitted_turns (core_of near) all in
-    let none : reports_to true (got_turns (core_of near) all) ≡ [] = ap (reports_to true) (turns_bring_none all (core_of near) two.turns) in
-    let turns_written : AreWritten b = turns.written in
     let w = notes_then first u (frames_by true (f ++ ra)) (frames_by true b) [] (reports_to true (got_turns (core_of near) all)) near_tick.notes turns.notes in
     let n = tick_frames l m x h (first ++ u) f ra b (record {
       host = host;
       core = two.step.core ∙ (ap (λ d. core_all_here d all) one.core ∙ sym (all_here-append start rest all));
-      notes = record { frames = w.frames; gots = w.gots ∙ none };
+      notes = record { frames = w.frames; gots = w.gots ∙ (ap (reports_to true) (turns_bring_none all (core_of near) two.turns)) };
       last = far_tick;
-      written = subst AreWritten (append_assoc f ra b) (written-append (f ++ ra) b near_tick.written turns_written);
+      written = subst AreWritten (append_assoc f ra b) (written-append (f ++ ra) b near_tick.written turns.written);
     }) in
     let us : List Control = f ++ emitted_turns start (rest ++ all) in
     let sent : f ++ (ra ++ b) ≡ us = ap (λ z. f ++ z) (ap (λ d. ra ++ emitted_turns d all) one.core ∙ sym (turns-append start rest all)) in
@@ -489,7 +478,6 @@ event_notes l (TicksWithout es h) a g r q =
     let P : CoreLink → Type 0 = λ d. SafeLink 0 1 d in
     let near_safe : SafeLink 0 1 (core_of near) = subst P kept (tick_if_waiting 1 (core_aged (core_of l)) s0) in
     let two = all_step 1 near es a.1 g.controller near_safe in
-    let m_safe : SafeLink 0 1 (core_of m) = subst P (sym two.step.core) (safe_turns 1 all (core_of near) two.turns near_safe) in
     let host : m.host ≡ l.host = two.step.host in
     let far_tick = tick_notes Host k h a.2.0 (tells_same m.host l.host host g.host) (grind arith) parts.1 in
     let turns = all_notes {kf = 1} Controller es near a.1 g.controller near_safe parts.0 in
@@ -498,7 +486,6 @@ event_notes l (TicksWithout es h) a g r q =
     let x : CoreLink = core_all_here start all in
     let n = tick_frames l m x h u [] [] b ((grind arith)) in
     let us : List Control = emitted_if_waiting (core_aged (core_of l)) ++ emitted_turns start all in
-    let sent : b ≡ us = sym (ap (λ z. z ++ emitted_turns start all) quiet ∙ ap (λ d. emitted_turns d all) kept) in
     let last = far_power l m h host far_tick.ends in
     tick_done l (CoreTickWithout all (core_tick l.host.side h.turns h.ending)) x us h
     (aged_notes l (u ++ v) (tick_all us x l.host.side h) (grind arith))
@@ -514,7 +501,6 @@ event_notes l (Activate power c id h) a g r q =
     let parts = no_cut_parts t u q in
     let clf : CanStart l.controller.side.role l.host.side.role = clf_starts l.controller.side.role l.host.side.role a.0 in
     let st = event_step l (AtController x) (clf, a.2) g r in
-    let next : Reached (core_of near) = subst Reached (sym st.core) (reached_more (core_of l) es st.allowed r) in
     let host : near.host ≡ l.host = (step_own l (Starts power) c.turns c.ending tt clf a.2 g.controller
     (rests_of 0 0 (core_of l) (safe_reached (core_of l) r))).host in
     let Q : NumberedEnd → Type 0 = λ z. IsUicc z.side.role × IsNode (exchanged (record l { host = z })) h.turns h.ending in
@@ -522,7 +508,7 @@ event_notes l (Activate power c id h) a g r q =
     let starts : CanStart near.host.side.role near.controller.side.role =
     can_start near.host.side.role near.controller.side.role there.0 (started_clf l power c.turns c.ending a.0) in
     let one = at_controller l x (clf, a.2) g r parts.0 in
-    let two = at_host near y (starts, there.1) st.good next parts.1 in
+    let two = at_host near y (starts, there.1) st.good (subst Reached (sym st.core) (reached_more (core_of l) es st.allowed r)) parts.1 in
     let n = notes_then t u (emitted (core_of l) es) (emitted (core_of near) fs) (got (core_of l) es) (got (core_of near) fs) one.notes two.notes in
     record {
       notes = record {
@@ -547,9 +533,8 @@ run_notes (e ∷ events) l a g r q =
     let fs : List CoreLinkEvent = core_events m events in
     let parts = no_cut_parts t u q in
     let st = event_step l e a.0 g r in
-    let next : Reached (core_of m) = subst Reached (sym st.core) (reached_more (core_of l) es st.allowed r) in
     let one = event_notes l e a.0 g r parts.0 in
-    let two = run_notes events m a.1 st.good next parts.1 in
+    let two = run_notes events m a.1 st.good (subst Reached (sym st.core) (reached_more (core_of l) es st.allowed r)) parts.1 in
     let n = notes_then t u (emitted (core_of l) es) (emitted (core_of m) fs) (got (core_of l) es) (got (core_of m) fs) one.notes two.notes in
     record {
       notes = record {
@@ -564,9 +549,6 @@ run_notes (e ∷ events) l a g r q =
 starts_so : (l : Link) → IsStart l → StartsSo (is_bare l.controller.side.role) (core_of l)
 starts_so l a = grind arith
 
-first_silent : (r : Role) → Notes (first_entries r) [] []
-first_silent r = grind arith
-
 -- a new tap over all frames of a run reports what was got
 pub tap_reports : (l : Link) → IsStart l → (events : List LinkEvent) → AllAllowed l events → NoCut (trace l events)
     → tapped (is_bare l.controller.side.role) (frames_heard (trace l events)) ≡ gots_noted (trace l events)
@@ -575,7 +557,7 @@ tap_reports l s events a q =
     let t : List Entry = entries l events in
     let es : List CoreLinkEvent = core_events l events in
     let n = run_notes events l a (start_good l s) (start_reached l s) (no_cut_parts (first_entries r) t q).1 in
-    let all = notes_then (first_entries r) t [] (emitted (core_of l) es) [] (got (core_of l) es) (first_silent r) n.notes in
+    let all = notes_then (first_entries r) t [] (emitted (core_of l) es) [] (got (core_of l) es) (grind arith) n.notes in
     ap (tapped (is_bare r)) all.frames
     ∙ (reported (is_bare r) (core_of l) (core_starts l s) (starts_so l s) es (allowed l s events a) n.power ∙ sym all.gots)
 
@@ -587,6 +569,5 @@ tap_reports_lpdus l s events a q =
     let t : List Entry = entries l events in
     let es : List CoreLinkEvent = core_events l events in
     let n = run_notes events l a (start_good l s) (start_reached l s) (no_cut_parts (first_entries r) t q).1 in
-    let all = notes_then (first_entries r) t [] (emitted (core_of l) es) [] (got (core_of l) es) (first_silent r) n.notes in
-    let written : BothWritten (frames_heard (trace l events)) = subst BothWritten (sym all.frames) n.written in
-    ap (tapped (is_bare r)) (all_read (frames_heard (trace l events)) written) ∙ tap_reports l s events a q
+    let all = notes_then (first_entries r) t [] (emitted (core_of l) es) [] (got (core_of l) es) (grind arith) n.notes in
+    ap (tapped (is_bare r)) (all_read (frames_heard (trace l events)) (subst BothWritten (sym all.frames) n.written)) ∙ tap_reports l s events a q

@@ -10,9 +10,8 @@ use Rattle.world_laws.proofs.Words.{fragment_due-within, fragments_of, frame_due
 use Rattle.world_laws.proofs.Words.{got_by, got_here, got_turns, got_with, heard_end, heard_is, if_up, inl, inr, is_act, is_faulty, is_open, is_rset, is_shdlc}
 use Rattle.world_laws.proofs.Words.{is_some, length, length-take, lpdu_of, map, messages_got, mid_counted, most_frames, moved, news, no_fault_first, not}
 use Rattle.world_laws.proofs.Words.{number_of, packet_bytes, packet_count, packets_in, packets_of, parts_of, passes, polite, refl, reset_by, reset_refusal}
-use Rattle.world_laws.proofs.Words.{reset_tells, reset_with, restart_mid, role_after, role_closes, sent_then, shdlc_moved, slice_get, stopped, subst, suc, sym}
-use Rattle.world_laws.proofs.Words.{take_answer, taken, took, took_closed, took_open, took_with, true, turned, turns_mid, zero, ℕ, ◌%◌, ◌*◌, ◌++◌, ◌+◌, ◌/◌}
-use Rattle.world_laws.proofs.Words.{◌<◌, ◌∙◌, ◌∷◌, ◌≡◌, ◌≤◌, ◌⊎◌}
+use Rattle.world_laws.proofs.Words.{reset_with, restart_mid, role_closes, sent_then, slice_get, stopped, subst, suc, sym, take_answer, taken, took, took_closed}
+use Rattle.world_laws.proofs.Words.{took_open, took_with, true, turned, turns_mid, zero, ℕ, ◌%◌, ◌*◌, ◌++◌, ◌+◌, ◌/◌, ◌<◌, ◌∙◌, ◌∷◌, ◌≡◌, ◌≤◌, ◌⊎◌}
 use Rattle.swp_base.specs.declared.control_frames.Act.TheVariants.{PowerMode, Ready, SyncId}
 use Rattle.world_laws.proofs.fragments.Taking.{Accepted, accepts_none, takes_data}
 
@@ -86,8 +85,7 @@ record Next (e : EndState) (c : Control) : Type 0 where
 
 next_written : (e : EndState) (c : Control) → AreShort e.session.out → frame_due e ≡ Some c → Next e c
 next_written e c a is =
-    let P : EndState → Option Control → Type 0 = λ f o. o ≡ Some c → IsWritten c × AreShort f.session.out in
-    let h = fetch_cases P e
+    let h = fetch_cases (λ f o. o ≡ Some c → IsWritten c × AreShort f.session.out) e
     (λ d ds p n. (subst IsWritten (same (control_due e d) c n) (grind arith), a))
     (λ p q n. cc)
     (λ info p q n.
@@ -184,8 +182,7 @@ news_is e c sound = kinds c sound
         up (Some info) q a =
             let joined : List Fragment → List Message = λ fragments. good_of (given_by [] (packets_in fragments)) in
             let all : are_taken [] (packets_in (e.session.acc ++ info ∷ [])) ≡ true = grind arith in
-            let is : brought_by e.session.acc info ≡ drop (length (joined e.session.acc)) (joined (e.session.acc ++ info ∷ [])) = rw all refl in
-            ap (λ x. drop (length (joined e.session.acc)) (joined x)) a.acc.0 ∙ (sym is ∙ ap (brought e.session.acc) (sym q))
+            ap (λ x. drop (length (joined e.session.acc)) (joined x)) a.acc.0 ∙ (sym (rw all refl) ∙ ap (brought e.session.acc) (sym q))
 
         by_answer : (o : Option Fragment) → (take_answer e c).accepted ≡ o → Accepted (take_answer e c).accepted e (taken e c)
             → news e.session (taken e c) ≡ brought e.session.acc (take_answer e c).accepted
@@ -307,9 +304,8 @@ take_sends l ts x xs a comes = go x.frame refl
         let event : ActEvent = ActTake act again in
         let down = polite e x xs act again q comes.polite in
         let o : Option Activation = (act_answer e.role event).send in
-        let closed : is_open (role_after e.role event) ≡ false → e.shdlc.phase ≡ IsDown = λ z. by (role_closes e.role act again z) in
         let f : LinkEnd = activated e event in
-        let m = act_mid e event comes.tells.now comes.rests.due down closed in
+        let m = act_mid e event comes.tells.now comes.rests.due down (λ z. by (role_closes e.role act again z)) in
         let is : took e x.frame ≡ f = ap (took e) q in
         let us : List CoreTurn = core_turns f ts in
         let tm = turns_mid o f ts a m.mid in
@@ -356,14 +352,11 @@ reset_sends l w ts a h q =
     let e : LinkEnd = l.controller.side in
     let b : Bool = is_some (if_up e.shdlc Asked) in
     let f : LinkEnd = reset_by e w in
-    let t = reset_tells e q in
     let us : List CoreTurn = core_turns f ts in
-    let now : Now f = grind arith in
-    let tm = turns_mid None f ts a now in
+    let tm = turns_mid None f ts a (grind arith) in
     let s : EndState = core_turned (reset_with e.shdlc w) us in
-    let is : (turned f ts).shdlc ≡ s = tm.is ∙ ap (λ z. core_turned z us) (shdlc_moved e b (reset_with e.shdlc w)) in
     record {
-      frames = append-nil (sent_then (reset_with e.shdlc w) us) ∙ sym (out_is None (turned f ts) s tm.mid.acts is);
+      frames = append-nil (sent_then (reset_with e.shdlc w) us) ∙ sym (out_is None (turned f ts) s tm.mid.acts (grind arith));
       gets = refl;
       written = out_written None (turned f ts) tm.mid;
     }
@@ -379,10 +372,9 @@ restart_sends l event ts a h =
     let us : List CoreTurn = core_turns f ts in
     let tm = turns_mid o f ts a m.mid in
     let s : EndState = core_turned (stopped e.shdlc) us in
-    let is : (turned f ts).shdlc ≡ s = tm.is ∙ ap (λ z. core_turned z us) m.same in
     record {
       frames = append-nil (frames_now o ++ sent_then (core_silent (core_of l) (stopped e.shdlc)).controller.side us)
-          ∙ (ap (λ z. frames_now o ++ sent_then z us) (grind arith) ∙ sym (out_is o (turned f ts) s tm.mid.acts is));
+          ∙ (ap (λ z. frames_now o ++ sent_then z us) (grind arith) ∙ sym (out_is o (turned f ts) s tm.mid.acts (grind arith)));
       gets = refl;
       written = out_written o (turned f ts) tm.mid;
     }

@@ -6,14 +6,14 @@ use Rattle.world_laws.proofs.Words.{SafeLink, Session, ShdlcLink, ShdlcTurn, Som
 use Rattle.world_laws.proofs.Words.{arith, at_most_one, by_option, cases_eq, changed, cond, control_due, controls, controls_same, counted_at, ended_session}
 use Rattle.world_laws.proofs.Words.{eq-eqb, expected, false, fetch_cases, fetched, fits, fragment_due, fragment_due-within, frame_due, frames_in_order}
 use Rattle.world_laws.proofs.Words.{frames_of, hears_all, inl, inr, is_in_session, length, length-append, length-take-le, listed_at, map, map-append, max}
-use Rattle.world_laws.proofs.Words.{most_frames, nat_lt, ne_eqb, no_session, none_ended, of_end, of_none, phase_known, put_all-append}
+use Rattle.world_laws.proofs.Words.{most_frames, nat_lt, ne_eqb, no_session, none_ended, phase_known, put_all-append}
 use Rattle.world_laws.proofs.Words.{put_out, ready_by, refl, room, sent_next, shdlc_becomes, shdlc_number_of, shdlc_put, shdlc_put_all, shdlc_session_of}
 use Rattle.world_laws.proofs.Words.{shdlc_turn, shdlc_turned, slice_get, subst, suc, sym, take, take-append-le, tap_hears, tap_tells, tells_all, tells_more}
 use Rattle.world_laws.proofs.Words.{told_by, true, with_fragment, with_number, zero, ℕ, ◌%◌, ◌++◌, ◌+◌, ◌<◌, ◌==◌, ◌∙◌, ◌∷◌, ◌≡◌, ◌≤◌, ◌⊎◌}
 use Rattle.link_laws.proofs.places.Joined.{after_frames_idle, fetched_idle}
 use Rattle.link_laws.specs.sessions.Sessions.ShdlcTurn.{Offer, SetReady}
 pub use Rattle.world_laws.specs.fragments.Knowing.{ever_sent}
-use Rattle.world_laws.proofs.fragments.Wires.{NoUa, is_ua, no_ua-fits, no_ua-push}
+use Rattle.world_laws.proofs.fragments.Wires.{NoUa, is_ua, no_ua-push}
 
 -- ## What a tap that has heard all frames of a link so far knows of its two ends
 
@@ -76,14 +76,6 @@ SameAs n k x = SameLists x (shdlc_session_of n k)
 alike_all : (n : NumberedShdlc) (k : ℕ) → SameAs n k (shdlc_session_of n k)
 alike_all n k = record { acc = refl; sent = refl }
 
--- it ends
-pub alike_end : (n m : NumberedShdlc) → n.side.phase ≡ Up → (m.side.phase ≡ Up → ⊥) → m.past ≡ (shdlc_number_of n, n.side.session) ∷ n.past → Alike n m
-alike_end n m up down past = of_end (SameAs n) n m up down past (alike_all n)
-
--- there is none
-pub alike_none : (n m : NumberedShdlc) → (n.side.phase ≡ Up → ⊥) → (m.side.phase ≡ Up → ⊥) → m.past ≡ n.past → Alike n m
-alike_none n m down down' past = of_none (SameAs n) n m down down' past (alike_all n)
-
 -- ### The end changes, and the tap hears nothing
 
 -- what of the end n has become m: its sessions with the numbers below p are kept
@@ -110,7 +102,7 @@ tracks_renumbered more emitted none told h = grind arith
 
 -- one frame more, which is no UA
 pub still_no_ua : {P : Type 0} (w : List OnWire) (x : OnWire) → is_ua x.frame ≡ false → NoUa w ⊎ P → NoUa (fits (w ++ x ∷ [])) ⊎ P
-still_no_ua w x q (inl h) = inl (no_ua-fits (w ++ x ∷ []) (no_ua-push w x q h))
+still_no_ua w x q (inl h) = inl (let h0 = w ++ x ∷ [] in let h1 = no_ua-push w x q h in grind arith)
 still_no_ua w x q (inr p) = inr p
 
 -- ### Frames of a session
@@ -281,13 +273,10 @@ goes_fragment {bare} {t} {n} {f} {to_n} {to_f} {r} {info} x frame up is g = (
     list : (t.uicc.number ≡ t.clf.number) ⊎ (t.uicc.number ≡ t.clf.number → ⊥) → listed_at side t.uicc.number ≡ ever_sent (shdlc_session_of m t.uicc.number)
     list (inl q) =
         let here : (t.clf.number == t.uicc.number) ≡ true = eq-eqb t.clf.number t.uicc.number (sym q) in
-        let there : (t.uicc.number == t.clf.number) ≡ true = eq-eqb t.uicc.number t.clf.number q in
-        let before : listed_at t.clf t.clf.number ≡ ever_sent s = grind arith in
-        let after : ever_sent (shdlc_session_of m t.uicc.number) ≡ ever_sent (sent_next s) = ap ever_sent (session_now m t.uicc.number up (q ∙ c.0)) in
         let counted : counted_at t.uicc t.clf.number ≡ length (shdlc_session_of f (shdlc_number_of n)).acc = grind arith in
         let grown = list_grows s (counted_at t.uicc t.clf.number) info (listed_at t.clf t.clf.number) can.from can.sent can.offered can.within can.most
-        (omega (arith, can.acked, counted)) tells.0 tells.1 before in
-        rw here (grown ∙ sym after)
+        (omega (arith, can.acked, counted)) tells.0 tells.1 (grind arith) in
+        rw here (grown ∙ sym (ap ever_sent (session_now m t.uicc.number up (q ∙ c.0))))
     list (inr q) =
         let here : (t.clf.number == t.uicc.number) ≡ false = ne_eqb t.clf.number t.uicc.number (λ e. q (sym e)) in
         let above : shdlc_session_of m t.uicc.number ≡ no_session =
@@ -351,10 +340,6 @@ goes_offer l e more up g =
       none = λ no_up. absurd (no_up up);
     }
 
--- it becomes ready or not ready
-goes_ready : {bare : Bool} {t : TapState} (l : ShdlcLink) (e : EndState) (r : Bool) (ds : List Due) → GoesAt bare t l e → GoesAt bare t l (changed e r ds)
-goes_ready l e r ds g = grind arith
-
 -- an answer goes out
 pub goes_answer : {bare : Bool} {t : TapState} (l : ShdlcLink) (e : EndState) (k : Kind) → e.phase ≡ Up → GoesAt bare t l e
     → GoesAt bare (tap_hears bare t (S k (expected e.session))) (shdlc_put l (S k (expected e.session))) e
@@ -387,8 +372,7 @@ each bare t l e c is due g =
     one : (info : Fragment) → fragment_due e.session ≡ Some info
         → Each bare t l (I (e.session.next % 8) (expected e.session) info) (record e { session = sent_next e.session })
     one info q =
-        let x : OnWire = record { frame = I (e.session.next % 8) (expected e.session) info; age = 0; number = 0 } in
-        let s = goes_fragment x refl (grind arith) q g in
+        let s = goes_fragment (record { frame = I (e.session.next % 8) (expected e.session) info; age = 0; number = 0 }) refl (grind arith) q g in
         record { goes = s.0; told = s.1; due = due }
 
 -- all that is due has gone out, and this was told
@@ -443,7 +427,7 @@ turn_waits bare t l e told (SetReady r) h =
     k = shdlc_put_all l (controls e)
 
     g : GoesAt bare (hears_all bare t (controls e)) k (changed e r [])
-    g = goes_ready k (record e { due = [] }) r [] h.goes
+    g = grind arith
 
     as_changed : (ds : List Due) → map (control_due (changed e r ds)) e.due ≡ controls e
         → GoesAt bare (hears_all bare t (map (control_due (changed e r ds)) e.due)) (shdlc_put_all l (map (control_due (changed e r ds)) e.due))
@@ -462,10 +446,9 @@ turn_waits bare t l e told (SetReady r) h =
         let q : controls f ≡ controls e ++ c ∷ [] =
         map-append (control_due f) e.due (Rr_due ∷ []) ∙ ap (λ cs. cs ++ c ∷ []) (controls_same e f e.due refl refl) in
         let P : ShdlcLink → Type 0 = λ j. GoesAt bare (tap_hears bare u c) j (changed e r []) in
-        let Q : TapState → Type 0 = λ z. GoesAt bare z (shdlc_put_all l (controls f)) (changed e r []) in
         let links : shdlc_put_all l (controls f) ≡ shdlc_put k c = ap (shdlc_put_all l) q ∙ put_all-append l (controls e) (c ∷ []) in
         let heard : hears_all bare t (controls f) ≡ tap_hears bare u c = ap (hears_all bare t) q ∙ hears_all-append bare t (controls e) (c ∷ []) in (
-          subst Q (sym heard) (subst P (sym links) a.0),
+          subst (λ z. GoesAt bare z (shdlc_put_all l (controls f)) (changed e r [])) (sym heard) (subst P (sym links) a.0),
           ap (tells_all bare t) q ∙ (tells_all-append bare t (controls e) (c ∷ [])
               ∙ (ap (λ m. m ++ (tap_tells bare u c ++ [])) h.tells ∙ (ap (λ m. told ++ (m ++ [])) a.1 ∙ append-nil told))),
         )
@@ -487,10 +470,7 @@ goes_out bare t l e told h =
     let u : TapState = hears_all bare t (controls e) in
     let k : ShdlcLink = shdlc_put_all l (controls e) in
     let d = drains bare f.0 q u k refl h.goes in
-    let links : shdlc_put_all l (frames_of 12 e) ≡ shdlc_put_all k (frames_of f.0 q) = grind arith in
-    let heard : hears_all bare t (frames_of 12 e) ≡ hears_all bare u (frames_of f.0 q) = grind arith in
     let P : TapState → ShdlcLink → EndState → Type 0 = λ z j x. KnowsLink bare z (record j { controller = record j.controller { side = x } }) in
-    let one : P (hears_all bare u (frames_of f.0 q)) (shdlc_put_all k (frames_of f.0 q)) (after_frames f.0 q) = d.goes.knows in
     grind arith
 
 -- an end with nothing to answer

@@ -4,32 +4,27 @@ use Rattle.world_laws.proofs.Words.{IsShdlcStart, IsTrackedBy, IsTurn, KeepsPowe
 use Rattle.world_laws.proofs.Words.{Option, Rset, Rset_due, Safe, SafeLink, Session, ShdlcEndEvent, ShdlcLink, ShdlcLinkEvent, ShdlcTurn, Some, StartsSo}
 use Rattle.world_laws.proofs.Words.{TapReport, TapSide, TapState, TickWithout, Turns, Up, Waiting, [], act_frame, act_not_rset, aged_wire, ap, append_assoc}
 use Rattle.world_laws.proofs.Words.{arith, asked_again, by_test, counts, emitted, emitted_event, emitted_here, emitted_if_waiting, emitted_tick, emitted_turns}
-use Rattle.world_laws.proofs.Words.{false, frames_by, frames_of, given_up, got, got_event, got_here, hears_all, idle_out, inl, inr, is_act, is_rset, is_some}
-use Rattle.world_laws.proofs.Words.{is_up, is_waiting, ltb-false, map, map-append, most_frames, nat_lt, new_tap, no_session, nothing_out, passes_act, refl}
-use Rattle.world_laws.proofs.Words.{reports_to, reset_with, runs_timer, safe_aged, safe_event, safe_exchanged, safe_start, safe_turn, safe_turns, sans}
-use Rattle.world_laws.proofs.Words.{sent_again, sent_then, shdlc_after, shdlc_aged, shdlc_all_at_controller, shdlc_becomes, shdlc_exchanged, shdlc_happens}
-use Rattle.world_laws.proofs.Words.{shdlc_happens_at_controller, shdlc_number_of, shdlc_put, shdlc_put_all, shdlc_session_of}
-use Rattle.world_laws.proofs.Words.{shdlc_ticks_at_controller, shdlc_turned, stopped, subst, sym, take_answer, taken, tap_after, tap_after_frame, tap_exchanged}
-use Rattle.world_laws.proofs.Words.{tap_hears, tap_reports, tap_tells, tapped, tapped_from, tells_all, tick_answer, tick_if_waiting, tick_or_cut, ticked}
-use Rattle.world_laws.proofs.Words.{ticks_if_waiting, ticks_or_cut, took_other, took_with, true, waiting_from, with_shdlc_ended, ℕ, ◌++◌, ◌+◌, ◌∙◌, ◌∷◌, ◌≡◌}
-use Rattle.world_laws.proofs.Words.{◌≤◌, ◌⊎◌}
+use Rattle.world_laws.proofs.Words.{false, frames_by, given_up, got, got_event, got_here, hears_all, idle_out, inl, inr, is_act, is_rset, is_some, is_up}
+use Rattle.world_laws.proofs.Words.{is_waiting, ltb-false, map, map-append, nat_lt, new_tap, no_session, nothing_out, passes_act, refl, reports_to, reset_with}
+use Rattle.world_laws.proofs.Words.{runs_timer, safe_aged, safe_event, safe_exchanged, safe_start, safe_turn, safe_turns, sans, sent_again, sent_then}
+use Rattle.world_laws.proofs.Words.{shdlc_after, shdlc_aged, shdlc_all_at_controller, shdlc_becomes, shdlc_exchanged, shdlc_happens}
+use Rattle.world_laws.proofs.Words.{shdlc_happens_at_controller, shdlc_number_of, shdlc_put, shdlc_put_all, shdlc_ticks_at_controller, shdlc_turned, stopped}
+use Rattle.world_laws.proofs.Words.{subst, sym, take_answer, taken, tap_after, tap_after_frame, tap_exchanged, tap_hears, tap_reports, tap_tells, tapped}
+use Rattle.world_laws.proofs.Words.{tapped_from, tells_all, tick_answer, tick_if_waiting, tick_or_cut, ticked, ticks_if_waiting, ticks_or_cut, took_other}
+use Rattle.world_laws.proofs.Words.{took_with, true, waiting_from, with_shdlc_ended, ℕ, ◌++◌, ◌+◌, ◌∙◌, ◌∷◌, ◌≡◌, ◌≤◌, ◌⊎◌}
 use Rattle.link_laws.proofs.sessions.Steps.{took}
 use Rattle.link_laws.specs.sessions.Sessions.ShdlcEndEvent.{Cut, Deliver, Lose, Reset, Stop}
 use Rattle.link_laws.specs.sessions.Sessions.ShdlcLinkEvent.{AtController, AtHost, Tick}
-use Rattle.world_laws.proofs.fragments.Going.{Alike, Becomes, CanSend, GoesAt, Knows, KnowsLink, Tracks, Went, alike_end, alike_none, ever_sent, goes_of}
-use Rattle.world_laws.proofs.fragments.Going.{hears_all-append, knows_side, knows_wire, tells_all-append, went_none, went_one}
+use Rattle.world_laws.proofs.fragments.Going.{Alike, GoesAt, Knows, KnowsLink, Tracks, Went, goes_of}
+use Rattle.world_laws.proofs.fragments.Going.{hears_all-append, knows_wire, tells_all-append, went_none, went_one}
 use Rattle.world_laws.proofs.fragments.Taking.{Heard, got_now, knows_rset, takes_heard}
-use Rattle.world_laws.proofs.fragments.Wires.{NoUa, no_ua-aged, no_ua-from, no_ua-rest}
+use Rattle.world_laws.proofs.fragments.Wires.{NoUa, no_ua-aged, no_ua-from}
 
 -- ## What the tap knows after whatever happens at the controller's end
 
 -- what the tap knows after this at the controller's end
 abbrev HeardHere : Bool → TapState → ShdlcLink → ShdlcEndEvent → Type 0
 HeardHere bare t l e = Heard bare t (shdlc_happens_at_controller l e) (emitted_here l e) (got_here l e)
-
-went_heard : {bare : Bool} {t : TapState} (l : ShdlcLink) (e : EndState) (told : List (ℕ × ℕ × List ℕ)) → Went bare t l e told
-    → Heard bare t (shdlc_becomes l e) (frames_of most_frames e) told
-went_heard l e told w = record { knows = w.knows; tells = w.tells }
 
 -- ### It takes a frame
 
@@ -44,11 +39,9 @@ deliver_heard bare t ts l s h = go l.to_controller s h
     first x xs false q s h = takes_heard bare t ts (at (x ∷ xs)) x xs (rw q at s) h
     first x xs true q s h =
         let p = passes_act l.controller.side x.frame q in
-        let none : (take_answer l.controller.side x.frame).accepted ≡ None = act_none x.frame q in
         let number : took_with l.controller.took x ≡ l.controller.took = took_other l.controller.took x (act_not_rset x.frame q) in
-        let g : GoesAt bare t (at xs) l.controller.side = grind arith in
-        let w = went_none bare t ts (at xs) l.controller.side s.n_due g in
-        record { knows = rw (p.1, number, p.0) w.knows; tells = rw (p.0, none) w.tells }
+        let w = went_none bare t ts (at xs) l.controller.side s.n_due (grind arith) in
+        record { knows = rw (p.1, number, p.0) w.knows; tells = rw (p.0, (act_none x.frame q)) w.tells }
       where
         act_none : (c : Control) → is_act c ≡ true → (take_answer l.controller.side c).accepted ≡ None
         act_none (Act a b) q = by l.controller.side.phase refl
@@ -87,17 +80,12 @@ ignore_heard bare t ts l s h = go l.controller.side.phase refl l.to_controller r
     down q x xs w =
         let m : NumberedShdlc = record n { took = took_with n.took x } in
         let k : ShdlcLink = record l { to_controller = xs; controller = m } in
-        let P : List OnWire → Type 0 = λ v. Safe 0 0 n l.host (sans v) (sans l.to_host) l.resets in
-        let c = counts l x xs q (subst P w s) in
-        let no_up : n.side.phase ≡ Up → ⊥ = λ u. let g = sym q ∙ u in cc in
-        let more : n.took ≤ took_with n.took x = grows x in
-        let R : List OnWire → Type 0 = λ v. NoUa v ⊎ (n.emitted ≤ t.uicc.number) in
-        let near : Tracks bare t.clf t.uicc m l.host xs = grind arith in
+        let c = counts l x xs q (subst (λ v. Safe 0 0 n l.host (sans v) (sans l.to_host) l.resets) w s) in
         let g : GoesAt bare t k n.side = grind arith in
         went_none bare t ts k n.side s.n_due g
       where
         left : (x : OnWire) (xs : List OnWire) → NoUa (x ∷ xs) ⊎ (n.emitted ≤ t.uicc.number) → NoUa xs ⊎ (n.emitted ≤ t.uicc.number)
-        left x xs (inl z) = inl (no_ua-rest x xs z)
+        left x xs (inl z) = inl (grind arith)
         left x xs (inr z) = inr z
 
         grows : (x : OnWire) → n.took ≤ took_with n.took x
@@ -110,7 +98,7 @@ ignore_heard bare t ts l s h = go l.controller.side.phase refl l.to_controller r
     go Down q (x ∷ xs) p =
         let k : ShdlcLink = record l { to_controller = xs; controller = record n { took = took_with n.took x } } in
         by_parts (shdlc_becomes k (shdlc_turned n.side ts)) (sent_then n.side ts) (ignore_is l ts x xs q p) (rw (q, p) refl)
-        (went_heard k (shdlc_turned n.side ts) [] (down q x xs p))
+        (let h0 = shdlc_turned n.side ts in let h1 = down q x xs p in grind arith)
 
 -- ### Frames of activation
 
@@ -142,9 +130,8 @@ goes_rset : {bare : Bool} {t : TapState} {kn kf : ℕ} (l : ShdlcLink) (q : EndS
     → NothingIsOut (sans l.to_controller) (sans l.to_host) → SafeLink kn kf l → KnowsLink bare t l
     → GoesAt bare (tap_hears bare t (Rset w c)) (shdlc_put (record l { controller = record l.controller { past = past } }) (Rset w c)) q
 goes_rset l q past w c waits none alike below out s h =
-    let x : OnWire = record { frame = Rset w c; age = 0; number = l.resets + 1 } in
     record {
-      knows = knows_rset x w c refl (record {
+      knows = knows_rset (record { frame = Rset w c; age = 0; number = l.resets + 1 }) w c refl (record {
         alike = alike;
         waits = waits;
         emitted = refl;
@@ -166,12 +153,10 @@ up_asks {bare} {t} ts l e up eup s h =
     let past : List (ℕ × Session) = (shdlc_number_of n, n.side.session) ∷ n.past in
     let q : EndState = record (waiting_from e) { due = [] } in
     let m : NumberedShdlc = record { side = q; emitted = l.resets + 1; took = n.took; past = past } in
-    let now : t.clf.number ≡ shdlc_number_of n = h.near.now (λ d. let y = sym up ∙ d in cc) in
-    let is : (waiting_from e).due ≡ Rset_due ∷ [] = rw eup refl in
-    let alike : Alike n m = alike_end n m up (λ u. let y : Waiting ≡ Up = u in cc) refl in
+    let alike : Alike n m = grind arith in
     let out : NothingIsOut (sans l.to_controller) (sans l.to_host) = idle_out s.hand (λ w. let y = sym up ∙ w in cc) in
-    went_one bare t ts (with_shdlc_ended l true) (waiting_from e) Rset_due [] is
-    (goes_rset l q past e.own_window 0 refl refl alike (omega (arith, now), h.near.past) out s h) refl
+    went_one bare t ts (with_shdlc_ended l true) (waiting_from e) Rset_due [] (rw eup refl)
+    (goes_rset l q past e.own_window 0 refl refl alike (omega (arith, (h.near.now (λ d. let y = sym up ∙ d in cc))), h.near.past) out s h) refl
 
 -- one that was not
 idle_asks : {bare : Bool} {t : TapState} {kn kf : ℕ} (ts : List ShdlcTurn) (l : ShdlcLink) (q : EndState) → (l.controller.side.phase ≡ Up → ⊥)
@@ -181,7 +166,7 @@ idle_asks {bare} {t} ts l q no_up waits none due out s h =
     let n : NumberedShdlc = l.controller in
     let v : EndState = record q { due = [] } in
     let m : NumberedShdlc = record { side = v; emitted = l.resets + 1; took = n.took; past = n.past } in
-    let alike : Alike n m = alike_none n m no_up (λ u. let y = sym waits ∙ u in cc) refl in
+    let alike : Alike n m = grind arith in
     went_one bare t ts l q Rset_due [] due (goes_rset l v n.past q.own_window 0 waits none alike h.near.past out s h) refl
 
 reset_heard : {kf : ℕ} (bare : Bool) (t : TapState) (ts : List ShdlcTurn) (l : ShdlcLink) (w : ℕ) → SafeLink 0 kf l → KnowsLink bare t l
@@ -228,10 +213,7 @@ stop_heard bare t l s h = record { knows = grind arith; tells = refl }
 turns_heard_of_events : {kf : ℕ} (bare : Bool) (t : TapState) (ts : List ShdlcTurn) (l : ShdlcLink) → SafeLink 0 kf l → KnowsLink bare t l
     → HeardHere bare t l (Turns ts)
 turns_heard_of_events bare t ts l s h =
-    went_heard l (shdlc_turned l.controller.side ts) [] (went_none bare t ts l l.controller.side s.n_due (goes_of l s h))
-
-lose_heard : (bare : Bool) (t : TapState) (l : ShdlcLink) → KnowsLink bare t l → HeardHere bare t l Lose
-lose_heard bare t l h = grind arith
+    let h0 = shdlc_turned l.controller.side ts in let h1 = went_none bare t ts l l.controller.side s.n_due (goes_of l s h) in grind arith
 
 -- whatever happens at the controller's end
 here_heard : (bare : Bool) (t : TapState) (l : ShdlcLink) (e : ShdlcEndEvent) → KeepsPower e → SafeLink 0 0 l → KnowsLink bare t l → HeardHere bare t l e
@@ -239,7 +221,7 @@ here_heard bare t l (Turns ts) a s h = turns_heard_of_events bare t ts l s h
 here_heard bare t l (Deliver ts) a s h = deliver_heard bare t ts l s h
 here_heard bare t l (Ignore ts) a s h = ignore_heard bare t ts l s h
 here_heard bare t l (Acts acts ts) a s h = acts_heard bare t acts ts l s h
-here_heard bare t l Lose a s h = lose_heard bare t l h
+here_heard bare t l Lose a s h = grind arith
 here_heard bare t l (Reset w ts) a s h = reset_heard bare t ts l w s h
 here_heard bare t l Cut a s h = absurd a
 here_heard bare t l Stop a s h = stop_heard bare t l s h
@@ -272,14 +254,8 @@ tick_heard {kf} bare t ts l s h = go e.phase (runs_timer e.session) (nat_lt (e.t
     by_parts : (q : EndState) (b : Bool) → ticked e ≡ q → is_some (tick_answer e).ended ≡ b → Went bare t (with_shdlc_ended l b) (shdlc_turned q ts) [] → Goal
     by_parts q b p r w = record { knows = rw (p, r) w.knows; tells = rw p w.tells }
 
-    -- the end has become q, in the same phase and with the same session, but for the place from which it sends
-    goes : (q : EndState) → q.phase ≡ e.phase → q.session.acc ≡ e.session.acc → ever_sent q.session ≡ ever_sent e.session
-        → (q.phase ≡ Up → CanSend q.session (shdlc_session_of l.host (shdlc_number_of l.controller)))
-        → ((q.phase ≡ Up → ⊥) → q.session ≡ no_session) → GoesAt bare t l q
-    goes q phase acc sent sends none = record { knows = knows_side q phase (record { acc = acc; sent = sent }) h; sends = sends; none = none }
-
     counted : GoesAt bare t l (record e { timer = e.timer + 1 })
-    counted = goes (record e { timer = e.timer + 1 }) refl refl refl g.sends g.none
+    counted = grind arith
 
     again : e.phase ≡ Up → GoesAt bare t l (sent_again e)
     again up = grind arith
@@ -307,9 +283,7 @@ tick_heard {kf} bare t ts l s h = go e.phase (runs_timer e.session) (nat_lt (e.t
     go Waiting a false false p q r v =
         let no_up : e.phase ≡ Up → ⊥ = λ u. let y = sym p ∙ u in cc in
         let d : EndState = given_up e in
-        let becomes : Becomes l.controller (record l.controller { side = d }) (t.clf.number + 1) = grind arith in
-        let gone : GoesAt bare t l d = grind arith in
-        by_parts d false (rw (p, r, v) refl) (rw (p, r, v) refl) (went_none bare t ts l d s.n_due gone)
+        by_parts d false (rw (p, r, v) refl) (rw (p, r, v) refl) (went_none bare t ts l d s.n_due (grind arith))
 
 -- ## The tap hears all frames of every run of a link over fragments: it knows both ends, and tells what they got
 
@@ -377,9 +351,8 @@ far_both {bare} {t} m cs told h =
 then_both : {bare : Bool} {t : TapState} (m k : ShdlcLink) (fs gs : List (Bool × Control)) (told more : List TapReport) → HeardBoth bare t m fs told
     → HeardBoth bare (tap_after bare t fs) k gs more → HeardBoth bare t k (fs ++ gs) (told ++ more)
 then_both {bare} {t} m k fs gs told more a b =
-    let P : TapState → Type 0 = λ z. KnowsLink bare z k in
     record {
-      knows = subst P (sym (tap_after-append bare t fs gs)) b.knows;
+      knows = subst (λ z. KnowsLink bare z k) (sym (tap_after-append bare t fs gs)) b.knows;
       tells = tapped-append bare t fs gs ∙ (ap (λ z. z ++ tapped_from bare (tap_after bare t fs) gs) a.tells ∙ ap (λ z. told ++ z) b.tells);
     }
 
@@ -388,9 +361,8 @@ then_both {bare} {t} m k fs gs told more a b =
 then_heard : {bare : Bool} {t : TapState} (m k : ShdlcLink) (cs ds : List Control) (told more : List (ℕ × ℕ × List ℕ)) → Heard bare t m cs told
     → Heard bare (hears_all bare t cs) k ds more → Heard bare t k (cs ++ ds) (told ++ more)
 then_heard {bare} {t} m k cs ds told more a b =
-    let P : TapState → Type 0 = λ z. KnowsLink bare z k in
     record {
-      knows = subst P (sym (hears_all-append bare t cs ds)) b.knows;
+      knows = subst (λ z. KnowsLink bare z k) (sym (hears_all-append bare t cs ds)) b.knows;
       tells = tells_all-append bare t cs ds ∙ (ap (λ z. z ++ tells_all bare (hears_all bare t cs) ds) a.tells ∙ ap (λ z. told ++ z) b.tells);
     }
 
@@ -478,15 +450,12 @@ pub reported : (bare : Bool) (l : ShdlcLink) → IsShdlcStart l → StartsSo bar
     → NoneIsCut events → tapped bare (emitted l events) ≡ got l events
 reported bare l i b events a c = (heard_from_start bare l i b events a c).tells
 
-side_known : {bare : Bool} {s t : TapSide} {n f : NumberedShdlc} {w : List OnWire} → Tracks bare s t n f w → IsTrackedBy s t n
-side_known h = grind arith
-
 pub known_here : (bare : Bool) (l : ShdlcLink) → IsShdlcStart l → StartsSo bare l → (events : List ShdlcLinkEvent) → AllShdlcAllowed events
     → NoneIsCut events
     → IsTrackedBy (tap_after bare new_tap (emitted l events)).clf (tap_after bare new_tap (emitted l events)).uicc (shdlc_after l events).controller
-known_here bare l i b events a c = side_known (heard_from_start bare l i b events a c).knows.near
+known_here bare l i b events a c = let h0 = (heard_from_start bare l i b events a c).knows.near in grind arith
 
 pub known_there : (bare : Bool) (l : ShdlcLink) → IsShdlcStart l → StartsSo bare l → (events : List ShdlcLinkEvent) → AllShdlcAllowed events
     → NoneIsCut events
     → IsTrackedBy (tap_after bare new_tap (emitted l events)).uicc (tap_after bare new_tap (emitted l events)).clf (shdlc_after l events).host
-known_there bare l i b events a c = side_known (heard_from_start bare l i b events a c).knows.far
+known_there bare l i b events a c = let h0 = (heard_from_start bare l i b events a c).knows.far in grind arith

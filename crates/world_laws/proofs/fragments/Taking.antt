@@ -5,12 +5,11 @@ use Rattle.world_laws.proofs.Words.{TakenUp, TapSide, TapState, Ua, Ua_due, Up, 
 use Rattle.world_laws.proofs.Words.{by_option, by_test, cond, drop, ended_session, eq-eqb, expected, false, fits, frame_cases, given_by, good_of, got_with}
 use Rattle.world_laws.proofs.Words.{hears_all, inl, inr, is_in_session, is_some, length, length-append, length-take-le, listed_at, live, lt-ltb, ltb-true, map}
 use Rattle.world_laws.proofs.Words.{max, min, nat_lt, ne_eqb, new_session, news_behind, no_session, none_ended, not_rset, packets_in, pair_from, passes, refl}
-use Rattle.world_laws.proofs.Words.{renumbered, rset_told, rsets, sans, sent_then, session_with, shdlc_number_of, shdlc_put, shdlc_session_of, shdlc_turned}
-use Rattle.world_laws.proofs.Words.{subst, suc, sym, take, take_answer, taken, taken_up, tap_hears, tap_tells, tells_all, tells_more, told_by, took_other}
-use Rattle.world_laws.proofs.Words.{took_with, true, ua_told, up_with, with_number, with_shdlc_ended, zero, ℕ, ◌%◌, ◌++◌, ◌+◌, ◌<◌, ◌==◌, ◌∙◌, ◌∷◌, ◌≡◌, ◌≤◌}
-use Rattle.world_laws.proofs.Words.{◌⊎◌}
+use Rattle.world_laws.proofs.Words.{rset_told, rsets, sans, sent_then, session_with, shdlc_number_of, shdlc_put, shdlc_session_of, shdlc_turned, subst, suc}
+use Rattle.world_laws.proofs.Words.{sym, take, take_answer, taken, taken_up, tap_hears, tap_tells, tells_all, tells_more, told_by, took_other, took_with, true}
+use Rattle.world_laws.proofs.Words.{ua_told, up_with, with_number, with_shdlc_ended, zero, ℕ, ◌%◌, ◌++◌, ◌+◌, ◌<◌, ◌==◌, ◌∙◌, ◌∷◌, ◌≡◌, ◌≤◌, ◌⊎◌}
 use Rattle.link_laws.proofs.sessions.Steps.{took}
-use Rattle.world_laws.proofs.fragments.Going.{Alike, Becomes, CanSend, GoesAt, Knows, KnowsLink, Tracks, Went, can_send, count_up, ever_sent}
+use Rattle.world_laws.proofs.fragments.Going.{Alike, CanSend, GoesAt, Knows, KnowsLink, Tracks, Went, can_send, count_up, ever_sent}
 use Rattle.world_laws.proofs.fragments.Going.{goes_answer, in_session, knows_side, session_above, session_ended, session_now, still_no_ua, tracks_far}
 use Rattle.world_laws.proofs.fragments.Going.{tracks_renumbered, went_none, went_one}
 use Rattle.world_laws.proofs.fragments.Wires.{NoUa, is_ua}
@@ -97,12 +96,11 @@ knows_ua {bare} {t} {n} {m} {f} {to_n} {to_n'} {to_f} {to_f'} {r} a told h = by_
     (λ q. let k : ℕ = t.uicc.asked in
     let i : t.clf.number < k = ltb-true t.clf.number k q in
     let z : TapSide = record t.clf { number = k; count = 0 } in
-    let is : renumbered t.clf k ≡ z = rw q refl in
     let none : shdlc_session_of n k ≡ no_session =
     session_above n t.clf.number k h.near.past (omega (arith, i, h.near.from, h.far.asked, a.newer)) i in
     let f_none : shdlc_session_of f k ≡ no_session =
     session_ended f far_not_up k ∙ none_ended f.emitted k f.past (omega (arith, h.far.asked)) a.far_past in
-    subst P (sym is) (record {
+    subst P (sym (rw q refl)) (record {
       near = near z refl refl refl (omega (arith, i)) (omega (arith, i, h.far.asked))
           (sym ((ap (length {A = Fragment}) (a.alike k).acc) ∙ ap (λ (y : Session). length y.acc) none));
       far = tracks_renumbered {n = n} {m = m} {to_f = to_f} i (omega (arith, a.emitted)) f_none (inr (omega (arith, h.far.asked))) h.far;
@@ -205,10 +203,9 @@ knows_accepted {bare} {t} {n} {m} {f} {to_n} {to_n'} {to_f} {to_f'} {r} {info} a
 
     more : tells_more t.clf t.uicc nr ≡ true
     more =
-        let next : (nr == ((t.clf.count + 1) % 8)) ≡ true = eq-eqb nr ((t.clf.count + 1) % 8) (omega (arith, c.1, one)) in
         let sent : nat_lt t.clf.count (length (listed_at t.uicc t.clf.number)) ≡ true =
         lt-ltb t.clf.count (length (listed_at t.uicc t.clf.number)) (omega (arith, c.1, one, len, a.theirs.fits)) in
-        rw (next, sent) refl
+        rw ((eq-eqb nr ((t.clf.count + 1) % 8) (omega (arith, c.1, one))), sent) refl
 
     counts : is_in_session bare t.clf ≡ true
     counts = in_session a.was_up h.near
@@ -330,11 +327,6 @@ heard_so : (bare : Bool) (t : TapState) (ts : List ShdlcTurn) (l : ShdlcLink) (x
 heard_so bare t ts l x xs ends number q o so w =
     record { knows = rw (so.ended, so.took, so.end) w.knows; tells = rw (so.end, so.accepted) w.tells }
 
--- what the tap knows is known where the first frame is gone
-pub knows_rest : {bare : Bool} {t : TapState} {n f : NumberedShdlc} {x : OnWire} {xs to_f : List OnWire} {r : ℕ} → Knows bare t n f (x ∷ xs) to_f r
-    → Knows bare t n f xs to_f r
-knows_rest h = grind arith
-
 -- a new session has nothing to send
 new_sends : (w : ℕ) (r : Session) → w ≤ 4 → CanSend (new_session w) r
 new_sends w r i = record { from = omega arith; sent = omega arith; offered = omega arith; within = omega arith; most = i; acked = omega arith }
@@ -361,7 +353,7 @@ takes_heard bare t ts l x xs s h = go (frame_cases x) e.phase refl
     Goal = Heard bare t (took l ts x xs) (sent_then (taken e x.frame) ts) (got_now l x)
 
     rest : Knows bare t n f xs l.to_host l.resets
-    rest = knows_rest h
+    rest = grind arith
 
     left : NoUa (x ∷ xs) ⊎ (n.emitted ≤ t.uicc.number) → NoUa xs ⊎ (n.emitted ≤ t.uicc.number)
     left a = grind arith
@@ -489,8 +481,6 @@ takes_heard bare t ts l x xs s h = go (frame_cases x) e.phase refl
         let no_up : e.phase ≡ Up → ⊥ = λ u. let g = sym p ∙ u in cc in
         let early : Below n.emitted n.past = rw p at s.n_past in
         let none : ended_session n.past (shdlc_number_of m) ≡ no_session = none_ended n.emitted (shdlc_number_of m) n.past (omega arith) early in
-        let met : n.emitted ≤ t.uicc.number = by q h.near.told in
-        let becomes : Becomes n m (t.clf.number + 1) = grind arith in
         let goes : GoesAt bare t next b = grind arith in
         heard_so bare t ts l x xs false n.took b None ((grind arith)) (went_none bare t ts next b s.n_due goes)
       where
@@ -527,8 +517,7 @@ takes_heard bare t ts l x xs s h = go (frame_cases x) e.phase refl
         let below = below_more (shdlc_number_of n) f.emitted n.past (omega (arith, newest q no_wait, newer q)) old in
         let none : ended_session past (shdlc_number_of m) ≡ no_session =
         none_ended f.emitted (shdlc_number_of m) past (omega arith) (omega (arith, newest q no_wait, newer q), below) in
-        let now : t.clf.number ≡ shdlc_number_of n = h.near.now (λ d. let y = sym p ∙ d in cc) in
-        anew q true no_wait past (omega (arith, now), h.near.past) refl
+        anew q true no_wait past (omega (arith, (h.near.now (λ d. let y = sym p ∙ d in cc))), h.near.past) refl
         (grind arith)
         (rw (q.frame, p, z) refl) (rw (q.frame, p, z) refl) (rw (q.frame, p, z) refl)
     go (inr (inl q)) Down p =

@@ -1,5 +1,5 @@
 -- Whether a UA stands on a wire.
-use Rattle.world_laws.proofs.Words.{Bool, Control, List, OnWire, Ua, [], aged_wire, arith, by_test, false, fits, length, nat_lt, or_parts, refl, sans}
+use Rattle.world_laws.proofs.Words.{Bool, Control, List, OnWire, Ua, [], aged_wire, arith, by_test, false, nat_lt, or_parts, refl, sans}
 use Rattle.world_laws.proofs.Words.{true, uas, ◌++◌, ◌||◌, ◌∷◌, ◌≡◌}
 
 abbrev pub is_ua : Control → Bool
@@ -14,17 +14,11 @@ has_ua (x ∷ xs) = is_ua x.frame || has_ua xs
 abbrev pub NoUa : List OnWire → Type 0
 NoUa w = has_ua w ≡ false
 
-pub no_ua-rest : (x : OnWire) (xs : List OnWire) → NoUa (x ∷ xs) → NoUa xs
-no_ua-rest x xs h = (or_parts (is_ua x.frame) (has_ua xs) h).1
-
 pub no_ua-push : (w : List OnWire) (x : OnWire) → is_ua x.frame ≡ false → NoUa w → NoUa (w ++ x ∷ [])
 no_ua-push [] x q h = rw q refl
 no_ua-push (y ∷ w) x q h =
     let p = or_parts (is_ua y.frame) (has_ua w) h in
     rw (p.0, no_ua-push w x q p.1) refl
-
-pub no_ua-fits : (w : List OnWire) → NoUa w → NoUa (fits w)
-no_ua-fits w h = by_test (nat_lt 64 (length w)) (λ q. rw q (grind arith)) (λ q. rw q h)
 
 pub no_ua-aged : (w : List OnWire) → NoUa w → NoUa (aged_wire w)
 no_ua-aged [] h = refl

@@ -15,11 +15,8 @@ lpdus_same h (_ ∷ t) = lpdus_same h t
 pub gots_same : (h : ℕ) (t : List Noted) → gots_on h (entries_for h t) ≡ gots_noted t
 gots_same h [] = refl
 gots_same h (Got Controller n m ∷ t) =
-    let q : (h == h) ≡ true = eq-eqb h h refl in
-    rw q (ap (λ z. record { to_clf = true; session = n; pipe = m.0; body = m.1 } ∷ z) (gots_same h t))
-gots_same h (Got Host n m ∷ t) =
-    let q : (h == h) ≡ true = eq-eqb h h refl in
-    rw q (ap (λ z. record { to_clf = false; session = n; pipe = m.0; body = m.1 } ∷ z) (gots_same h t))
+    rw (eq-eqb h h refl) (ap (λ z. record { to_clf = true; session = n; pipe = m.0; body = m.1 } ∷ z) (gots_same h t))
+gots_same h (Got Host n m ∷ t) = rw (eq-eqb h h refl) (ap (λ z. record { to_clf = false; session = n; pipe = m.0; body = m.1 } ∷ z) (gots_same h t))
 gots_same h (_ ∷ t) = gots_same h t
 
 -- no node of a bare world loses power
@@ -35,8 +32,7 @@ pub tap_reports_history : (header : Header) (lines : List Line) (t : History) �
 tap_reports_history header lines t valid follows front back q =
     let h : ℕ = host_of header in
     let run = is_run header lines t valid follows in
-    let P : List Event → Type 0 = λ xs. AreOf h bare_link xs in
-    let of : AreOf h bare_link front = of_front h bare_link front back (subst P q run.events) in
+    let of : AreOf h bare_link front = of_front h bare_link front back (subst (λ xs. AreOf h bare_link xs) q run.events) in
     let is : t.opening ++ entries_of front ≡ entries_for h (notes_of front) = run_entries h t.opening front run.opening of in
     let cut : list_any is_cut (notes_of front) ≡ false = no_cut (notes_of front) (plain_trace (causes_of front)) in
     ap (tapped_lpdus true) (ap (lpdus_on h) is ∙ lpdus_same h (notes_of front))

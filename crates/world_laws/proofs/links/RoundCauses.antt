@@ -19,9 +19,8 @@ use Rattle.world_laws.proofs.Words.{◌*◌, ◌++◌, ◌+◌, ◌<◌, ◌∙�
 pub wire_after : (l : Link) (x : OnWire) (xs : List OnWire) (ts : List Turn)
     → (happens_at_controller (record l { to_controller = x ∷ xs }) (Step NextFrame ts GoesOut)).to_controller ≡ xs
 wire_after l x xs ts =
-    let full : Link = record l { to_controller = x ∷ xs } in
     let b : Bool = is_some (ended_by l.controller.side (Take x.frame)) in
-    let k : Link = with_ended (record full { to_controller = xs }) b in
+    let k : Link = with_ended (record (record l { to_controller = x ∷ xs }) { to_controller = xs }) b in
     let e : LinkEnd = turned (after_input l.controller.side (Take x.frame)) ts in
     (beside-put_all (frames_out e) (record k { controller = record k.controller { took = took_with l.controller.took x } })).to_controller ∙ (grind arith)
 
@@ -42,8 +41,7 @@ taken_near (suc k) l i = go l.to_controller i (taken_near k)
     go [] j later = absurd (omega (arith, j))
     go (x ∷ xs) j later =
         let m : Link = happens (record l { to_controller = x ∷ xs }) (AtController take_one) in
-        let less : length m.to_controller ≡ length xs = ap (length {A = OnWire}) (wire_after l x xs (FetchMessage ∷ [])) in
-        let t = later m (omega (arith, j, less)) in
+        let t = later m (omega (arith, j, (ap (length {A = OnWire}) (wire_after l x xs (FetchMessage ∷ []))))) in
         grind arith
 
 taken_far : (k : ℕ) (l : Link) → k ≤ length l.to_host → Takes l (replicate k (AtHost take_one)) 0 k
@@ -56,8 +54,7 @@ taken_far (suc k) l i = go l.to_host i (taken_far k)
     go [] j later = absurd (omega (arith, j))
     go (x ∷ xs) j later =
         let m : Link = happens (record l { to_host = x ∷ xs }) (AtHost take_one) in
-        let less : length m.to_host ≡ length xs = ap (length {A = OnWire}) (wire_after (exchanged l) x xs (FetchMessage ∷ [])) in
-        let t = later m (omega (arith, j, less)) in
+        let t = later m (omega (arith, j, (ap (length {A = OnWire}) (wire_after (exchanged l) x xs (FetchMessage ∷ []))))) in
         grind arith
 
 -- ### A round
@@ -79,15 +76,13 @@ round h l =
     let near : List LinkEvent = replicate (length l.to_controller) (AtController take_one) in
     let m : Link = after_link_events l near in
     let far : List LinkEvent = replicate (length m.to_host) (AtHost take_one) in
-    let o : Link = after_link_events m far in
     let one = taken_near (length l.to_controller) l (omega arith) in
     let two = taken_far (length m.to_host) m (omega arith) in
     let time : List LinkEvent = Ticks idle [] idle ∷ [] in
     let first : map event_of (near_causes h l) ≡ near = map-replicate (length l.to_controller) (Taken (end_of h Controller)) in
-    let reached : link_after_all l (near_causes h l) ≡ m = after_causes (near_causes h l) l ∙ ap (after_link_events l) first in
     let second : map event_of (far_causes h l) ≡ far =
     map-replicate (length (link_after_all l (near_causes h l)).to_host) (Taken (end_of h Host))
-    ∙ ap (λ (k : Link). replicate (length k.to_host) (AtHost take_one)) reached in
+    ∙ ap (λ (k : Link). replicate (length k.to_host) (AtHost take_one)) (after_causes (near_causes h l) l ∙ ap (after_link_events l) first) in
     let parts : map event_of (causes_of_round h l) ≡ near ++ (far ++ time) =
     map-append event_of (near_causes h l) (far_causes h l ++ Ticked ∷ [])
     ∙ (ap (λ es. es ++ map event_of (far_causes h l ++ Ticked ∷ [])) first
@@ -115,10 +110,9 @@ rounds (suc r) h l =
     let first : List LinkEvent = map event_of (causes_of_round h l) in
     let rest : List LinkEvent = map event_of (causes_of_rounds r h m) in
     let parts : map event_of (causes_of_rounds (suc r) h l) ≡ first ++ rest = map-append event_of (causes_of_round h l) (causes_of_rounds r h m) in
-    let P : Link → Type 0 = λ k. AreLinkRounds r k rest in
     let Q : Link → Type 0 = λ k. AllAllowed k rest in
     record {
-      are = (first, rest, parts, one.is, subst P (sym one.end) more.are);
+      are = (first, rest, parts, one.is, subst (λ k. AreLinkRounds r k rest) (sym one.end) more.are);
       allowed = subst (AllAllowed l) (sym parts) (allowed-append first rest l one.allowed (subst Q (sym one.end) more.allowed));
       end = ap (after_link_events l) parts ∙ (after_events-append first rest l ∙ (ap (λ k. after_link_events k rest) one.end ∙ more.end));
     }
@@ -189,8 +183,7 @@ module _ (h : ℕ) where
       go [] j later = absurd (omega (arith, j))
       go (x ∷ xs) j later =
           let m : Link = link_after (record l { to_controller = x ∷ xs }) (Taken (end_of h Controller)) in
-          let less : length m.to_controller ≡ length xs = ap (length {A = OnWire}) (wire_after l x xs (FetchMessage ∷ [])) in
-          ((refl, omega arith), later m (omega (arith, j, less)))
+          ((refl, omega arith), later m (omega (arith, j, (ap (length {A = OnWire}) (wire_after l x xs (FetchMessage ∷ []))))))
 
   far_are : (k : ℕ) (l : Link) → k ≤ length l.to_host → AreRoundCauses h l (replicate k (Taken (end_of h Host)))
   far_are zero l i = tt
@@ -202,8 +195,7 @@ module _ (h : ℕ) where
       go [] j later = absurd (omega (arith, j))
       go (x ∷ xs) j later =
           let m : Link = link_after (record l { to_host = x ∷ xs }) (Taken (end_of h Host)) in
-          let less : length m.to_host ≡ length xs = ap (length {A = OnWire}) (wire_after (exchanged l) x xs (FetchMessage ∷ [])) in
-          ((refl, omega arith), later m (omega (arith, j, less)))
+          ((refl, omega arith), later m (omega (arith, j, (ap (length {A = OnWire}) (wire_after (exchanged l) x xs (FetchMessage ∷ []))))))
 
   abbrev pub near : Link → List Cause
   near l = replicate (length l.to_controller) (Taken (end_of h Controller))
@@ -234,20 +226,15 @@ module _ (h : ℕ) where
 
   one_tick : (l : Link) → times_ticked (causes_of_round h l) ≡ 1
   one_tick l =
-      let m : Link = link_after_all l (near l) in
-      let first = ticks-append (near l) (far l ++ Ticked ∷ []) in
-      let second = ticks-append (far l) (Ticked ∷ []) in
       let one = no_ticks (length l.to_controller) Controller in
-      let two = no_ticks (length m.to_host) Host in
-      omega (arith, first, second, one, two)
+      let two = no_ticks (length (link_after_all l (near l)).to_host) Host in
+      omega (arith, (ticks-append (near l) (far l ++ Ticked ∷ [])), (ticks-append (far l) (Ticked ∷ [])), one, two)
 
   pub ticks_are : (r : ℕ) (l : Link) → times_ticked (causes_of_rounds r h l) ≡ r
   ticks_are zero l = refl
   ticks_are (suc r) l =
-      let sum = ticks-append (causes_of_round h l) (causes_of_rounds r h (link_after_round h l)) in
-      let one = one_tick l in
       let rest = ticks_are r (link_after_round h l) in
-      omega (arith, sum, one, rest)
+      omega (arith, (ticks-append (causes_of_round h l) (causes_of_rounds r h (link_after_round h l))), (one_tick l), rest)
 
   -- ### Their number
 
@@ -256,29 +243,20 @@ module _ (h : ℕ) where
 
   round_few : (l : Link) → IsFewWires l → length (causes_of_round h l) ≤ 2 * 64 + 1
   round_few l a =
-      let m : Link = link_after_all l (near l) in
-      let b : IsFewWires m = causes_few l (near l) a in
-      let first = length-append (near l) (far l ++ Ticked ∷ []) in
-      let second = length-append (far l) (Ticked ∷ []) in
       let one = length-replicate (length l.to_controller) (Taken (end_of h Controller)) in
-      let two = length-replicate (length m.to_host) (Taken (end_of h Host)) in
-      let p = a.to_controller in
-      let q = b.to_host in
-      omega (arith, first, second, one, two, p, q)
+      let two = length-replicate (length (link_after_all l (near l)).to_host) (Taken (end_of h Host)) in
+      let q = (causes_few l (near l) a).to_host in
+      omega (arith, (length-append (near l) (far l ++ Ticked ∷ [])), (length-append (far l) (Ticked ∷ [])), one, two, a.to_controller, q)
 
   pub rounds_few : (r : ℕ) (l : Link) → IsFewWires l → length (causes_of_rounds r h l) ≤ (2 * 64 + 1) * r
   rounds_few zero l a = omega arith
   rounds_few (suc r) l a =
       let m : Link = link_after_round h l in
-      let sum = length-append (causes_of_round h l) (causes_of_rounds r h m) in
-      let one = round_few l a in
       let rest = rounds_few r m (causes_few l (causes_of_round h l) a) in
-      omega (arith, sum, one, rest)
+      omega (arith, (length-append (causes_of_round h l) (causes_of_rounds r h m)), (round_few l a), rest)
 
 pub bare_few : (cs : List Cause) → IsFewWires (link_after_all bare_link cs)
-bare_few cs =
-    let none : IsFewWires bare_link = record { to_controller = omega arith; to_host = omega arith } in
-    subst IsFewWires (sym (after_causes cs bare_link)) (after_few (map event_of cs) bare_link none)
+bare_few cs = subst IsFewWires (sym (after_causes cs bare_link)) (after_few (map event_of cs) bare_link (grind arith))
 
 -- ## The rounds of a bare link are the same whatever number its host has
 

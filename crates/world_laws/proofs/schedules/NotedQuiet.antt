@@ -157,9 +157,6 @@ module _ (header : Header) (nodes : header.hci ≡ true) (are : AreHosts header.
   abbrev played : NodeHistory
   played = record { header = header; steps = steps_from (new_world header.hosts.items) (lines_played header plays) }
 
-  played_follows : FollowsNodes header (lines_played header plays) played
-  played_follows = record { nodes = nodes; header_is = refl; steps_are = refl; sure = sure }
-
   pub nodes_settled : (h : ℕ) (s : Site) → site_at (nodes_behind header (lines_played header plays)).sites h ≡ Some s → (n : ℕ)
       → IsLinkUndisturbed s.link (rounds_events h (rounds_to_rest header plays n) (nodes_behind header (lines_played header plays)))
       → 24 * (fragments_left s.link + 1) ≤ n
@@ -167,11 +164,10 @@ module _ (header : Header) (nodes : header.hci ≡ true) (are : AreHosts header.
   nodes_settled h s found n u fits =
       let w : NodeWorld = nodes_behind header (lines_played header plays) in
       let many : rounds_to_rest header plays n ≡ world_rounds_to_settle n w = nodes_come_to_rest header nodes plays n in
-      let calm : IsLinkUndisturbed s.link (rounds_events h (world_rounds_to_settle n w) w) = grind arith in
       let end : nodes_behind header (lines_played header (plays ++ replicate (rounds_to_rest header plays n) Round)) ≡ (world_settling n w).0 =
       played_rounds header nodes (rounds_to_rest header plays n) plays ∙ ap (λ (r : ℕ). (rounds_of_world r w).0) many in
       subst (λ (v : NodeWorld). LinkSettled v h s) (sym end)
-      (settles_behind header (lines_played header plays) played played_follows are p h s found n calm fits)
+      (settles_behind header (lines_played header plays) played (grind arith) are p h s found n (grind arith) fits)
 
 -- what is played of a schedule and of a line behind it that lets the links settle
 pub with_settle : (header : Header) (lines : List Line) (n : ℕ)
@@ -189,9 +185,7 @@ module _ (header : Header) (are : AreHosts header.hosts.items) (plays : List Pla
       → IsLinkUndisturbed s.link (rounds_events h (rounds_to_rest header plays n) (nodes_behind header (lines_played header plays)))
       → 24 * (fragments_noted (node_entries t) h k + 1) ≤ n → BothBrought (node_entries t) (node_entries later) h k
   noted_behind h s found k up up_later u fits =
-      let was : ReadNow header (lines_played header plays) t follows are p h s k =
-      read_now header (lines_played header plays) t follows are p h s found k up in
-      let left = was.left in
+      let left = (read_now header (lines_played header plays) t follows are p h s found k up).left in
       let there = nodes_settled header follows.nodes are plays p follows.sure h s found n u (omega (arith, left, fits)) in
       let all : List Line = lines_played header (plays ++ replicate (rounds_to_rest header plays n) Round) in
       let is : ReadNow header all later goes_on are later_p h there.later k =
@@ -268,9 +262,8 @@ module _ (header : Header) (lines : List Line) (t : History) (valid : AllByRecur
       (known_after (link_events xs) bare_link may (record { good = start_good bare_link IsBare; reached = start_reached bare_link IsBare })).0 in
       let one = end_left (entries_for h (notes_of xs)) (end_c h) n (talk_now m.controller.side) known.good.controller.now.says here in
       let two = end_left (entries_for h (notes_of xs)) (end_h h) n (talk_now m.host.side) known.good.host.now.says there in
-      let all : ReadInBare (entries_for h (notes_of xs)) h m n = record { near = here; far = there; left = omega (arith, one, two) } in
       subst (λ (l : Link). ReadInBare (all_entries t) h l n) (happened_leads header lines t valid follows)
-      (subst (λ (es : List Entry). ReadInBare es h m n) (sym told) all)
+      (subst (λ (es : List Entry). ReadInBare es h m n) (sym told) (record { near = here; far = there; left = omega (arith, one, two) }))
 
 -- behind these plays and the rounds in which the link settles then
 module _ (header : Header) (bare : header.hci ≡ false) (plays : List Play) (n : ℕ) (t later : History)
@@ -283,13 +276,11 @@ module _ (header : Header) (bare : header.hci ≡ false) (plays : List Play) (n 
       (settling_events n (host_of header) (bare_link_behind header (lines_played header plays)))
       → 24 * (fragments_noted (all_entries t) (host_of header) k + 1) ≤ n → BothBrought (all_entries t) (all_entries later) (host_of header) k
   bare_behind k up up_later u fits =
-      let h : ℕ = host_of header in
       let l : Link = bare_link_behind header (lines_played header plays) in
       let all : List Line = lines_played header (plays ++ replicate (rounds_to_rest header plays n) Round) in
       let m : Link = bare_link_behind header all in
-      let was : ReadInBare (all_entries t) h l k = read_in_bare header (lines_played header plays) t valid follows k up in
-      let is : ReadInBare (all_entries later) h m k = read_in_bare header all later later_valid goes_on k up_later in
-      let left = was.left in
+      let is : ReadInBare (all_entries later) (host_of header) m k = read_in_bare header all later later_valid goes_on k up_later in
+      let left = (read_in_bare header (lines_played header plays) t valid follows k up).left in
       let come : LinkBrought l m = bare_settled header bare plays t valid follows n u (omega (arith, left, fits)) in
       grind arith
 
@@ -353,14 +344,12 @@ round_occurs : (ends : List End) (w : NodeWorld) → occurring w (round_in w end
 round_occurs [] w = append-nil (all_happen w (Ticks ∷ [])).1
 round_occurs (e ∷ ends) w =
     let v : NodeWorld = world_after w (taking_in w e) in
-    let u : NodeWorld = (end_takes_all w e).0 in
     let now : List Occurrence = (end_takes_all w e).1 in
-    let taken : NodeWorld × List Occurrence = ends_take_all u ends in
-    let last : List Occurrence = (all_happen taken.0 (Ticks ∷ [])).1 in
+    let taken : NodeWorld × List Occurrence = ends_take_all ((end_takes_all w e).0) ends in
     occurring-append (taking_in w e) (round_in v ends) w
     ∙ (ap (λ (os : List Occurrence). os ++ occurring v (round_in v ends)) (taking_occurs w e)
     ∙ (ap (λ (os : List Occurrence). now ++ os) (round_occurs ends v ∙ ap (λ (x : NodeWorld). occurring_in x ends) (takes_so w e).world)
-    ∙ sym (append_assoc now taken.1 last)))
+    ∙ sym (append_assoc now taken.1 ((all_happen taken.0 (Ticks ∷ [])).1))))
 
 module _ (header : Header) (nodes : header.hci ≡ true) where
   abbrev so_far : List Play → List Occurrence
@@ -383,12 +372,11 @@ module _ (header : Header) (nodes : header.hci ≡ true) where
   rounds_occur (suc n) plays =
       let w : NodeWorld = nodes_behind header (lines_played header plays) in
       let v : NodeWorld = world_after_round w in
-      let now : List Occurrence = (world_round w).1 in
       ap so_far (round_first plays n)
       ∙ (rounds_occur n (plays ++ Round ∷ [])
       ∙ (ap (λ (u : NodeWorld). so_far (plays ++ Round ∷ []) ++ (rounds_of_world n u).1) (played_round header nodes plays)
       ∙ (ap (λ (os : List Occurrence). os ++ (rounds_of_world n v).1) (one_round_occurs plays)
-      ∙ append_assoc (so_far plays) now (rounds_of_world n v).1)))
+      ∙ append_assoc (so_far plays) ((world_round w).1) (rounds_of_world n v).1)))
 
 -- ## Where links are at rest behind plays, the history of these plays notes it
 
@@ -402,8 +390,7 @@ module _ (header : Header) (lines : List Line) (t : NodeHistory) (follows : Foll
       let r = reached header lines t follows are p in
       let q : site_at w.sites h ≡ Some s = ap (λ (v : NodeWorld). site_at v.sites h) (last header lines t follows are p) ∙ found in
       let b = r.so.each h s q in
-      let zero = host_number w h s r.so.well.orderly q in
-      let read : AreSessionsRead (node_entries t) h s.link = are_read h s.link (node_entries t) zero b.told in
+      let read : AreSessionsRead (node_entries t) h s.link = are_read h s.link (node_entries t) (host_number w h s r.so.well.orderly q) b.told in
       let off : AreReadOff (node_entries t) h s.link = read_off h s.link (node_entries t) b.told in
       grind arith
 
@@ -415,7 +402,6 @@ module _ (header : Header) (lines : List Line) (t : History) (valid : AllByRecur
       let h : ℕ = host_of header in
       let xs : List Event = all_events t in
       let run : IsRun h t = is_run header lines t valid follows in
-      let told : all_entries t ≡ entries_for h (notes_of xs) = run_entries h t.opening xs run.opening run.events in
       let notes : List Noted = notes_of xs in
       let m : Link = after_link_events bare_link (link_events xs) in
       let may = of_allowed h bare_link xs run.events in
@@ -438,4 +424,4 @@ module _ (header : Header) (lines : List Line) (t : History) (valid : AllByRecur
             acked_all (entries_for h notes) (end_h h) n m.host (history_read h xs n Host _ (read_there bare_link IsBare (link_events xs) may n))
             quiet.host now.0 now.1;
       } in
-      subst (λ (es : List Entry). AreNotedQuietInBare es h) (sym told) all
+      subst (λ (es : List Entry). AreNotedQuietInBare es h) (sym (run_entries h t.opening xs run.opening run.events)) all

@@ -1,7 +1,7 @@
 -- What a tap reports over a history of a world of nodes is what was got.
 use Rattle.world_laws.proofs.Words.{AreHosts, ArePlayable, Bool, End, Entry, FollowsNodes, Header, IsLine, IsLinkTold, IsSo, IsStrange, Line, Link, List}
 use Rattle.world_laws.proofs.Words.{NodeHistory, None, Noted, Occurrence, Option, Saying, [], ap, arith, cons_option, cuts_on, entries, entries_for}
-use Rattle.world_laws.proofs.Words.{entries_in, entries_of, false, filter_map, got_on, gots_noted, gots_on, history_so, hosts_are, is_cut, is_of, list_any}
+use Rattle.world_laws.proofs.Words.{entries_in, entries_of, false, filter_map, got_on, gots_noted, gots_on, history_so, hosts_are, is_of, list_any}
 use Rattle.world_laws.proofs.Words.{lpdus_heard, lpdus_on, new_line, new_world, no_cut, occurrences_in, of_link, playable, put_on, refl, said, subst, sym}
 use Rattle.world_laws.proofs.Words.{tapped_lpdus, true, world_behind, ℕ, ◌++◌, ◌∙◌, ◌∷◌, ◌≡◌}
 use Rattle.node_laws.proofs.order.Sessions.{Whether, whether}
@@ -44,8 +44,7 @@ told_reports h l t a uncut =
     lpdus_alone h t ∙ (ap (lpdus_on h) a.told ∙ (sym (lpdus_alone h (entries_for h notes)) ∙ lpdus_same h notes)) in
     let got : gots_on h t ≡ gots_noted notes =
     gots_alone h t ∙ (ap (gots_on h) a.told ∙ (sym (gots_alone h (entries_for h notes)) ∙ gots_same h notes)) in
-    let none : list_any is_cut notes ≡ false = no_cut h t notes uncut a.stands_from in
-    ap (tapped_lpdus false) heard ∙ (tap_reports_lpdus new_line IsLine a.events a.run.allowed none ∙ sym got)
+    ap (tapped_lpdus false) heard ∙ (tap_reports_lpdus new_line IsLine a.events a.run.allowed (no_cut h t notes uncut a.stands_from) ∙ sym got)
 
 -- no link has this number
 strange_reports : (h : ℕ) (t : List Entry) → of_link h t ≡ [] → tapped_lpdus false (lpdus_on h t) ≡ gots_on h t

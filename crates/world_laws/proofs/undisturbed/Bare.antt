@@ -3,27 +3,26 @@ use Rattle.world_laws.proofs.Words.{AllAllowed, AllByRecursion, AreBothReady, Ar
 use Rattle.world_laws.proofs.Words.{AreUnstarted, AsksReset, AtController, AtHost, Bool, Cause, Caused, Controller, Cut, End, EndEvent, Entry, Event}
 use Rattle.world_laws.proofs.Words.{FetchMessage, Follows, Give, Given, GoesOut, Header, History, HistoryStep, Hold, Host, IsBare, IsEndOf, IsHeader, IsLineOf}
 use Rattle.world_laws.proofs.Words.{IsLinkUndisturbed, IsPlayedLine, IsRun, IsUnderWay, Line, Link, LinkEnd, LinkEvent, List, MayFollow, NextFrame, NoInput}
-use Rattle.world_laws.proofs.Words.{None, Noted, NumberedEnd, OnWire, Option, Play, Readied, Reset, Restarted, Round, Said, Side, Some, Step}
-use Rattle.world_laws.proofs.Words.{StepsFollow, Take, Taken, Tick, Ticked, Turn, WasLost, WasReset, [], after_causes, after_input, after_link_events, again}
-use Rattle.world_laws.proofs.Words.{aged, all_entries, all_events, allowed_parts, ap, append-nil, append_assoc, arith, bare_link, bare_link_behind}
-use Rattle.world_laws.proofs.Words.{bare_round_lines, becomes, beside-put_all, busy_after, by_test, causes_in, causes_of, causes_of_round}
-use Rattle.world_laws.proofs.Words.{causes_of_rounds, causes_on, cond, controller_heard, drop, drop-append_seam, end_of, ended_by, entries}
-use Rattle.world_laws.proofs.Words.{entries_for, entries_since, entry_of, eq-eqb, event_of, events_at, events_in, events_of, exchanged, false, first_entries}
-use Rattle.world_laws.proofs.Words.{flat_map-append, fold, frames_out, frames_to, happens, happens_at_controller, heard, heard-append}
-use Rattle.world_laws.proofs.Words.{host_ended, host_heard, host_of, if◌then◌else◌, is_clear, is_left_busy, is_run, is_settling, is_some, length, lines-append}
-use Rattle.world_laws.proofs.Words.{lines_played, link_after, link_after_all, link_after_line, link_after_lines, link_after_round, link_events, list_any, map}
-use Rattle.world_laws.proofs.Words.{map-append, not, notes_of, of_allowed, of_can, outcome_of, plain_trace, played_more, plays_of, plays_of_line, refl, refusal}
-use Rattle.world_laws.proofs.Words.{replicate, round_behind, round_first, round_on, rounds_to_rest, rounds_to_settle, run_entries, same_side, session-all}
-use Rattle.world_laws.proofs.Words.{session_number, session_up, settling_causes, settling_events, start_under_way, steps_at_controller, subst, suc, sym}
-use Rattle.world_laws.proofs.Words.{taken_of, takes_on, taking_on, ticks_at_controller, took_with, true, true≢false, turn, turned, unwrap_or, with_ended, zero}
-use Rattle.world_laws.proofs.Words.{ℕ, ◌&&◌, ◌++◌, ◌==◌, ◌∙◌, ◌∷◌, ◌≡◌}
+use Rattle.world_laws.proofs.Words.{None, Noted, NumberedEnd, OnWire, Option, Play, Readied, Reset, Restarted, Round, Said, Side, Some, Step, StepsFollow, Take}
+use Rattle.world_laws.proofs.Words.{Taken, Tick, Ticked, Turn, WasLost, WasReset, [], after_causes, after_input, after_link_events, again, aged, all_entries}
+use Rattle.world_laws.proofs.Words.{all_events, allowed_parts, ap, append-nil, append_assoc, arith, bare_link, bare_link_behind, bare_round_lines, becomes}
+use Rattle.world_laws.proofs.Words.{beside-put_all, busy_after, by_test, causes_in, causes_of, causes_of_round, causes_of_rounds, causes_on, cond}
+use Rattle.world_laws.proofs.Words.{controller_heard, drop, drop-append_seam, end_of, ended_by, entries, entries_for, entries_since, entry_of, eq-eqb, event_of}
+use Rattle.world_laws.proofs.Words.{events_at, events_in, events_of, exchanged, false, first_entries, flat_map-append, fold, frames_out, frames_to, happens}
+use Rattle.world_laws.proofs.Words.{happens_at_controller, heard, heard-append, host_ended, host_heard, host_of, if◌then◌else◌, is_clear, is_left_busy, is_run}
+use Rattle.world_laws.proofs.Words.{is_settling, is_some, length, lines-append, lines_played, link_after, link_after_all, link_after_line, link_after_lines}
+use Rattle.world_laws.proofs.Words.{link_after_round, link_events, list_any, map, map-append, not, notes_of, of_allowed, of_can, outcome_of, plain_trace}
+use Rattle.world_laws.proofs.Words.{played_more, plays_of, plays_of_line, refl, refusal, replicate, round_behind, round_first, round_on, rounds_to_rest}
+use Rattle.world_laws.proofs.Words.{rounds_to_settle, run_entries, same_side, session-all, session_number, session_up, settling_causes, settling_events}
+use Rattle.world_laws.proofs.Words.{start_under_way, steps_at_controller, subst, suc, sym, taken_of, takes_on, taking_on, ticks_at_controller, took_with, true}
+use Rattle.world_laws.proofs.Words.{true≢false, turn, turned, unwrap_or, with_ended, zero, ℕ, ◌&&◌, ◌++◌, ◌==◌, ◌∙◌, ◌∷◌, ◌≡◌}
 use Rattle.history.proofs.legal.Settled.{only_one}
 use Rattle.node_laws.proofs.order.Watches.{is_cut}
 use Rattle.world_laws.proofs.links.RoundCauses.{rounds_are}
 use Rattle.world_laws.proofs.schedules.NotedQuiet.{as_many, happened_leads, one_round, settled_link}
 use Rattle.world_laws.proofs.undisturbed.Runs.{AreBothUpNow, AreRoundEvents, Calm, Unbegun, calm_run, keeps, trace-append, way_to}
 use Rattle.world_laws.proofs.undisturbed.Nodes.{noted_calm}
-use Rattle.world_laws.proofs.undisturbed.Holding.{asked_ready, had_tick_ready, ready_after, sent_ready, took_ready, turn_ready}
+use Rattle.world_laws.proofs.undisturbed.Holding.{ready_after, sent_ready, took_ready, turn_ready}
 use Rattle.trace_model.specs.declared.line.Line.TheVariants as saying
 
 -- ## What a history of a bare world notes behind an earlier one, where rounds stand between them; and whether its ends take fragments
@@ -160,9 +159,8 @@ frame_readied l ts none = go l.to_controller refl
         let m : Link = with_ended (record l { to_controller = xs }) b in
         let k : Link = record m { controller = record m.controller { took = took_with l.controller.took x } } in
         let f : LinkEnd = turned (after_input e (Take x.frame)) ts in
-        let is : steps_at_controller l NextFrame ts GoesOut ≡ becomes k f = rw q refl in
         let P : Link → Type 0 = λ m. HasReady l m l.controller.side.shdlc.ready in
-        subst P (sym is) (became l k f e.shdlc.ready (host_ended (record l { to_controller = xs }) b)
+        subst P (sym (rw q refl)) (became l k f e.shdlc.ready (host_ended (record l { to_controller = xs }) b)
         (turned_ready (after_input e (Take x.frame)) ts e.shdlc.ready (took_ready e x.frame) ∙ none))
 
 -- ## Whether the ends of a bare world take fragments behind the lines of a schedule: the last line that says so decides
@@ -188,13 +186,13 @@ with_turn t ready k is = became k k (turned k.controller.side (t ∷ [])) (ready
 ticked_here : (l : Link) → HasReady l (ticks_at_controller l [] GoesOut) l.controller.side.shdlc.ready
 ticked_here l =
     let b : Bool = is_some (ended_by l.controller.side Tick) in
-    became l (with_ended l b) (after_input l.controller.side Tick) l.controller.side.shdlc.ready (host_ended l b) (had_tick_ready l.controller.side)
+    became l (with_ended l b) (after_input l.controller.side Tick) l.controller.side.shdlc.ready (host_ended l b) (grind arith)
 
 reset_here : (window : Option ℕ) (l : Link) → HasReady l (happens_at_controller l (Step (AsksReset window) [] GoesOut)) l.controller.side.shdlc.ready
 reset_here window l =
     let b : Bool = is_some (ended_by l.controller.side (Reset window)) in
     became l (with_ended l b) (after_input l.controller.side (Reset window)) l.controller.side.shdlc.ready (host_ended l b)
-    (asked_ready l.controller.side window)
+    (grind arith)
 
 cause_readies : (at_host : Bool) (l : Link) (c : Cause) → ready_at at_host (link_after l c) ≡ readied_by at_host (ready_at at_host l) c
 cause_readies at_host l (Given e m) =
@@ -325,12 +323,9 @@ module _ (header : Header) (is : IsHeader header) (at_host : Bool) where
       → ready_at at_host (behind_lines (before ++ lines)) ≡ not (fold (busy_after here) busy lines)
   all_ready [] before busy may was = ap (λ ls. ready_at at_host (behind_lines ls)) (append-nil before) ∙ was
   all_ready (line ∷ lines) before busy may was =
-      let h : ℕ = host_of header in
       let next : List Line = before ++ line ∷ [] in
-      let goes : behind_lines next ≡ link_after_line (behind_lines before) (outcome_of h (behind_lines before) line) =
-      lines-append h before (line ∷ []) bare_link in
       let now : ready_at at_host (behind_lines next) ≡ not (busy_after here busy line) =
-      ap (ready_at at_host) goes
+      ap (ready_at at_host) (lines-append (host_of header) before (line ∷ []) bare_link)
       ∙ (line_ready (behind_lines before) line may.0.may_follow may.0.settles_not ∙ ap (λ b. not (busy_after here b line)) (ap not was ∙ not_not busy)) in
       ap (λ ls. ready_at at_host (behind_lines ls)) (sym (append_assoc before (line ∷ []) lines))
       ∙ all_ready lines next (busy_after here busy line) may.1 now
@@ -483,12 +478,10 @@ module _ (header : Header) (bare : header.hci ≡ false) (plays : List Play) (n 
     -- both ends are up in the same session behind the rounds
     session_later : (who : Side) → session_number (all_entries t) (end_of h who) ≡ Some k → session_number (all_entries later) (end_of h who) ≡ Some k
     session_later who was =
-        let told : all_entries t ≡ entries_for h (notes_of xs) = run_entries h t.opening xs run.opening run.events in
-        let told_later : all_entries later ≡ entries_for h (notes_of ys) = run_entries h later.opening ys later_run.opening later_run.events in
         let before : heard who None (notes_of xs) ≡ Some k =
         sym (session-all h (notes_of xs) who (plain_trace (causes_of xs)))
-        ∙ (sym (ap (λ (z : List Entry). session_number z (end_of h who)) told) ∙ was) in
-        ap (λ (z : List Entry). session_number z (end_of h who)) told_later
+        ∙ (sym (ap (λ (z : List Entry). session_number z (end_of h who)) (run_entries h t.opening xs run.opening run.events)) ∙ was) in
+        ap (λ (z : List Entry). session_number z (end_of h who)) (run_entries h later.opening ys later_run.opening later_run.events)
         ∙ (session-all h (notes_of ys) who (plain_trace (causes_of ys))
         ∙ (ap (heard who None) later_notes
         ∙ (heard-append who None (notes_of xs) (entries l es)

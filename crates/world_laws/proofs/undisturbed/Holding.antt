@@ -3,20 +3,18 @@ use Rattle.world_laws.proofs.Words.{About, ActEvent, ActStart, ActStop, AsksRese
 use Rattle.world_laws.proofs.Words.{FetchMessage, Give, GoesOut, Hold, IsComing, IsOutside, Link, LinkEnd, LinkInput, List, Message, NextFrame, NoInput}
 use Rattle.world_laws.proofs.Words.{NodeInput, None, Option, Port, Release, Reset, Role, SetAside, Some, Start, Starts, Stop, Stops, Take, Tick, TimePasses}
 use Rattle.world_laws.proofs.Words.{Turn, Work, [], activated, after_input, after_sessions, after_turn, all_come, all_done, all_owed, ap, arith, by_list}
-use Rattle.world_laws.proofs.Words.{by_option, by_test, changed_if, commit, cond, done, end_of_node, ended_by, eqb-true, false, finished, flat_map, forgets}
-use Rattle.world_laws.proofs.Words.{forgotten, had_tick, has_come, input_at, input_of, is_forgotten, is_held, is_held_at, is_over, is_some, is_waiting, lacking}
+use Rattle.world_laws.proofs.Words.{by_option, by_test, changed_if, cond, done, end_of_node, ended_by, eqb-true, false, finished, flat_map, forgets}
+use Rattle.world_laws.proofs.Words.{forgotten, has_come, input_at, input_of, is_forgotten, is_held, is_held_at, is_over, is_some, is_waiting, lacking}
 use Rattle.world_laws.proofs.Words.{map, most_frames, moved, new_link_end, not, notified, noting, option_map_or, port_at, refl, renewed, reset_late}
-use Rattle.world_laws.proofs.Words.{reset_refusal, reset_with, sent_all, sent_same, silent, steps, steps_at_controller, stopped, subst, sym, synced, ticked_so}
-use Rattle.world_laws.proofs.Words.{ticks_at_controller, times_out, took, true, true≢false, turn, turn_at, turned, unless_cut, waiting_at, window_of, with_desk}
+use Rattle.world_laws.proofs.Words.{reset_with, sent_all, sent_same, silent, steps, steps_at_controller, stopped, subst, sym, synced, ticked_so}
+use Rattle.world_laws.proofs.Words.{ticks_at_controller, times_out, took, true, true≢false, turn, turn_at, turned, unless_cut, waiting_at, with_desk}
 use Rattle.world_laws.proofs.Words.{with_ended, with_older, with_port, without_notice, ℕ, ◌&&◌, ◌++◌, ◌==◌, ◌∙◌, ◌∷◌, ◌≡◌}
-use Rattle.hci_tables.specs.declared.command.Command.{Command}
 use Rattle.node_laws.proofs.kept.Doing.{stays_cut, uncut}
 use Rattle.node_laws.proofs.passes.Passing.{have_handled, have_held}
 use Rattle.node_laws.proofs.passes.Replying.{other_stays, own_changed}
 use Rattle.node_laws.proofs.steps.StepWalks.{changed_host, come_host, forgets_host, late_host, unless, without_host}
 use Rattle.node_laws.proofs.telling.Accounts.{deeds_mute, handling}
 use Rattle.node_laws.proofs.telling.Steps.{at_map}
-use Rattle.node_laws.specs.passes.Noting.{goes_in}
 use Rattle.node_machine.specs.Controller.{asked_at}
 use Rattle.node_machine.specs.Parts.About.{Removed, Waits}
 use Rattle.node_machine.specs.Parts.Deed.{Asks, Commits, IsAnswered, Orders, Releases, Sends, SetsErrors, Tells}
@@ -35,12 +33,6 @@ activated_ready e event = grind arith
 
 pub took_ready : (e : LinkEnd) (c : Control) → (took e c).shdlc.ready ≡ e.shdlc.ready
 took_ready e c = grind arith
-
-pub had_tick_ready : (e : LinkEnd) → (had_tick e).shdlc.ready ≡ e.shdlc.ready
-had_tick_ready e = grind arith
-
-pub asked_ready : (e : LinkEnd) (window : Option ℕ) → (after_input e (Reset window)).shdlc.ready ≡ e.shdlc.ready
-asked_ready e window = by_option (reset_refusal e) (λ q. rw q ((grind arith) ∙ reset_ready e.shdlc (window_of e window))) (λ why q. rw q refl)
 
 -- ### Its node's turns
 
@@ -77,8 +69,8 @@ turned_ready e (t ∷ ts) = turned_ready (turn e t) ts ∙ ap (λ b. readied b t
 
 coming_ready : (e : LinkEnd) (i : LinkInput) → IsComing i → (after_input e i).shdlc.ready ≡ e.shdlc.ready
 coming_ready e (Take c) is = took_ready e c
-coming_ready e Tick is = had_tick_ready e
-coming_ready e (Reset window) is = asked_ready e window
+coming_ready e Tick is = grind arith
+coming_ready e (Reset window) is = grind arith
 coming_ready e (Start value) is = activated_ready (moved e true (stopped e.shdlc)) (ActStart value)
 coming_ready e Stop is = activated_ready (moved e true (stopped e.shdlc)) ActStop
 coming_ready e _ is = absurd is
@@ -220,11 +212,8 @@ module _ (k : ℕ) (ready : Bool) where
       kept_desk j (λ d. record d { notice = Some (record { about = about; age = 0 }) }) (turn_at j (Give (1, message)) w) (λ d. refl) (λ d. refl)
       (kept_turn j (Give (1, message)) w tt a)
 
-  kept_commit : (c : Command) (w : Work) → Kept w → Kept (commit c w)
-  kept_commit c w a = by_test (goes_in c w) (λ q. rw q a) (λ q. rw q a)
-
   kept_deed : (h : ℕ) (d : Deed) (w : Work) → Kept w → Kept (done h d w)
-  kept_deed h (Commits c) w a = kept_commit c w a
+  kept_deed h (Commits c) w a = grind arith
   kept_deed h (Sends to m) w a = kept_turn to (Give m) w tt a
   kept_deed h (Asks to message c) w a =
       kept_notified to (Waits c) message (noting (entry.Ask to message ∷ []) (turn_at c.asker SetAside w)) (kept_turn c.asker SetAside w tt a)
@@ -348,11 +337,8 @@ module _ (k : ℕ) (ready : Bool) where
 
   -- ### What comes
 
-  same_kept : (p q : Port) → q.side.shdlc.ready ≡ p.side.shdlc.ready → q.turns ≡ p.turns → q.desk.holds ≡ p.desk.holds → KeepsHeld ready p → KeepsHeld ready q
-  same_kept p q r t h a = record { told = r ∙ (a.told ∙ ap (readied ready) (sym t)); held = λ busy. h ∙ a.held (sym r ∙ busy) }
-
   come_kept : (p : Port) (i : LinkInput) → IsComing i → KeepsHeld ready p → KeepsHeld ready (has_come p (Some i))
-  come_kept p i is a = same_kept p (has_come p (Some i)) (coming_ready p.side i is) refl refl a
+  come_kept p i is a = let h0 = has_come p (Some i) in let h1 = coming_ready p.side i is in grind arith
 
   come_there : (input : NodeInput) → IsOutside input → (p : Port) → KeepsHeld ready p → KeepsHeld ready (has_come p (input_at input p))
   come_there (AtEnd h i) is p a = by_test (p.desk.host == h) (λ q. rw q (come_kept p i is a)) (λ q. rw q a)

@@ -53,9 +53,8 @@ ended_so v k ready e kept is = by v.cut refl is
         go : e.shdlc.ready ≡ false → (o : Option Port) → port_at v.ports k ≡ o → There (KeepsHeld ready) o → is_held_at v.ports k ≡ true
         go busy None p a = absurd a
         go busy (Some x) p a =
-            let turns : turns_at v k ≡ x.turns = ap (λ (o : Option Port). option_map_or (λ (p : Port). p.turns) o []) p in
             ap (λ (o : Option Port). option_map_or (λ (p : Port). p.desk.holds) o false) p
-            ∙ a.held (a.told ∙ (ap (readied ready) (sym turns) ∙ (sym q ∙ busy)))
+            ∙ a.held (a.told ∙ (ap (readied ready) (sym (ap (λ (o : Option Port). option_map_or (λ (p : Port). p.turns) o []) p)) ∙ (sym q ∙ busy)))
 
 -- ## Sites
 
@@ -161,8 +160,7 @@ module _ (h : ℕ) where
 
     far_there : (r : Running) (s : Site) → HasEnds s.host (s.host ∷ []) r → (near_end : NumberedEnd) → Stands (λ j. near_end) r.desks s.host
     far_there r s has near_end =
-        let here : site_at (s ∷ []) s.host ≡ Some s = let same : (s.host == s.host) ≡ true = same_number s.host in rw same refl in
-        stands (λ j. near_end) r.desks (s ∷ []) s.host s has.ends here
+        stands (λ j. near_end) r.desks (s ∷ []) s.host s has.ends (let same : (s.host == s.host) ≡ true = same_number s.host in rw same refl)
 
     has_ends : IsOrderly w → (k : ℕ) (s : Site) (r : Running) → site_at w.sites k ≡ Some s → s.node ≡ Some r → HasEnds s.host (s.host ∷ []) r
     has_ends orderly k s r found runs =
@@ -178,7 +176,6 @@ module _ (h : ℕ) where
         (λ s r found runs.
         changed w.controller k (after_host comes (host_work s r comes f)) (λ x. refl)
         (λ x there z a.
-        let same : Some s ≡ Some x = sym found ∙ there in
         let is : s ≡ x = cc in
         subst (λ y. SiteHeld w.controller (after_host comes (host_work s r comes f) y)) is (one s r found runs (subst (SiteHeld w.controller) (sym is) a)))
         (λ x a. a))
@@ -192,11 +189,10 @@ module _ (h : ℕ) where
     far_one s r comes f runs a kept is =
         let v : Work = host_work s r comes f in
         let same : (near_end_in (exchanged s.link) comes).side ≡ s.link.host.side = near_end_side (exchanged s.link) comes in
-        let was : IsHeldSo (Some r) s.host (near_end_in (exchanged s.link) comes).side = grind arith in
         record {
           near = subst (λ e. IsHeldSo w.controller s.host e)
               (sym (ap (λ (x : NumberedEnd). x.side) (here_host (exchanged s.link) (Step comes (turns_at v s.host) (ending_of v))))) a.near;
-          far = ended_so v s.host (near_end_in (exchanged s.link) comes).side.shdlc.ready (after_host comes v s).link.host.side (kept was)
+          far = ended_so v s.host (near_end_in (exchanged s.link) comes).side.shdlc.ready (after_host comes v s).link.host.side (kept (grind arith))
               (is ∙ ap (λ (e : LinkEnd). ready_at_end (ending_of v) (readied e.shdlc.ready (turns_at v s.host))) (sym same));
         }
 
@@ -345,14 +341,13 @@ module _ (h : ℕ) where
       let v : Work = host_tick s r in
       let near_end : NumberedEnd = s.link.host in
       let ends : HasEnds s.host (s.host ∷ []) r = node_is s.host (s.host ∷ []) s.node r has runs in
-      let here : site_at (s ∷ []) s.host ≡ Some s = let same : (s.host == s.host) ≡ true = same_number s.host in rw same refl in
       let was : IsHeldSo (Some r) s.host near_end.side = subst (λ o. IsHeldSo o s.host s.link.host.side) runs a.far in
       record {
         near = subst (λ e. IsHeldSo c s.host e)
             (sym (ap (λ (x : NumberedEnd). x.side) (ticks_host (exchanged s.link) (turns_at v s.host) (ending_of v)))) a.near;
         far = ended_so v s.host near_end.side.shdlc.ready (after_tick s v).0.link.host.side
             (step_kept s.host near_end.side.shdlc.ready TimePasses (work_of r s.memory.plan (λ j. near_end) []) tt
-            (begun_kept r s.memory.plan (λ j. near_end) [] s.host (stands (λ j. near_end) r.desks (s ∷ []) s.host s ends.ends here) was))
+            (begun_kept r s.memory.plan (λ j. near_end) [] s.host (stands (λ j. near_end) r.desks (s ∷ []) s.host s ends.ends (grind arith)) was))
             (tick_ready (exchanged s.link) (turns_at v s.host) (ending_of v));
       })
 
@@ -362,13 +357,12 @@ module _ (h : ℕ) where
       let aged_so : IsOrderly old = orderly_map w w.memory w.controller (λ (x : Site). record x { link = aged x.link }) (λ x. refl) orderly
       orderly.controller (λ x n. n) in
       let near : NodeWorld = (controller_ticks old).0 in
-      let ticked : HeldIn near = near_tick_held old (aged_held w before) aged_so in
       let ends = near_orderly old aged_so in
       subst (λ sites. HeldAt near.controller (site_at sites h)) (sym (hosts_map near.sites))
       (sites_is (λ (s : Site). (host_ticks s).0) (λ s. by_host_tick (λ p. p.0.host ≡ s.host) s (λ q. refl) (λ r q. refl)) near.sites h
       (HeldAt near.controller) (λ q. tt)
       (λ s q. far_ticked near.controller s (site_is (λ (x : Site). IfItRuns x.host (x.host ∷ []) x.node) near.sites h s ends.nodes q)
-      (subst (HeldAt near.controller) q ticked)))
+      (subst (HeldAt near.controller) q (near_tick_held old (aged_held w before) aged_so))))
 
   -- ## All that happens
 
@@ -381,17 +375,11 @@ module _ (h : ℕ) where
       by_memory (λ v. node_at v n ≡ None) n w m (λ z. off)
       (λ z.
       rw z (sites_is (λ (s : Site). changed_if (s.host == n) (λ (x : Site). record x { memory = m }) s)
-      (λ s. host (s.host == n) s) w.sites n (λ o. node_in o ≡ None) (λ q. refl)
-      (λ s q. let none : s.node ≡ None = rw q at (rw z at off) in node (s.host == n) s ∙ none)))
+      (λ s. (grind arith)) w.sites n (λ o. node_in o ≡ None) (λ q. refl)
+      (λ s q. let none : s.node ≡ None = rw q at (rw z at off) in (grind arith) ∙ none)))
     where
       f : Site → Site
       f x = record x { memory = m }
-
-      host : (b : Bool) (s : Site) → (changed_if b f s).host ≡ s.host
-      host b s = grind arith
-
-      node : (b : Bool) (s : Site) → (changed_if b f s).node ≡ s.node
-      node b s = grind arith
 
   boots_held : (w : NodeWorld) (n : ℕ) → node_at w n ≡ None → HeldIn w → HeldIn (boots w n).0
   boots_held w n off before =

@@ -2,17 +2,17 @@
 use Rattle.world_laws.proofs.Words.{AllAllowed, AreHosts, ArePassing, ArePlayable, ArePoweredNotes, AreReadyThroughout, AreSendableTurns, AreSessionsRead}
 use Rattle.world_laws.proofs.Words.{AreUnstarted, AreUpWith, AsksReset, AtController, AtEnd, AtHost, Bool, Clf, Controller, CoreLink, Cut, End, Ending, Entry}
 use Rattle.world_laws.proofs.Words.{FollowsNodes, GoesOnLink, GoesOut, Happening, HasEnds, Header, Host, IfItRuns, IsEvent, IsFineSite, IsLine}
-use Rattle.world_laws.proofs.Words.{IsLinkUndisturbed, IsOrderly, IsUnderWay, IsUpNow, Known, Line, LineStep, Link, LinkEnd, LinkEvent, LinkInput, List, Lost}
+use Rattle.world_laws.proofs.Words.{IsLinkUndisturbed, IsOrderly, IsUnderWay, IsUpNow, Known, Line, LineStep, Link, LinkEvent, LinkInput, List, Lost}
 use Rattle.world_laws.proofs.Words.{NextFrame, NoInput, Node, NodeHistory, NodeWorld, None, Noted, Occurrence, Option, Play, Restarted, Round, Running, Saying}
 use Rattle.world_laws.proofs.Words.{Side, Site, Some, Standing, StandsOf, Step, Takes, TellOf, Ticking, Ticks, TicksWithout, TimePassing, Turn, Uicc, Work, []}
 use Rattle.world_laws.proofs.Words.{after_controller, after_events-append, after_host_step, after_link_events, aged, all_aged, all_go, all_happen}
-use Rattle.world_laws.proofs.Words.{allowed-append, ap, append-nil, are_read, arith, between, between_far, by_coming, by_host, by_option, by_test, can_happen}
+use Rattle.world_laws.proofs.Words.{allowed-append, ap, append-nil, are_read, arith, between, between_far, by_coming, by_host, by_test, can_happen}
 use Rattle.world_laws.proofs.Words.{clear_unstarted, comes_to, cond, controller_stands, controller_takes, controller_tells, controller_tick_on}
 use Rattle.world_laws.proofs.Words.{controller_ticks, controller_work, cuts_on, drop, drop-append_seam, end_c, end_h, end_of, end_takes_all, ending_of}
 use Rattle.world_laws.proofs.Words.{ends_events, ends_go, ends_in_order, ends_on, ends_take_all, entries, entries-append, entries_for, entries_in}
 use Rattle.world_laws.proofs.Words.{entries_since, eq-eqb, eqb-true, event_entries, event_step, events_of_steps, events_on, exchanged, false, fine_there}
 use Rattle.world_laws.proofs.Words.{flat_map-append, frames_at, given, happenings, happens, has_ended, heard, host_does, host_does_step, host_number}
-use Rattle.world_laws.proofs.Words.{host_ticks, host_turns, host_work, hosts_in, input_of, is_of, is_open, is_waiting, length, lines_played, link_events_in}
+use Rattle.world_laws.proofs.Words.{host_ticks, host_work, hosts_in, input_of, is_of, is_open, is_waiting, length, lines_played, link_events_in}
 use Rattle.world_laws.proofs.Words.{link_is, link_same, link_to, list_any, list_any-append, near_turns, new_clf, new_line, new_link_end, new_uicc, new_world}
 use Rattle.world_laws.proofs.Words.{no_cut, node_entries, nodes_behind, not, number_now, occurrences_in, of_link, open_up, or_none, played_rounds, refl}
 use Rattle.world_laws.proofs.Words.{replicate, round_events, round_goes, rounds_allowed, rounds_events, rounds_go, rounds_of_world, rounds_to_rest, said}
@@ -31,7 +31,6 @@ use Rattle.world_laws.proofs.schedules.NotedQuiet.{last, reached, rounds_occur}
 use Rattle.world_laws.proofs.undisturbed.Runs.{AreBothUpNow, AreRoundEvents, Calm, IsRoundEvent, TickParts, Unbegun, calm_parts, calm_run, far_session}
 use Rattle.world_laws.proofs.undisturbed.Runs.{goes_out, keeps, near_session, reset_ends, tick_parts, troubles, up_after, way_to}
 use Rattle.world_laws.proofs.worlds.Endings.{late_not_up}
-use Rattle.world_laws.proofs.worlds.FewCauses.{happens_first}
 use Rattle.world_laws.proofs.worlds.WorldRounds.{IsReached, known_there, on_first, reached_end, reached_ends, reached_round, reached_takes, reached_ticks}
 use Rattle.world_laws.proofs.worlds.WorldRounds.{runs_where_up}
 use Rattle.trace_model.specs.declared.line.Line.TheVariants as line
@@ -86,9 +85,6 @@ one_told h l e u round told stands unstarted = let h0 = append-nil (event_entrie
 
 none_told : (h : ℕ) (l : Link) (es : List LinkEvent) (u : List Entry) → es ≡ [] → of_link h u ≡ [] → ((x : Standing) → standing h x u ≡ x) → IsTold h l es u
 none_told h l es u q none leaves = grind arith
-
-silent_told : (h : ℕ) (l : Link) (es : List LinkEvent) (u : List Entry) → es ≡ [] → u ≡ [] → IsTold h l es u
-silent_told h l es u q none = none_told h l es u q (ap (of_link h) none) (λ x. ap (standing h x) none)
 
 event_told : (h : ℕ) (l : Link) (e : LinkEvent) (es : List LinkEvent) (u v : List Entry) → es ≡ e ∷ [] → u ≡ v → IsTold h l (e ∷ []) v → IsTold h l es u
 event_told h l e es u v q noted told = subst (λ z. IsTold h l z u) (sym q) (subst (λ z. IsTold h l (e ∷ []) z) (sym noted) told)
@@ -147,14 +143,13 @@ module _ (w : NodeWorld) (h : ℕ) (s : Site) (orderly : IsOrderly w) (found : s
       first = rw found refl
 
       go : (i : Option LinkInput) (c : Option Running) → input_of (link_to w.sites k) NextFrame ≡ i → w.controller ≡ c → IsTold h s.link es u
-      go None c p r = silent_told h s.link es u (first ∙ (let z : controller_takes s.host w k ≡ [] = rw p refl in z)) (noted (w, []) (rw p refl))
+      go None c p r = grind arith
       go (Some i) None p r = grind arith
       go (Some i) (Some n) p r =
           let work : Work = controller_work w n k NextFrame (steps (AtEnd k i)) in
           let at : ℕ → LinkEvent = λ m. AtController (Step (comes_to k NextFrame m) (turns_at work m) (ending_of work)) in
-          let second : controller_takes s.host w k ≡ at s.host ∷ [] = rw (p, r) refl in
           let node : HasEnds 0 (hosts_in w.sites) n = subst (IfItRuns 0 (hosts_in w.sites)) r orderly.controller in
-          event_told h s.link (at h) es u (after_controller w k NextFrame work).1 (first ∙ (second ∙ ap (λ m. at m ∷ []) number_of_taking))
+          event_told h s.link (at h) es u (after_controller w k NextFrame work).1 (first ∙ ((rw (p, r) refl) ∙ ap (λ m. at m ∷ []) number_of_taking))
           (noted (after_controller w k NextFrame work) (rw (p, r) refl))
           (one_told h s.link (at h) (after_controller w k NextFrame work).1 (grind arith)
           (controller_tells w n k NextFrame h s orderly node found i p) (controller_stands w n k NextFrame h s orderly node found i p)
@@ -174,9 +169,6 @@ module _ (w : NodeWorld) (h : ℕ) (s : Site) (orderly : IsOrderly w) (found : s
       link : link_to w.sites h ≡ s.link
       link = link_is w.sites h s found
 
-      noted : (p : NodeWorld × List Entry) → (world_step w (Takes (end_h h)) ≡ p) → u ≡ p.1
-      noted p q = ap (λ (z : NodeWorld × List Entry). z.1) q
-
       first : es ≡ site_takes s
       first = let own = eq-eqb s.host h number_of_taking in rw (found, own) refl
 
@@ -190,7 +182,7 @@ module _ (w : NodeWorld) (h : ℕ) (s : Site) (orderly : IsOrderly w) (found : s
           let second : site_takes s ≡ at s.host ∷ [] = rw (p, r) refl in
           let does = host_does_step w s n h orderly found r NextFrame i p in
           event_told h s.link (at h) es u (host_does w h NextFrame (steps (AtEnd h i))).1 (first ∙ (second ∙ ap (λ m. at m ∷ []) number_of_taking))
-          (noted (host_does w h NextFrame (steps (AtEnd h i))) (rw (is, p) refl))
+          (grind arith)
           (one_told h s.link (at h) (host_does w h NextFrame (steps (AtEnd h i))).1 tt does.own does.stands
           (frame_unstarted Host (exchanged s.link) i (turns_at (work h) s.host) (ending_of (work h)) true p))
 
@@ -260,12 +252,6 @@ near_goes_out h w n q = grind arith
 far_goes_out : (x : Site) (n : Running) → (host_ticks x).0.node ≡ Some n → (site_ticks x).ending ≡ GoesOut
 far_goes_out x n q = grind arith
 
-near_turns_are : (h : ℕ) (w : NodeWorld) → (controller_tick_on h w).0.turns ≡ near_turns w h w.controller
-near_turns_are h w = by_option w.controller (λ p. rw p refl) (λ n p. rw p refl)
-
-far_turns_are : (x : Site) → (site_ticks x).turns ≡ host_turns x x.node
-far_turns_are x = by_option x.node (λ p. rw p refl) (λ n p. rw p refl)
-
 same_node : (a b : Node) → a.turns ≡ b.turns → a.ending ≡ GoesOut → b.ending ≡ GoesOut → a ≡ b
 same_node a b turns p q = grind arith
 
@@ -330,12 +316,11 @@ module _ (hosts : List ℕ) (w : NodeWorld) (h : ℕ) (s : Site) (r : IsReached 
 
   sends : AreNodes t.near t.far
   sends =
-      let C : LinkEnd → Type 0 = Clean in
       let clean = aged_clean w.sites r.so.well.fine.sites in
       let side : x.link.host.side ≡ s.link.host.side = between_far t.late (aged s.link) t.near in
       record {
         controller = subst AreSendableTurns (sym t.near_had) (near_sends old h w.controller clean r.so.well.fine.controller);
-        host = subst AreSendableTurns (sym t.far_had) (far_sends x s.node (subst C (sym side) fine.link.line.far) fine.node);
+        host = subst AreSendableTurns (sym t.far_had) (far_sends x s.node (subst Clean (sym side) fine.link.line.far) fine.node);
       }
 
   allowed_of_ticking : IsEvent s.link event
@@ -368,12 +353,10 @@ module _ (hosts : List ℕ) (w : NodeWorld) (h : ℕ) (s : Site) (r : IsReached 
   near_is =
       let out : (controller_tick_on s.host old).0.ending ≡ GoesOut = near_goes_out s.host old controller_runs.0 controller_runs.1 in
       same_node (controller_tick_on s.host old).0 t.near
-      (near_turns_are s.host old ∙ (ap (λ n. near_turns old n w.controller) (site_host w.sites h s found) ∙ sym t.near_had)) out near_out
+      ((grind arith) ∙ (ap (λ n. near_turns old n w.controller) (site_host w.sites h s found) ∙ sym t.near_had)) out near_out
 
   far_is : site_ticks g.between ≡ t.far
-  far_is =
-      let out : (site_ticks x).ending ≡ GoesOut = far_goes_out x host_runs.0 host_runs.1 in
-      ap site_ticks middle ∙ same_node (site_ticks x) t.far (far_turns_are x ∙ sym t.far_had) out far_out
+  far_is = ap site_ticks middle ∙ same_node (site_ticks x) t.far ((grind arith) ∙ sym t.far_had) (far_goes_out x host_runs.0 host_runs.1) far_out
 
   abbrev late : Bool
   late = (controller_tick_on s.host old).1
@@ -381,15 +364,13 @@ module _ (hosts : List ℕ) (w : NodeWorld) (h : ℕ) (s : Site) (r : IsReached 
   as_ticked : link_events_in h w TimePassing ≡ tick_so s.link late t.near t.far ∷ []
   as_ticked =
       let near = g.near in
-      let is : link_events_in h w TimePassing ≡ ticks_on s w g.between = rw (found, near) refl in
-      is ∙ (ap (λ c. tick_so s.link late c (site_ticks g.between) ∷ []) near_is ∙ ap (λ d. tick_so s.link late t.near d ∷ []) far_is)
+      (grind arith) ∙ (ap (λ c. tick_so s.link late c (site_ticks g.between) ∷ []) near_is ∙ ap (λ d. tick_so s.link late t.near d ∷ []) far_is)
 
   goes_on : (host_ticks x).0.link ≡ happens s.link (tick_so s.link late t.near t.far)
   goes_on =
       let same : Some (host_ticks x).0 ≡ Some g.goes.later = sym t.there ∙ g.goes.is in
       let one : (host_ticks x).0 ≡ g.goes.later = cc in
-      let near = g.near in
-      let is : link_events_in h w TimePassing ≡ ticks_on s w g.between = rw (found, near) refl in
+      let is : link_events_in h w TimePassing ≡ ticks_on s w g.between = rw (found, g.near) refl in
       ap (λ (z : Site). z.link) one ∙ (g.goes.link ∙ ap (after_link_events s.link) (sym is ∙ as_ticked))
 
   event_so : tick_so s.link late t.near t.far ≡ event
@@ -405,9 +386,7 @@ module _ (hosts : List ℕ) (w : NodeWorld) (h : ℕ) (s : Site) (r : IsReached 
       (λ q. rw q refl)
 
   tick_calmly : GoesCalmly s.link (link_events_in h w TimePassing)
-  tick_calmly =
-      let is : link_events_in h w TimePassing ≡ event ∷ [] = as_ticked ∙ ap (λ e. e ∷ []) event_so in
-      subst (GoesCalmly s.link) (sym is) (record { calm = calm; rounds = (tt, tt); up = behind })
+  tick_calmly = subst (GoesCalmly s.link) (sym (as_ticked ∙ ap (λ e. e ∷ []) event_so)) (record { calm = calm; rounds = (tt, tt); up = behind })
 
 -- ## Where nothing that disturbs a link is noted of rounds, and both its ends are up before them, they are up behind them
 
@@ -452,9 +431,7 @@ module _ (hosts : List ℕ) (h : ℕ) where
   all_calmly [] w s p r q up notes = calm_none s.link up
   all_calmly (Takes e ∷ causes) w s p r q up notes = by_test (can_happen w (Takes e))
       (λ c. let now : List Entry = (world_step w (Takes e)).1 in
-      let later : List Entry = entries_in (all_happen v causes).1 in
-      let is = ap (λ (z : NodeWorld × List Occurrence). entries_in z.1) (happens_first w (Takes e) causes c) in
-      let both = powered_parts h now later (subst (λ t. ArePoweredNotes t h) is notes) in
+      let both = powered_parts h now (entries_in (all_happen v causes).1) (subst (λ t. ArePoweredNotes t h) (grind arith) notes) in
       let g = takes_go w e h s q in
       let one = takes_calmly w e s r q up both.0 in
       let more = (all_calmly causes (world_step w (Takes e)).0) g.later p (reached_takes hosts w e r) g.is (subst AreBothUpNow (sym g.link) one.up) both.1 in
@@ -539,9 +516,8 @@ module _ (hosts : List ℕ) (w : NodeWorld) (h : ℕ) (s : Site) (r : IsReached 
   ends_then =
       let run = (fine_there w h s r.so.well.fine found).link.run in
       let pre : List LinkEvent = run.events in
-      let is : s.link ≡ after_link_events new_line pre = sym run.run.is in
       let all : AllAllowed new_line (pre ++ fs) =
-      allowed-append pre fs new_line run.run.allowed (subst (λ (l : Link). AllAllowed l fs) is allowed) in
+      allowed-append pre fs new_line run.run.allowed (subst (λ (l : Link). AllAllowed l fs) (sym run.run.is) allowed) in
       let behind : after_link_events new_line (pre ++ fs) ≡ after_link_events s.link fs =
       after_events-append pre fs new_line ∙ ap (λ (l : Link). after_link_events l fs) run.run.is in
       let near : Link → Link → Type 0 = λ l m. number_now m.controller ≡ heard Controller (number_now l.controller) (entries l fs) in

@@ -1,15 +1,15 @@
 -- Where nothing that disturbs a link is noted of an event or of rounds, and both its ends are up and ready, it is undisturbed.
-use Rattle.std.specs.Prelude.{is_some, nat_lt, ◌||◌}
+use Rattle.std.specs.Prelude.{is_some, nat_lt}
 use Rattle.world_laws.proofs.Words.{Acked, Active, AllAllowed, AllByRecursion, AreReadyThroughout, AreSendableTurns, AreUndisturbed, Asked, AsksReset}
 use Rattle.world_laws.proofs.Words.{AtController, AtHost, Before, Bool, BothTakeFragments, Control, Controller, CoreAtController, CoreAtHost, CoreEndEvent}
-use Rattle.world_laws.proofs.Words.{CoreLink, CoreLinkEvent, CoreTick, CoreTurn, CoreTurns, Cut, CutOff, EndEvent, EndState, Ending, GaveUp, GoesOut, Got}
+use Rattle.world_laws.proofs.Words.{CoreLink, CoreLinkEvent, CoreTick, CoreTurn, Cut, CutOff, EndEvent, EndState, Ending, GaveUp, GoesOut, Got}
 use Rattle.world_laws.proofs.Words.{HasTick, Host, IsDown, IsEvent, IsLinkUndisturbed, IsNode, IsStart, IsUnderWay, Link, LinkEnd, LinkEvent, List, Losses}
 use Rattle.world_laws.proofs.Words.{Lost, NextFrame, NoInput, Node, None, NotedUp, Now, NumberedEnd, OnWire, Option, Report, Reset, Restarted, Some, Sound}
 use Rattle.world_laws.proofs.Words.{Step, Take, Tells, Ticks, TicksWithout, Turn, Up as IsUpNow, [], after_events-append, after_input, after_link_events, aged}
-use Rattle.world_laws.proofs.Words.{aged_entries, all_at_controller, allowed-append, allowed_parts, and_parts, ap, append-nil, append_assoc, arith, before_here}
+use Rattle.world_laws.proofs.Words.{aged_entries, all_at_controller, allowed-append, allowed_parts, ap, append-nil, append_assoc, arith, before_here}
 use Rattle.world_laws.proofs.Words.{before_there, began_by, by_test, came_up, cond, core_after, core_aged, core_all_here, core_ending, core_event, core_events}
 use Rattle.world_laws.proofs.Words.{core_exchanged, core_happens, core_happens_here, core_of, core_step, core_take, core_tick, core_tick_rest}
-use Rattle.world_laws.proofs.Words.{core_ticks_or_cut, core_turned, core_turns, counts_first, ended_by, entries, entries-append, entries_of_events}
+use Rattle.world_laws.proofs.Words.{core_ticks_or_cut, core_turned, core_turns, ended_by, entries, entries-append, entries_of_events}
 use Rattle.world_laws.proofs.Words.{event_entries, event_step, exchanged, false, far, first_entries, frames_out, goes_on, happens, heard, heard-append, if_so}
 use Rattle.world_laws.proofs.Words.{is_open, is_rset, left_after, length, length-append, list_any, list_any-append, loses_aged, ltb-true, map}
 use Rattle.world_laws.proofs.Words.{mid_moved, moved, no_losses, noted_aged, noted_all, noted_event, noted_here, noted_loss, noted_tick, noted_turns}
@@ -50,11 +50,9 @@ push_lost who l c q = go (nat_lt 64 (length (wire_with l c))) refl (wire_with l 
   where
     long : nat_lt 64 (length (wire_with l c)) ≡ true
     long =
-        let a = (and_parts (nat_lt 64 (length (l.to_host ++ record { frame = c; age = 0; number = 0 } ∷ [])))
-        (counts_first (l.to_host ++ record { frame = c; age = 0; number = 0 } ∷ [])) q).0 in
         let x = length-append l.to_host (record { frame = c; age = 0; number = 0 } ∷ []) in
         let y = length-append l.to_host (record { frame = c; age = 0; number = cond (is_rset c) (l.resets + 1) 0 } ∷ []) in
-        ap (nat_lt 64) (y ∙ sym x) ∙ a
+        ap (nat_lt 64) (y ∙ sym x) ∙ (grind arith)
 
     go : (b : Bool) → nat_lt 64 (length (wire_with l c)) ≡ b → (w : List OnWire) → wire_with l c ≡ w
         → list_any troubles (pushed_out (far who) (wire_with l c)) ≡ true
@@ -75,8 +73,7 @@ flush_calm [] n who l none calm = none
 flush_calm (c ∷ cs) n who l none calm =
     let m : Losses = noted_loss n (core_of l) c in
     let parts = calm_parts (put_entries who l c) (puts_entries who (put l c) cs) calm in
-    let P : CoreLink → Type 0 = λ k. (noted_all m k cs).lost ≡ false in
-    subst P (put-core l c) (flush_calm cs m who (put l c) (put_calm n who l c none parts.0) parts.1)
+    subst (λ k. (noted_all m k cs).lost ≡ false) (put-core l c) (flush_calm cs m who (put l c) (put_calm n who l c none parts.0) parts.1)
 
 rest_calm : (n : Losses) (who : End) (k : Link) (e : LinkEnd) (ts : List Turn) → n.lost ≡ false → Calm (rest_entries who k e ts GoesOut)
     → (noted_all n (core_of k) (frames_out (turned e ts))).lost ≡ false
@@ -98,10 +95,7 @@ aged_calm who w calm = by_test (loses_aged (sans w)) (λ q. absurd (true≢false
 
 ages_calm : (near far : End) (n : Losses) (l : Link) → n.lost ≡ false → Calm (aged_entries near l.to_controller) → Calm (aged_entries far l.to_host)
     → (noted_aged n (core_of l)).lost ≡ false
-ages_calm near far n l none a b =
-    let p = aged_calm near l.to_controller a in
-    let q = aged_calm far l.to_host b in
-    rw (none, p, q) refl
+ages_calm near far n l none a b = rw (none, (aged_calm near l.to_controller a), (aged_calm far l.to_host b)) refl
 
 -- the tick of an end that is open
 tick_calm : (n : Losses) (who : End) (l : Link) (ts : List Turn) → n.lost ≡ false → AreSendableTurns ts → Tells l.controller
@@ -174,9 +168,8 @@ step_calm who l ts ending a b opened both calm = go l.to_controller refl
     go : (w : List OnWire) → l.to_controller ≡ w → AreCalmHere (core_of l) (core_step l NextFrame ts ending)
     go [] q = let none : core_step l NextFrame ts ending ≡ [] = rw q refl in subst (AreCalmHere (core_of l)) (sym none) tt
     go (x ∷ xs) q =
-        let is : core_step l NextFrame ts ending ≡ core_take l.controller.side x.frame ts ++ core_ending ending = rw q refl in
         let entries : step_entries who l NextFrame ts ending ≡ taken_entries who l x xs ts ending = rw q refl in
-        subst (AreCalmHere (core_of l)) (sym is) (by ending (subst Calm entries calm))
+        subst (AreCalmHere (core_of l)) (sym (rw q refl)) (by ending (subst Calm entries calm))
       where
         k : Link
         k = left_after l x xs
@@ -191,11 +184,10 @@ step_calm who l ts ending a b opened both calm = go l.to_controller refl
             → AreCalmHere (core_of l) (core_take l.controller.side x.frame ts ++ core_ending ending)
         by CutOff c = absurd (cut_troubles who k f ts (calm_parts noted (rest_entries who k f ts CutOff) c).1)
         by GoesOut c =
-            let rest = (calm_parts noted (rest_entries who k f ts GoesOut) c).1 in
             let lost : (noted_turns no_losses (core_of l) (core_take l.controller.side x.frame ts ++ [])).lost ≡ false =
             ap (λ (n : Losses). n.lost) (taken_noted no_losses l ts GoesOut x xs q a.0 b)
             ∙ rest_calm (came_up no_losses (core_of k) (began_by l.controller.side (Take x.frame))) who k f ts
-            (came_none (core_of k) (began_by l.controller.side (Take x.frame))) rest in
+            (came_none (core_of k) (began_by l.controller.side (Take x.frame))) ((calm_parts noted (rest_entries who k f ts GoesOut) c).1) in
             take_calm l ts x xs q opened both lost
 
 -- its node has turns there
@@ -203,9 +195,7 @@ idle_calm : (who : End) (l : Link) (ts : List Turn) (ending : Ending) → IsNode
     → Calm (step_entries who l NoInput ts ending) → AreCalmHere (core_of l) (core_step l NoInput ts ending)
 idle_calm who l ts CutOff a h both calm = absurd (cut_troubles who l l.controller.side ts calm)
 idle_calm who l ts GoesOut a h both calm =
-    let lost : (noted_here no_losses (core_of l) (CoreTurns (core_turns l.controller.side ts))).lost ≡ false =
-    ap (λ (n : Losses). n.lost) (idle_noted no_losses l ts a.0 h) ∙ rest_calm no_losses who l l.controller.side ts refl calm in
-    (both, lost, tt)
+    (both, (ap (λ (n : Losses). n.lost) (idle_noted no_losses l ts a.0 h) ∙ rest_calm no_losses who l l.controller.side ts refl calm), tt)
 
 -- ### On the link
 
@@ -255,8 +245,7 @@ reset_ends l o up ts ending h calm =
     let hs : List Entry = tick_entries Host (exchanged (all_at_controller k es)) h in
     let near : List Entry = entries_of_events Controller k es in
     let one = calm_parts (aged_entries Controller l.to_controller) (aged_entries Host l.to_host ++ (near ++ hs)) calm in
-    let two = calm_parts (aged_entries Host l.to_host) (near ++ hs) one.1 in
-    let three = calm_parts near hs two.1 in
+    let three = calm_parts near hs (calm_parts (aged_entries Host l.to_host) (near ++ hs) one.1).1 in
     let four = calm_parts (told_of Controller l.controller (Reset None) ++ rest) [] three.0 in
     let five = calm_parts (told_of Controller l.controller (Reset None)) rest four.0 in
     let ended : (report e (Reset None)).ended ≡ Some Asked = rw (o, up) refl in
@@ -314,19 +303,13 @@ module _ (l : Link) {t : List Entry} (w : IsUnderWay t l) (both : BothTakeFragme
     far_rest = let o = far_open in let g = far_out in rw (g, o) refl
 
     tick_is : core_event l (Ticks c [] h) ≡ CoreTick (Some us) [] (Some vs) ∷ []
-    tick_is =
-        let p = near_tick in
-        let q = near_rest in
-        let r = far_tick in
-        let s = far_rest in
-        rw (p, q, r, s) refl
+    tick_is = rw (near_tick, near_rest, far_tick, far_rest) refl
 
     -- the host's end has its tick on the link that the controller's leaves
     ticked_of_events : core_of m ≡ core_ticks_or_cut (Some us) (core_aged (core_of l))
     ticked_of_events =
         let s0 = safe_aged (core_of l) (safe_reached (core_of l) w.reached) in
-        let one = step_tick (aged l) c.turns c.ending a.0.0 a.0.1 w.good.controller (rests_of 1 1 (core_of (aged l)) s0) in
-        one.core
+        (step_tick (aged l) c.turns c.ending a.0.0 a.0.1 w.good.controller (rests_of 1 1 (core_of (aged l)) s0)).core
         ∙ (ap (λ z. core_all_here (core_ticks_or_cut z (core_aged (core_of l))) (core_tick_rest l.controller.side c.turns c.ending)) near_tick
         ∙ ap (λ z. core_all_here (core_ticks_or_cut (Some us) (core_aged (core_of l))) z) near_rest)
 
@@ -445,14 +428,12 @@ frame_none who l ts ending sound up calm = go l.to_controller refl
     go (x ∷ xs) q =
         let is : step_entries who l NextFrame ts ending ≡ taken_entries who l x xs ts ending = rw q refl in
         let h : NumberedEnd = record l.controller { took = took_with l.controller.took x } in
-        let r : Report = report e (Take x.frame) in
         let rest : List Entry = rest_entries who (left_after l x xs) (after_input e (Take x.frame)) ts ending in
-        let first = (calm_parts (told_of who h (Take x.frame)) rest (subst Calm is calm)).0 in
         let none : is_some (ended_by e (Take x.frame)) ≡ false = grind arith in
         subst Unbegun (sym is) (
           refl,
           both_none (told_of who h (Take x.frame)) rest
-              (told_none who (number_of h) r (whole_acked (after_input e (Take x.frame))) (grind arith))
+              (told_none who (number_of h) (report e (Take x.frame)) (whole_acked (after_input e (Take x.frame))) (grind arith))
               (rest_none who (left_after l x xs) (after_input e (Take x.frame)) ts ending),
         )
 
@@ -564,18 +545,16 @@ module _ (start : Link) (s : IsStart start) where
   calm_run [] pre l q before a rounds w up ready calm = grind arith
   calm_run (e ∷ es) pre l q before a rounds w up ready calm =
       let parts = calm_parts (event_entries l e) (entries (happens l e) es) calm in
-      let both : BothTakeFragments (core_of l) = grind arith in
       let now : List LinkEvent = pre ++ e ∷ [] in
       let here : after_link_events start now ≡ happens l e = after_events-append pre (e ∷ []) start ∙ ap (λ k. happens k e) q in
-      let P : Link → Type 0 = λ k. AllAllowed k (e ∷ []) in
       let Q : Link → Type 0 = λ k. Calm (entries k (e ∷ [])) in
-      let allowed : AllAllowed start now = allowed-append pre (e ∷ []) start before (subst P (sym q) (a.0, tt)) in
+      let allowed : AllAllowed start now = allowed-append pre (e ∷ []) start before (subst (λ k. AllAllowed k (e ∷ [])) (sym q) (a.0, tt)) in
       let one : Q l = subst Calm (sym (append-nil (event_entries l e))) parts.0 in
       let still : AreBothUpNow (happens l e) =
       subst AreBothUpNow here (up_after pre (e ∷ []) allowed (subst AreBothUpNow (sym q) up) (subst Q (sym q) one)) in
       let more = calm_run es now (happens l e) here allowed a.1 rounds.1 (goes_on l e a.0 w) still ready.1 parts.1 in
       let none = event_none l e rounds.0 w.noted.sounds.controller w.noted.sounds.host up.controller up.host parts.0 in (
-        calm_event l w both e rounds.0 a.0 parts.0 (core_events (happens l e) es) more.0,
+        calm_event l w (grind arith) e rounds.0 a.0 parts.0 (core_events (happens l e) es) more.0,
         both_none (event_entries l e) (entries (happens l e) es) none more.1,
       )
 

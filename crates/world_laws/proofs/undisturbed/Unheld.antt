@@ -196,9 +196,8 @@ module _ (h : ℕ) where
 
       go : (b : Bool) → can_happen w (Takes e) ≡ b → Rest → StaysReady t s.link (events_on h w (Takes e ∷ causes)) (all_happen w (Takes e ∷ causes))
       go false c rest =
-          let events : events_on h w (Takes e ∷ causes) ≡ [] = rw c refl in
           subst (λ o. StaysReady t s.link (events_on h w (Takes e ∷ causes)) o) (sym (none_happens w (Takes e) causes c))
-          (subst (λ es. StaysReady t s.link es (w, [])) (sym events) (stays_ready t w s q m))
+          (subst (λ es. StaysReady t s.link es (w, [])) (sym (rw c refl)) (stays_ready t w s q m))
       go true c rest =
           let first : Step = one_step w (Takes e) in
           let second : Step = all_happen v causes in

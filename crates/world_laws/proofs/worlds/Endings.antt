@@ -2,7 +2,7 @@
 use Rattle.world_laws.proofs.Words.{AsksReset, AtController, AtHost, Bool, CoreAtHost, CoreEnd, CoreEndEvent, CoreLink, CoreReset, CoreTurn, CutOff, Down}
 use Rattle.world_laws.proofs.Words.{Ending, GoesOut, IsLinkUndisturbed, Link, LinkEnd, List, NextFrame, Node, None, OnWire, Option, Some}
 use Rattle.world_laws.proofs.Words.{Step, Ticks, TicksWithout, Turn, Up, Waiting, [], aged, ap, arith, began, by_test, core_after, core_aged, core_all}
-use Rattle.world_laws.proofs.Words.{core_all_here, core_event, core_exchanged, core_happens_here, core_of, core_reset, core_tick, core_tick_rest}
+use Rattle.world_laws.proofs.Words.{core_all_here, core_event, core_exchanged, core_happens_here, core_of, core_tick, core_tick_rest}
 use Rattle.world_laws.proofs.Words.{core_ticks_if_waiting, core_ticks_or_cut, core_turned, core_turns, false, is_open, is_waiting, map, new_end, not, refl}
 use Rattle.world_laws.proofs.Words.{reset_by, reset_refusal, reset_with, sent_same, subst, sym, tick_so, true, window_of, ℕ, ◌&&◌, ◌++◌, ◌∙◌, ◌∷◌, ◌≡◌}
 use Rattle.link_laws.proofs.sessions.Ties.{turned-phase}
@@ -65,22 +65,16 @@ module _ (l : Link) (ts : List Turn) (p : is_open l.controller.side.role ≡ tru
   gone : (ending : Ending) → (reset_there ending).controller.side.phase ≡ Up → ⊥
   gone GoesOut up =
       let e : LinkEnd = l.controller.side in
-      let is = still in
-      let free = none in
-      let r : (core_all_here (core_aged (core_of l)) (core_reset None e (window_of e None) ts GoesOut ++ [])).controller.side.phase ≡ Up =
-      rw (is, free) at up in
       let w = reset_waits (core_aged (core_of l)) (window_of e None) (core_turns (reset_by e (window_of e None)) ts) q in
-      let z = sym w ∙ r in
-      let y : Waiting ≡ Up = z in
+      let y : Waiting ≡ Up = (sym w ∙ (rw (still, none) at up)) in
       cc
   gone CutOff up = grind arith
 
   -- no notice is late
   not_late : (ending : Ending) (h : Node) → IsLinkUndisturbed l (TicksWithout (Step (AsksReset None) ts ending ∷ []) h ∷ []) → ⊥
   not_late ending h u =
-      let d : Option (List CoreTurn) = core_tick l.host.side h.turns h.ending in
       let b = began (map CoreAtHost (core_tick_rest l.host.side h.turns h.ending) ++ []) u.2 in
-      let same = near_after d (reset_there ending) in
+      let same = near_after (core_tick l.host.side h.turns h.ending) (reset_there ending) in
       gone ending (sym (ap (λ (k : CoreEnd). k.side.phase) same) ∙ b.controller_up)
 
   -- nor where both ends are up behind a tick that goes out
@@ -105,8 +99,7 @@ pub calm_tick : (l : Link) (late : Bool) (c h : Node) → is_open l.controller.s
 calm_tick l late c h p q u = by_test (late && not (is_waiting l.controller.side.shdlc))
     (λ r. let is : tick_so l late c h ≡ TicksWithout (Step (AsksReset None) c.turns c.ending ∷ []) h = rw r refl in
     let v : IsLinkUndisturbed l (TicksWithout (Step (AsksReset None) c.turns c.ending ∷ []) h ∷ []) = grind arith in
-    let waits : is_waiting l.controller.side.shdlc ≡ false = grind arith in
-    absurd (not_late l c.turns p waits c.ending h v))
+    absurd (not_late l c.turns p (grind arith) c.ending h v))
     (λ r. let is : tick_so l late c h ≡ Ticks c [] h = rw r refl in
     let v : IsLinkUndisturbed l (Ticks c [] h ∷ []) = subst (λ e. IsLinkUndisturbed l (e ∷ [])) is u in
     record { is = is; near = near_tick_goes_out l c.turns h.turns c.ending h.ending p v; far = grind arith })

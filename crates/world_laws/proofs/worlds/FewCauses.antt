@@ -1,13 +1,13 @@
 -- A round of a world: its causes, which are few, what these do, and that its ends take the frames on their wires.
 use Rattle.std.proofs.lemmas.List.{length-append}
 use Rattle.std.specs.Prelude.{is_some, replicate}
-use Rattle.world_laws.proofs.Words.{AllByRecursion, AllCanHappen, AreFewOnWires, AreOfRounds, ArePassing, AtEnd, Bool, CanTake, End, Ending, GoesOnLink}
-use Rattle.world_laws.proofs.Words.{GoesOut, Happening, IsFewWires, IsOfRound, IsOrderly, IsTakeOrTick, Link, LinkEvent, List, MayBoot, NextFrame, NodeWorld}
-use Rattle.world_laws.proofs.Words.{None, Occurrence, OnWire, Option, Running, Site, Some, Step, Take, Takes, TimePassing, Turn, Work, [], after_controller}
-use Rattle.world_laws.proofs.Words.{after_few, after_host, after_link_events, all_happen, ap, arith, by_option, by_test, can_happen, changed_if, changed_site}
+use Rattle.world_laws.proofs.Words.{AllByRecursion, AllCanHappen, AreFewOnWires, AreOfRounds, ArePassing, AtEnd, Bool, End, Ending, GoesOnLink}
+use Rattle.world_laws.proofs.Words.{GoesOut, Happening, IsFewWires, IsOfRound, IsOrderly, IsTakeOrTick, LinkEvent, List, MayBoot, NextFrame, NodeWorld}
+use Rattle.world_laws.proofs.Words.{None, Occurrence, OnWire, Option, Running, Site, Some, Step, Take, Takes, TimePassing, Work, [], after_controller}
+use Rattle.world_laws.proofs.Words.{after_few, after_host, all_happen, ap, arith, by_option, by_test, can_happen, changed_if, changed_site}
 use Rattle.world_laws.proofs.Words.{comes_to, controller_work, end_c, end_h, end_takes_all, ending_of, ends_in_order, ends_take_all, eq-eqb, exchanged, false}
 use Rattle.world_laws.proofs.Words.{fine_there, flat_map, frames_at, happened_in, happenings, happens_at_controller, host_work, hosts_in, input_of, is_running}
-use Rattle.world_laws.proofs.Words.{length, length-map, length-replicate, link_after_controller, link_events_in, link_to, map-append, node_at, node_of, refl}
+use Rattle.world_laws.proofs.Words.{length, length-map, length-replicate, link_after_controller, link_events_in, link_to, map-append, node_of, refl}
 use Rattle.world_laws.proofs.Words.{rounds_of_world, run_few, runs_on, site_at, site_host, site_is, site_map, step_kept, step_orderly, steps, subst, suc, sym}
 use Rattle.world_laws.proofs.Words.{takes_go, takes_pass, ticks_go, true, true≢false, turns_at, with_site, world_after_round, world_round, world_round_causes}
 use Rattle.world_laws.proofs.Words.{world_rounds_to_settle, world_settling, world_step, world_ticks_in, zero, ℕ, ◌*◌, ◌++◌, ◌+◌, ◌<◌, ◌==◌, ◌∙◌, ◌∷◌, ◌≡◌, ◌≤◌}
@@ -51,8 +51,7 @@ pub one_behind_other : (w : NodeWorld) (first second : List Happening) → AllCa
     → all_happen w (first ++ second) ≡ behind (all_happen w first) second
 one_behind_other w [] second can = refl
 one_behind_other w (c ∷ first) second can =
-    let v : NodeWorld = (world_step w c).0 in
-    let later = one_behind_other v first second can.1 in
+    let later = one_behind_other ((world_step w c).0) first second can.1 in
     happens_first w c (first ++ second) can.0
     ∙ (ap (with_first w c) later ∙ ap (λ (r : NodeWorld × List Occurrence). behind r second) (sym (happens_first w c first can.0)))
 
@@ -60,9 +59,7 @@ can_behind : (w : NodeWorld) (first second : List Happening) → AllCanHappen w 
     → AllCanHappen w (first ++ second)
 can_behind w [] second can more = more
 can_behind w (c ∷ first) second can more =
-    let v : NodeWorld = (world_step w c).0 in
-    let end : (all_happen w (c ∷ first)).0 ≡ (all_happen v first).0 = grind arith in
-    (can.0, can_behind v first second can.1 (subst (λ u. AllCanHappen u second) end more))
+    (can.0, can_behind ((world_step w c).0) first second can.1 (subst (λ u. AllCanHappen u second) (grind arith) more))
 
 -- ### What happened is what its causes do
 
@@ -84,9 +81,8 @@ whole_then w first later one two =
     let a : List Happening = happened_in first.1 in
     let b : List Happening = happened_in later.1 in
     let parts : happened_in (first.1 ++ later.1) ≡ a ++ b = causes-append first.1 later.1 in
-    let end : (all_happen w a).0 ≡ first.0 = ap (λ (r : NodeWorld × List Occurrence). r.0) one.is in
     record {
-      each = subst (AllCanHappen w) (sym parts) (can_behind w a b one.each (subst (λ v. AllCanHappen v b) (sym end) two.each));
+      each = subst (AllCanHappen w) (sym parts) (can_behind w a b one.each (subst (λ v. AllCanHappen v b) (sym (grind arith)) two.each));
       is = ap (all_happen w) parts
           ∙ (one_behind_other w a b one.each
           ∙ (ap (λ (r : NodeWorld × List Occurrence). behind r b) one.is ∙ ap (both first) two.is));
@@ -118,10 +114,6 @@ whole_settling n w = whole_rounds (world_rounds_to_settle n w) w
 
 -- ### A frame is gone from its wire
 
-wire_gone : (l : Link) (x : OnWire) (xs : List OnWire) (ts : List Turn) → l.to_controller ≡ x ∷ xs
-    → (happens_at_controller l (Step NextFrame ts GoesOut)).to_controller ≡ xs
-wire_gone l x xs ts wire = let h0 = wire_after l x xs ts in grind arith
-
 -- a node that runs on wasn't cut off
 goes_out : (k : Work) → is_some (runs_on k) ≡ true → ending_of k ≡ GoesOut
 goes_out k runs = by_test k.cut (λ q. let no : is_some (runs_on k) ≡ false = rw q refl in absurd (true≢false (sym runs ∙ no))) (λ q. rw q refl)
@@ -140,16 +132,13 @@ module _ (w : NodeWorld) (h : ℕ) (s : Site) (q : site_at w.sites h ≡ Some s)
       let world : (world_step w (Takes (end_c h))).0 ≡ v = rw (input, runs) refl in
       let out : ending_of work ≡ GoesOut = goes_out work (subst (λ (u : NodeWorld). is_running u 0 ≡ true) world on) in
       let F : Site → Site = link_after_controller h NextFrame work in
-      let m = site_map F (λ x. refl) w.sites h s q in
-      let at : site_at v.sites h ≡ Some (F s) = m.0 in
-      let there : frames_at v (end_c h) ≡ (F s).link.to_controller = rw at refl in
-      let n = number in
-      let came : comes_to h NextFrame s.host ≡ NextFrame = rw n refl in
+      let at : site_at v.sites h ≡ Some (F s) = (site_map F (λ x. refl) w.sites h s q).0 in
+      let came : comes_to h NextFrame s.host ≡ NextFrame = rw number refl in
       let gone : (F s).link.to_controller ≡ xs =
       ap (λ c. (happens_at_controller s.link (Step c (turns_at work s.host) (ending_of work))).to_controller) came
       ∙ (ap (λ (d : Ending). (happens_at_controller s.link (Step NextFrame (turns_at work s.host) d)).to_controller) out
-      ∙ wire_gone s.link x xs (turns_at work s.host) wire) in
-      ap (λ (u : NodeWorld). frames_at u (end_c h)) world ∙ (there ∙ gone)
+      ∙ (let h0 = wire_after s.link x xs (turns_at work s.host) in grind arith)) in
+      ap (λ (u : NodeWorld). frames_at u (end_c h)) world ∙ ((rw at refl) ∙ gone)
 
   far_gone : (h == 0) ≡ false → (r : Running) → s.node ≡ Some r → (x : OnWire) (xs : List OnWire) → s.link.to_host ≡ x ∷ xs
       → is_running (world_step w (Takes (end_h h))).0 h ≡ true → frames_at (world_step w (Takes (end_h h))).0 (end_h h) ≡ xs
@@ -160,16 +149,13 @@ module _ (w : NodeWorld) (h : ℕ) (s : Site) (q : site_at w.sites h ≡ Some s)
       let link : link_to w.sites h ≡ s.link = rw q refl in
       let input : input_of (exchanged s.link) NextFrame ≡ Some (Take x.frame) = rw wire refl in
       let world : (world_step w (Takes (end_h h))).0 ≡ v = rw (link, input, q, runs) refl in
-      let n = number in
       let at : site_at v.sites h ≡ Some (F s) =
-      changed_site h F (λ x. refl) w.sites h s q ∙ ap (λ (b : Bool). Some (changed_if b F s)) n in
-      let node : node_at v h ≡ runs_on work = rw (host, at) refl in
+      changed_site h F (λ x. refl) w.sites h s q ∙ ap (λ (b : Bool). Some (changed_if b F s)) number in
       let out : ending_of work ≡ GoesOut = grind arith in
-      let there : frames_at v (end_h h) ≡ (F s).link.to_host = rw at refl in
       let gone : (F s).link.to_host ≡ xs =
       ap (λ (d : Ending). (happens_at_controller (exchanged s.link) (Step NextFrame (turns_at work s.host) d)).to_controller) out
-      ∙ wire_gone (exchanged s.link) x xs (turns_at work s.host) wire in
-      ap (λ (u : NodeWorld). frames_at u (end_h h)) world ∙ (there ∙ gone)
+      ∙ (let h0 = wire_after (exchanged s.link) x xs (turns_at work s.host) in grind arith) in
+      ap (λ (u : NodeWorld). frames_at u (end_h h)) world ∙ ((rw at refl) ∙ gone)
 
 -- ### Frames that stand
 
@@ -213,8 +199,7 @@ one_less w e orderly runs stands on = go e.at_host runs stands on (there_where_s
         let f : First s.link.to_host = first_of_wire s.link.to_host (subst (λ (xs : List OnWire). 0 < length xs) wire i) in
         let host : (e.link == 0) ≡ false =
         ap (λ (k : ℕ). k == 0) (sym (site_host w.sites e.link s q)) ∙ site_is (λ (x : Site). (x.host == 0) ≡ false) w.sites e.link s orderly.hosts q in
-        let node : node_at w e.link ≡ s.node = rw (host, q) refl in
-        let n = running s.node (subst (λ (x : Option Running). is_some x ≡ true) node r) in
+        let n = running s.node (subst (λ (x : Option Running). is_some x ≡ true) (rw (host, q) refl) r) in
         let gone : frames_at (world_step w (Takes (end_h e.link))).0 (end_h e.link) ≡ f.rest =
         far_gone w e.link s q host n.0 n.1 f.first f.rest f.is o in
         ap (length {A = OnWire}) (wire ∙ f.is) ∙ ap (λ (xs : List OnWire). suc (length xs)) (sym gone)
@@ -245,9 +230,8 @@ takes_of (suc k) w e orderly few =
     go true q later =
         let stands : 0 < length (frames_at w e) = omega (arith, few) in
         let there = there_where_stands w e stands in
-        let now : CanTake w e = record { site = there.0; there = there.1; runs = q; stands = stands } in
         subst (λ (r : NodeWorld × List Occurrence). AreOfRounds w (happened_in r.1)) (sym (happens_first w (Takes e) (replicate k (Takes e)) q))
-        (now, rest (can_happen v (Takes e)) refl q later)
+        ((record { site = there.0; there = there.1; runs = q; stands = stands }), rest (can_happen v (Takes e)) refl q later)
     go false q later = grind arith
 
 -- ## The causes of the rounds of a world: what they are, how often time passes among them, and how many they are
@@ -285,16 +269,14 @@ of_then : (w : NodeWorld) (a b : List Happening) → AllCanHappen w a → AreOfR
 of_then w [] b can one two = two
 of_then w (c ∷ a) b can one two =
     let v : NodeWorld = (world_step w c).0 in
-    let end : (all_happen w (c ∷ a)).0 ≡ (all_happen v a).0 = ap (λ (r : NodeWorld × List Occurrence). r.0) (happens_first w c a can.0) in
-    (one.0, of_then v a b can.1 one.1 (subst (λ u. AreOfRounds u b) end two))
+    (one.0, of_then v a b can.1 one.1 (subst (λ u. AreOfRounds u b) (ap (λ (r : NodeWorld × List Occurrence). r.0) (happens_first w c a can.0)) two))
 
 both_of : (w : NodeWorld) (first later : NodeWorld × List Occurrence) → IsWhole w first → AreOfRounds w (happened_in first.1)
     → AreOfRounds first.0 (happened_in later.1) → AreOfRounds w (happened_in (both first later).1)
 both_of w first later whole one two =
     let a : List Happening = happened_in first.1 in
     let b : List Happening = happened_in later.1 in
-    let end : (all_happen w a).0 ≡ first.0 = ap (λ (r : NodeWorld × List Occurrence). r.0) whole.is in
-    subst (AreOfRounds w) (sym (causes-append first.1 later.1)) (of_then w a b whole.each one (subst (λ v. AreOfRounds v b) (sym end) two))
+    subst (AreOfRounds w) (sym (causes-append first.1 later.1)) (of_then w a b whole.each one (subst (λ v. AreOfRounds v b) (sym (grind arith)) two))
 
 orderly_takes : (w : NodeWorld) (e : End) → IsOrderly w → IsOrderly (world_step w (Takes e)).0
 orderly_takes w e a = step_orderly w (Takes e) a
@@ -377,27 +359,19 @@ no_ticks_of_ends : (ends : List End) (w : NodeWorld) → world_ticks_in (happene
 no_ticks_of_ends [] w = refl
 no_ticks_of_ends (e ∷ ends) w =
     let v : NodeWorld = (end_takes_all w e).0 in
-    let sum = ticks_both (end_takes_all w e) (ends_take_all v ends) in
-    let one = no_ticks (length (frames_at w e)) w e in
-    let rest = no_ticks_of_ends ends v in
-    omega (arith, sum, one, rest)
+    omega (arith, (ticks_both (end_takes_all w e) (ends_take_all v ends)), (no_ticks (length (frames_at w e)) w e), (no_ticks_of_ends ends v))
 
 one_tick : (w : NodeWorld) → world_ticks_in (happened_in (world_round w).1) ≡ 1
 one_tick w =
     let taken : NodeWorld × List Occurrence = ends_take_all w (ends_in_order w) in
-    let sum = ticks_both taken (all_happen taken.0 (Ticks ∷ [])) in
-    let none = no_ticks_of_ends (ends_in_order w) w in
     let last : world_ticks_in (happened_in (all_happen taken.0 (Ticks ∷ [])).1) ≡ 1 = refl in
-    omega (arith, sum, none, last)
+    omega (arith, (ticks_both taken (all_happen taken.0 (Ticks ∷ []))), (no_ticks_of_ends (ends_in_order w) w), last)
 
 pub ticks_are : (r : ℕ) (w : NodeWorld) → world_ticks_in (world_round_causes r w) ≡ r
 ticks_are zero w = refl
 ticks_are (suc r) w =
     let first : NodeWorld × List Occurrence = world_round w in
-    let sum = ticks_both first (rounds_of_world r first.0) in
-    let one = one_tick w in
-    let rest = ticks_are r first.0 in
-    omega (arith, sum, one, rest)
+    omega (arith, (ticks_both first (rounds_of_world r first.0)), (one_tick w), (ticks_are r first.0))
 
 -- ## No wire of a world holds more than 64 frames, and so it stays over its rounds
 
@@ -405,20 +379,15 @@ ticks_are (suc r) w =
 frames_of : (w : NodeWorld) (e : End) (s : Site) → site_at w.sites e.link ≡ Some s → IsFewWires s.link → length (frames_at w e) ≤ 64
 frames_of w e s q a = by_test e.at_host (λ is. rw is (rw q a.to_host)) (λ is. rw is (rw q a.to_controller))
 
-frames_of_none : (w : NodeWorld) (e : End) → site_at w.sites e.link ≡ None → length (frames_at w e) ≤ 64
-frames_of_none w e q = by_test e.at_host (λ is. rw is (rw q (omega arith))) (λ is. rw is (rw q (omega arith)))
-
 -- all are few where those of each site are
 few_by_sites : (w : NodeWorld) → ((h : ℕ) (s : Site) → site_at w.sites h ≡ Some s → IsFewWires s.link) → AreFewOnWires w
-few_by_sites w a e = by_option (site_at w.sites e.link) (λ q. frames_of_none w e q) (λ s q. frames_of w e s q (a e.link s q))
+few_by_sites w a e = by_option (site_at w.sites e.link) (λ q. (grind arith)) (λ s q. frames_of w e s q (a e.link s q))
 
 wires_of : (w : NodeWorld) (h : ℕ) (s : Site) → AreFewOnWires w → site_at w.sites h ≡ Some s → IsFewWires s.link
 wires_of w h s a q =
     let near : length (frames_at w (end_c h)) ≡ length s.link.to_controller = rw q refl in
     let far : length (frames_at w (end_h h)) ≡ length s.link.to_host = rw q refl in
-    let one = a (end_c h) in
-    let two = a (end_h h) in
-    record { to_controller = omega (arith, near, one); to_host = omega (arith, far, two) }
+    record { to_controller = omega (arith, near, (a (end_c h))); to_host = omega (arith, far, (a (end_h h))) }
 
 -- worlds with the same hosts have links with the same ones
 none_alike : (xs ys : List Site) (h : ℕ) → hosts_in xs ≡ hosts_in ys → site_at xs h ≡ None → site_at ys h ≡ None
@@ -436,10 +405,9 @@ none_alike (x ∷ xs) (y ∷ ys) h e q = by_test (x.host == h)
 few_after : (w v : NodeWorld) → hosts_in v.sites ≡ hosts_in w.sites
     → ((h : ℕ) (s : Site) → site_at w.sites h ≡ Some s → (es : List LinkEvent) × GoesOnLink v h s es) → AreFewOnWires w → AreFewOnWires v
 few_after w v same goes a e = by_option (site_at w.sites e.link)
-    (λ q. frames_of_none v e (none_alike w.sites v.sites e.link (sym same) q))
+    (λ q. (let h0 = none_alike w.sites v.sites e.link (sym same) q in grind arith))
     (λ s q. let g = goes e.link s q in
-    let few : IsFewWires (after_link_events s.link g.0) = after_few g.0 s.link (wires_of w e.link s a q) in
-    frames_of v e g.1.later g.1.is (subst IsFewWires (sym g.1.link) few))
+    frames_of v e g.1.later g.1.is (subst IsFewWires (sym g.1.link) (after_few g.0 s.link (wires_of w e.link s a q))))
 
 takes_few : (w : NodeWorld) (e : End) → AreFewOnWires w → AreFewOnWires (world_step w (Takes e)).0
 takes_few w e a =
@@ -462,19 +430,14 @@ at_most (c ∷ causes) w = let h0 = can_happen w c in let h1 = at_most causes (w
 
 end_few : (w : NodeWorld) (e : End) → AreFewOnWires w → length (happened_in (end_takes_all w e).1) ≤ 64
 end_few w e few =
-    let most = at_most (replicate (length (frames_at w e)) (Takes e)) w in
-    let long = length-replicate (length (frames_at w e)) (Takes e) in
-    let here = few e in
-    omega (arith, most, long, here)
+    omega (arith, (at_most (replicate (length (frames_at w e)) (Takes e)) w), (length-replicate (length (frames_at w e)) (Takes e)), (few e))
 
 ends_few : (ends : List End) (w : NodeWorld) → AreFewOnWires w → length (happened_in (ends_take_all w ends).1) ≤ 64 * length ends
 ends_few [] w few = omega arith
 ends_few (e ∷ ends) w few =
     let v : NodeWorld = (end_takes_all w e).0 in
-    let sum = count_both (end_takes_all w e) (ends_take_all v ends) in
-    let one = end_few w e few in
     let rest = ends_few ends v (kept_end AreFewOnWires takes_few ticks_few w e few) in
-    omega (arith, sum, one, rest)
+    omega (arith, (count_both (end_takes_all w e) (ends_take_all v ends)), (end_few w e few), rest)
 
 -- each link has two ends
 two_ends : (sites : List Site) → length (flat_map (λ (s : Site). end_c s.host ∷ end_h s.host ∷ []) sites) ≡ 2 * length sites
@@ -484,11 +447,8 @@ two_ends (s ∷ sites) = let rest = two_ends sites in omega (arith, rest)
 pub round_few : (w : NodeWorld) → AreFewOnWires w → length (happened_in (world_round w).1) ≤ 128 * length w.sites + 1
 round_few w few =
     let taken : NodeWorld × List Occurrence = ends_take_all w (ends_in_order w) in
-    let sum = count_both taken (all_happen taken.0 (Ticks ∷ [])) in
-    let ends = ends_few (ends_in_order w) w few in
-    let two = two_ends w.sites in
     let last = at_most (Ticks ∷ []) taken.0 in
-    omega (arith, sum, ends, two, last)
+    omega (arith, (count_both taken (all_happen taken.0 (Ticks ∷ []))), (ends_few (ends_in_order w) w few), (two_ends w.sites), last)
 
 -- ### Rounds
 
@@ -499,10 +459,8 @@ record IsSmall (w : NodeWorld) : Type 0 where
 
 small_step : (w : NodeWorld) (c : Happening) → length w.sites ≤ 7 → length (world_step w c).0.sites ≤ 7
 small_step w c few =
-    let kept = ap (length {A = ℕ}) (step_kept w c) in
-    let was = length-map w.sites (λ (s : Site). s.host) in
     let now = length-map (world_step w c).0.sites (λ (s : Site). s.host) in
-    omega (arith, kept, was, now, few)
+    omega (arith, (ap (length {A = ℕ}) (step_kept w c)), (length-map w.sites (λ (s : Site). s.host)), now, few)
 
 small_takes : (w : NodeWorld) (e : End) → IsSmall w → IsSmall (world_step w (Takes e)).0
 small_takes w e a = record { wires = takes_few w e a.wires; hosts = small_step w (Takes e) a.hosts }
@@ -514,11 +472,8 @@ all_few : (r : ℕ) (w : NodeWorld) → IsSmall w → length (world_round_causes
 all_few zero w a = omega arith
 all_few (suc r) w a =
     let first : NodeWorld × List Occurrence = world_round w in
-    let sum = count_both first (rounds_of_world r first.0) in
-    let one = round_few w a.wires in
-    let hosts = a.hosts in
     let rest = all_few r first.0 (kept_round IsSmall small_takes small_ticks w a) in
-    omega (arith, sum, one, hosts, rest)
+    omega (arith, (count_both first (rounds_of_world r first.0)), (round_few w a.wires), a.hosts, rest)
 
 pub rounds_few : (r : ℕ) (w : NodeWorld) → AreFewOnWires w → length w.sites ≤ 7 → length (world_round_causes r w) ≤ (14 * 64 + 1) * r
 rounds_few r w wires hosts = all_few r w (record { wires = wires; hosts = hosts })
@@ -532,7 +487,4 @@ pub reached_few : (hosts : List ℕ) (w : NodeWorld) → IsReached hosts w → A
 reached_few hosts w r = few_by_sites w (λ h s q. run_few s.link (fine_there w h s r.so.well.fine q).link.run)
 
 pub reached_small : (hosts : List ℕ) (w : NodeWorld) → IsReached hosts w → length hosts ≤ 7 → length w.sites ≤ 7
-reached_small hosts w r few =
-    let same = ap (length {A = ℕ}) r.so.hosts_are in
-    let was = length-map w.sites (λ (s : Site). s.host) in
-    omega (arith, same, was, few)
+reached_small hosts w r few = omega (arith, (ap (length {A = ℕ}) r.so.hosts_are), (length-map w.sites (λ (s : Site). s.host)), few)

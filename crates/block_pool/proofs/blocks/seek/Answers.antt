@@ -32,6 +32,4 @@ loop-step-preserved c =
     )
 
 pub returns : goal.returns
-returns c =
-    let all : c.args.steps - c.if-passed-steps.left + c.loop-step._step ≡ c.args.steps = omega (arith, c.loop-step.invariant.0, c.loop-step-test.false) in
-    c.loop-step.invariant.1 ∙ ap (block_at c.args.next.now c.args.first) all
+returns c = c.loop-step.invariant.1 ∙ ap (block_at c.args.next.now c.args.first) (omega (arith, c.loop-step.invariant.0, c.loop-step-test.false))

@@ -8,13 +8,12 @@ returns-clause-torn c =
     let at = c.args.at in
     let whole = c.args.whole.now in
     let mask = c.args.mask.now in
-    let end : c.loop-i.i ≡ length whole = omega (arith, c.loop-i-test.false, c.loop-i.auto.i-end) in
     remade_by_parts old c.loop-i.cells at (length whole)
     (λ i. mixed (slice_index old i) (slice_index whole (i - at)) (slice_index mask ((i - at) % length mask))) c.loop-i.invariant.len
     (λ k small. let e : at + k - at ≡ k = omega arith in
     c.loop-i.invariant.done k (omega arith)
     ∙ ap (λ n. mixed (slice_index old (at + k)) (slice_index whole n) (slice_index mask (n % length mask))) (sym e))
-    (λ k out. c.loop-i.invariant.rest k (subst (λ n. (k < at) ⊎ (at + n ≤ k)) (sym end) out))
+    (λ k out. c.loop-i.invariant.rest k (subst (λ n. (k < at) ⊎ (at + n ≤ k)) (sym (omega (arith, c.loop-i-test.false, c.loop-i.auto.i-end))) out))
 
 pub returns-clause-whole_bytes : goal.returns-clause-whole_bytes
 returns-clause-whole_bytes c = λ i. let fits = c.type_inv.whole i in omega arith

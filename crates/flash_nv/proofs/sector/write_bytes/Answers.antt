@@ -58,6 +58,5 @@ returns-in-Err-clause-spent g c = λ tells clean are why.
 pub returns-clause-steps : goal.returns-clause-steps
 returns-clause-steps g c = λ tells clean are.
     let i = c.loop-done.invariant in
-    let end : c.loop-done.done ≡ length c.args.bytes.now = omega (arith, i.inside, c.loop-done-test.false) in
     subst (λ n. AreSteps (sectors c.args.at n) c.args.at c.args.bytes.now (g.F.Flash.cells c.args.flash.now) c.args.map.now
-    (g.F.Flash.cells c.loop-done.flash) c.loop-done.map) end (i.steps tells clean are)
+    (g.F.Flash.cells c.loop-done.flash) c.loop-done.map) (omega (arith, i.inside, c.loop-done-test.false)) (i.steps tells clean are)

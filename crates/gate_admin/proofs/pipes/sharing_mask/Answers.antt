@@ -14,15 +14,13 @@ loop-other-preserved c =
     let twice = double c.loop-other.other in
     elim c.if-shares.branch [
       | then-shares w ↦
-          let passed = sym c.shares.ensures ∙ w.if-shares.true in
           let is = w.mask-is in
           let bit = w.bit_of-mask.ensures in
-          let more = mask_of-taken test c.loop-other.other from passed in
+          let more = mask_of-taken test c.loop-other.other from (sym c.shares.ensures ∙ w.if-shares.true) in
           (omega arith, omega arith)
       | else-shares w ↦
-          let failed = sym c.shares.ensures ∙ w.if-shares.false in
           let is = w.mask-is in
-          let same = ap mask_of (hosts_below-left test c.loop-other.other from failed) in
+          let same = ap mask_of (hosts_below-left test c.loop-other.other from (sym c.shares.ensures ∙ w.if-shares.false)) in
           (omega arith, omega arith)
     ]
 

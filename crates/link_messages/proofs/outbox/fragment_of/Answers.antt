@@ -10,7 +10,6 @@ pub returns-clause-fragment : goal.returns-clause-fragment
 returns-clause-fragment c =
     let bytes = chain_bytes c.args.pool.now c.args.queued.now.chain in
     let pipe = c.args.queued.now.pipe in
-    let copied = take c.copy_on-count.result c.copy_on-count.new.out in
     let low : c.args.from < length bytes = omega (arith, c.requires.len, c.requires.within) in
     let count = c.copy_on-count.ensures.count in
     let none : pipe ≡ 0 + pipe = omega arith in
@@ -20,9 +19,7 @@ returns-clause-fragment c =
     ] in
     let begun : c.bytes.inside.bytes.items ≡ c.if-last.first ∷ [] = c.bytes.view_is ∙ c.new.ensures in
     let e = c.try_extend_from_slice-fits.ensures in
-    let one = ap length begun in
-    let fits : IsOk c.try_extend_from_slice-fits.result = e.variant.1 (omega (arith, one, count, length-take {A = ℕ})) in
-    let whole : c.try_extend_from_slice-fits.new.self.items ≡ c.bytes.inside.bytes.items ++ copied = search (rules, fits, e.ok) in
-    whole ∙ (ap (λ (l : List ℕ). l ++ copied) begun
+    let fits : IsOk c.try_extend_from_slice-fits.result = e.variant.1 (omega (arith, (ap length begun), count, length-take {A = ℕ})) in
+    (search (rules, fits, e.ok)) ∙ (ap (λ (l : List ℕ). l ++ (take c.copy_on-count.result c.copy_on-count.new.out)) begun
     ∙ fragment_is bytes c.copy_on-count.new.out _ pipe c.args.from c.args.len c.if-last.first c.copy_on-count.result low c.requires.len count first
     c.copy_on-count.ensures.copied)

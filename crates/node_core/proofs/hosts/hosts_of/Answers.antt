@@ -12,10 +12,9 @@ loop-host-preserved c =
     let from = c.loop-host.auto.host in
     elim c.if-is_in.branch [
       | then-is_in w ↦
-          let passed = sym c.is_in.ensures ∙ w.if-is_in.true in
           let len = w.push.ensures.len in (
             ap (λ v. v.items) w.hosts-is ∙ w.push.ensures.items ∙ ap (λ (hosts : List ℕ). hosts ++ c.loop-host.host ∷ []) so_far
-                ∙ sym (hosts_below-taken test c.loop-host.host from passed),
+                ∙ sym (hosts_below-taken test c.loop-host.host from (sym c.is_in.ensures ∙ w.if-is_in.true)),
             let same = ap (λ v. length v.items) w.hosts-is in omega arith,
           )
       | else-is_in w ↦

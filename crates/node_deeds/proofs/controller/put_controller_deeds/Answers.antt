@@ -74,11 +74,12 @@ returns-else-pipe-eq-ADMINISTRATION_PIPE-clause-deeds g c = λ core ports kept s
     let arm = c.in-Ok-Command-default in
     let header = sym c.read_header.ensures.header ∙ (arm.is ∙ ap (λ kind. Ok (kind, arm._instruction)) arm.field-0-0-is) in
     let none : (eqb c.args.pipe 1 && list_any (row_waits_for h) desks) ≡ false = elim c.else-pipe-eq-ADMINISTRATION_PIPE.branch [
-      else-pipe-eq-ADMINISTRATION_PIPE-via-then-pipe-eq-ADMINISTRATION_PIPE+else-any w ↦
+      | else-pipe-eq-ADMINISTRATION_PIPE-via-then-pipe-eq-ADMINISTRATION_PIPE+else-any w ↦
           let any : w.any.result ≡ list_any (row_waits_for h) desks =
           any_from_yields_List (row_waits_for h) _ _ _ w.any.ensures.ran (YieldsList-from_slice desks cc) (λ x b q k. search (rules, tests)) in
           rw (ap (λ n. eqb n 1) w.if-pipe-eq-ADMINISTRATION_PIPE.true) (sym any ∙ w.if-any.false)
-    | else-pipe-eq-ADMINISTRATION_PIPE-via-else-pipe-eq-ADMINISTRATION_PIPE w ↦ grind (arith, nat_tests) ] in
+      | else-pipe-eq-ADMINISTRATION_PIPE-via-else-pipe-eq-ADMINISTRATION_PIPE w ↦ grind (arith, nat_tests)
+    ] in
     let waits = ap (λ b. eqb c.args.pipe 1 && b) (sym (asks_shown up desks h)) ∙ none in
     own_done s core up desks ports h a.message kept seen _ c.tables.ensures c.in_default.ensures _ c.in-Some-desk_at.ensures _ c.is_in.ensures
     c.if-not-is_in.false _

@@ -27,10 +27,8 @@ offset_bounds-seats-j c = let w = within c.args.to c.args.j c.requires.other c.r
 pub bounds-seats-j : goal.bounds-seats-j
 bounds-seats-j c =
     let seats = c.args.seats.now in
-    let t : Seat = record (slice_index_or seats c.args.i c.index-seats-i.result) { waiting = c.take.new.self } in
-    let w = within c.args.to c.args.j c.requires.other c.requires.waits.2 in
-    let l = length-set {A = Seat} seats c.args.i t in
-    omega (arith, w.0, l)
+    let l = length-set {A = Seat} seats c.args.i (record (slice_index_or seats c.args.i c.index-seats-i.result) { waiting = c.take.new.self }) in
+    omega (arith, (within c.args.to c.args.j c.requires.other c.requires.waits.2).0, l)
 
 pub send_chain-requires-clause-stands : goal.send_chain-requires-clause-stands
 send_chain-requires-clause-stands c =
@@ -86,51 +84,44 @@ pub returns-in-Ok-clause-answer : goal.returns-in-Ok-clause-answer
 returns-in-Ok-clause-answer c ports m e got =
     let d = c.index-seats-i.result in
     let w = c.in-Some.field-0 in
-    let is = sym c.take.ensures.value ∙ c.in-Some.is in
     let t : Seat = record (slice_index_or c.args.seats.now c.args.i d) { waiting = c.take.new.self } in
     let s = second c.args.from c.args.i c.requires.place e got c.args.to c.args.j c.requires.other in
-    let read = first_read c.args.from c.args.i c.requires.place e got d in
     let side = then_side c.args.from c.args.i c.requires.place e got c.args.to c.args.j c.requires.other t c.index-seats-j.result
-    (ap (λ (x : Seat). x.side) read) in
+    (ap (λ (x : Seat). x.side) (first_read c.args.from c.args.i c.requires.place e got d)) in
     let P : End → Type 0 = λ l. EndStandsFor l c.args.pool.now (without_got s.port.side) in
     let Q : Message → Type 0 = λ x. true ≡ is_none (give_refusal s.port.side x) in
     let took = told_passed (without_got s.port.side) (w.pipe, chain_bytes c.args.pool.now w.chain) w.chain c.in-Ok.is
     (c.send_chain.ensures.answer (without_got s.port.side) (subst P (sym side) s.stands.holds.stands)) in
-    subst Q (message_is c.args.from c.args.i c.requires.place e got d w is) took
+    subst Q (message_is c.args.from c.args.i c.requires.place e got d w (sym c.take.ensures.value ∙ c.in-Some.is)) took
     ∙ (ap (takes_at m) (sym s.port_is) ∙ takes_still m c.args.from c.args.to ports)
 
 pub returns-in-Err-clause-stands : goal.returns-in-Err-clause-stands
 returns-in-Err-clause-stands c ports m e got =
     let s = c.send_chain in
     let w = c.in-Some.field-0 in
-    let old = c.args.pool.now in
     let refused = c.in-Err.ensures.refused in
-    let P : Chain → Type 0 = λ x. Gives s.new.pool c.give.new.self x in
     let Q : PoolState → Type 0 = λ p. Gives p c.give.new.self w.chain in
-    let R : Chain → Type 0 = λ x. KeepsOthers s.new.pool c.give.new.self x x in
     let S : PoolState → Type 0 = λ p. KeepsOthers p c.give.new.self w.chain w.chain in
     handed c.args.from c.args.i c.args.to c.args.j c.requires.place c.requires.other e got c.index-seats-i.result c.index-seats-j.result c.take.new.self
     w s.new.self (sym c.take.ensures.value ∙ c.in-Some.is) c.take.ensures.after
     (inr (record {
-      refused = λ n g. told_back n (w.pipe, chain_bytes old w.chain) w.chain c.in-Err.is (s.ensures.answer n g);
+      refused = λ n g. told_back n (w.pipe, chain_bytes c.args.pool.now w.chain) w.chain c.in-Err.is (s.ensures.answer n g);
       same = refused.1;
-      gives = subst Q refused.0 (subst P c.in-Err.ensures.back c.give.ensures.given);
-      keeps = subst S refused.0 (subst R c.in-Err.ensures.back c.give.ensures.others);
+      gives = subst Q refused.0 (subst (λ x. Gives s.new.pool c.give.new.self x) c.in-Err.ensures.back c.give.ensures.given);
+      keeps = subst S refused.0 (subst (λ x. KeepsOthers s.new.pool c.give.new.self x x) c.in-Err.ensures.back c.give.ensures.others);
     }))
 
 pub returns-in-Err-clause-answer : goal.returns-in-Err-clause-answer
 returns-in-Err-clause-answer c ports m e got =
     let d = c.index-seats-i.result in
     let w = c.in-Some.field-0 in
-    let is = sym c.take.ensures.value ∙ c.in-Some.is in
     let t : Seat = record (slice_index_or c.args.seats.now c.args.i d) { waiting = c.take.new.self } in
     let s = second c.args.from c.args.i c.requires.place e got c.args.to c.args.j c.requires.other in
-    let read = first_read c.args.from c.args.i c.requires.place e got d in
     let side = then_side c.args.from c.args.i c.requires.place e got c.args.to c.args.j c.requires.other t c.index-seats-j.result
-    (ap (λ (x : Seat). x.side) read) in
+    (ap (λ (x : Seat). x.side) (first_read c.args.from c.args.i c.requires.place e got d)) in
     let P : End → Type 0 = λ l. EndStandsFor l c.args.pool.now (without_got s.port.side) in
     let Q : Message → Type 0 = λ x. false ≡ is_none (give_refusal s.port.side x) in
     let refused = told_back (without_got s.port.side) (w.pipe, chain_bytes c.args.pool.now w.chain) w.chain c.in-Err.is
     (c.send_chain.ensures.answer (without_got s.port.side) (subst P (sym side) s.stands.holds.stands)) in
-    subst Q (message_is c.args.from c.args.i c.requires.place e got d w is) refused
+    subst Q (message_is c.args.from c.args.i c.requires.place e got d w (sym c.take.ensures.value ∙ c.in-Some.is)) refused
     ∙ (ap (takes_at m) (sym s.port_is) ∙ takes_still m c.args.from c.args.to ports)

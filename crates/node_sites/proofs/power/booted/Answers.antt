@@ -15,9 +15,8 @@ returns-in-Ok-clause-booted c =
     let may = subst IsSoundMemory (sym same) c.requires.memory in
     let booted = boots_so m may c.in-Ok.node.store.journal.nv (e.made refl) in
     let P : Core → Type 0 = λ core. RunsAs c.in-Ok.node core (map (new_port (role_at number)) hosts) in
-    let runs = subst P (e.found refl ∙ found_as_booted m.content may.version number hosts) e.runs in
     let E : Memory → Type 0 = λ x. EndsBoot number hosts x (On c.in-Ok.node) in
-    subst E same (booted.0, booted.1, runs)
+    subst E same (booted.0, booted.1, (subst P (e.found refl ∙ found_as_booted m.content may.version number hosts) e.runs))
 
 pub of-requires-in-Journal : goal.of-requires-in-Journal
 of-requires-in-Journal c =

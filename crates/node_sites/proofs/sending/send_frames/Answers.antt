@@ -20,10 +20,9 @@ returns-then-has_none_due-clause-stands c core ports p l is w =
     let none = c.has_none_due.ensures core ports p is.runs is.here c.if-has_none_due.true in
     let sent : ports ≡ with_port at.link sent_port ports =
     sym (same_with at.link p sent_port (λ q. q) ports is.only (ap (λ e. with_side e p) none.sent) ∙ with_none at.link ports) in
-    let W : List Control → Type 0 = λ frames. WiresStandFor c.args.wires.now (seen_from at (put_all l frames)) in
     let N : List Control → Type 0 = λ frames. AreNoted at entries entries (puts_entries (side_of at) l frames) in (
       subst (RunsAs c.args.node.now core) sent is.runs,
-      subst W (sym none.frames) w,
+      subst (λ frames. WiresStandFor c.args.wires.now (seen_from at (put_all l frames))) (sym none.frames) w,
       subst N (sym none.frames) (sym (append-nil entries)),
     )
 
@@ -33,8 +32,7 @@ loop-init c = record {
       let whole = at_found (λ (q : Port). SendsOneByOne q.side) c.args.at.link p ports (all_one_by_one is.runs) is.here in
       let Runs : List Port → Type 0 = RunsAs c.args.node.now core in
       let P : ℕ → Type 0 = λ n. Sending Runs c.args.wires.now c.args.at ports p m c.args.entries.now.items c.args.entries.now.items n in
-      let all : most_fetches p.side ≡ most_fetches p.side - 0 = omega arith in
-      subst P all (sending_starts is.runs is.only whole w);
+      subst P (omega arith) (sending_starts is.runs is.only whole w);
   memory = refl;
   grows = omega arith;
 }
@@ -44,8 +42,7 @@ next_out-requires c =
     let r = c.requires.state in
     let core : Core = r.0 in
     let ports : List Port = r.1 in
-    let p : Port = r.2 in
-    let s = c.loop.invariant.goes core ports p r.3 r.4 r.5 in
+    let s = c.loop.invariant.goes core ports r.2 r.3 r.4 r.5 in
     record { runs = (core, with_port c.args.at.link (with_side s.e) ports, s.runs) }
 
 pub returns-in_default-clause-stands : goal.returns-in_default-clause-stands
@@ -81,9 +78,6 @@ loop-preserved c =
 
 pub returns-clause-stands : goal.returns-clause-stands
 returns-clause-stands c core ports p l is w =
-    let h : ℕ = c.args.at.link in
-    let s = c.loop.invariant.goes core ports p l is w in
-    let whole = at_found (λ (q : Port). SendsOneByOne q.side) h p ports (all_one_by_one is.runs) is.here in
-    let few = whole.few in
+    let few = (at_found (λ (q : Port). SendsOneByOne q.side) c.args.at.link p ports (all_one_by_one is.runs) is.here).few in
     let over : most_fetches p.side - c.loop.counter ≡ 0 = omega (arith, few, c.loop-test.false) in
-    sending_over c.args.entries.now.items (most_fetches p.side - c.loop.counter) s is.only over
+    sending_over c.args.entries.now.items (most_fetches p.side - c.loop.counter) (c.loop.invariant.goes core ports p l is w) is.only over

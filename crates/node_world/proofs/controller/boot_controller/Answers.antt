@@ -6,8 +6,7 @@ use Rattle.node_world.proofs.controller.boot_controller.Goals as goal
 pub boot-requires-clause-memory : goal.boot-requires-clause-memory
 boot-requires-clause-memory c =
     let q = c.requires.state in
-    let taken = kept_is c.args.controller.now q.0.memory q.0.controller (λ h. (link_to q.0.sites h).controller) q.1.controller in
-    subst IsSoundMemory (sym taken) q.3
+    subst IsSoundMemory (sym (kept_is c.args.controller.now q.0.memory q.0.controller (λ h. (link_to q.0.sites h).controller) q.1.controller)) q.3
 
 pub returns-in-On-clause-stands : goal.returns-in-On-clause-stands
 returns-in-On-clause-stands c w world may timely off same =

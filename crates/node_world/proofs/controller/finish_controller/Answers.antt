@@ -15,9 +15,8 @@ frames_due : {k : Power} {ks : List HostSite} {n m : Node Memory} {live : Bool} 
     → live ≡ true → SendsTo (RunsAs m v.core v.ports) v.ports ks hosts
 frames_due {n = n} {m = m} {v = v} e there live =
     let on : On m ≡ On n = sym there ∙ e.on in
-    let is : m ≡ n = cc in
     record {
-      runs = subst (λ x. RunsAs x v.core v.ports) (sym is) (e.sends.runs live);
+      runs = subst (λ x. RunsAs x v.core v.ports) (sym cc) (e.sends.runs live);
       sites = e.sends.sites;
       different = e.sends.different;
       ends = e.sends.ends;

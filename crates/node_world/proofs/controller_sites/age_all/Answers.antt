@@ -25,10 +25,9 @@ loop-i-preserved c =
       goes = λ hosts a.
           let n = walk_next older told now hosts c.args.noted.now.entries.items c.loop-i.noted.entries.items i
           (slice_index_or now i c.index-sites-i.result) (c.loop-i.invariant.goes hosts a) lt (ap (slice_index_or now i) c.index-sites-i.is) in
-          let k = slice_index_or now i c.index-sites-i.result in
           let r = c.in_ok-grow_older.ensures n.site.link n.here.wires in
           let E : ℕ → List Entry = λ h. entries_for h (aged_entries Controller n.site.link.to_controller ++ aged_entries Host n.site.link.to_host) in
-          (n.goes (record k { wires = c.grow_older.new.self }) c.grow_older.new.entries.items
+          (n.goes (record (slice_index_or now i c.index-sites-i.result) { wires = c.grow_older.new.self }) c.grow_older.new.entries.items
           (record { host = n.here.host; wires = r.0; place = n.here.place }) (r.1 ∙ ap (λ h. c.loop-i.noted.entries.items ++ E h) n.here.host)).walked;
       short = c.loop-i.invariant.short;
     }

@@ -1,5 +1,5 @@
 use Rattle.std.proofs.lemmas.List.{length-set}
-use Rattle.node_world.proofs.Words.{List, ap, arith, length, refl, slice_set, subst, sym, ℕ, ◌+◌, ◌<◌, ◌∙◌, ◌≡◌, ◌≤◌}
+use Rattle.node_world.proofs.Words.{List, ap, arith, length, refl, slice_set, subst, sym, ℕ, ◌+◌, ◌<◌, ◌∙◌, ◌≡◌}
 use Rattle.node_world.proofs.SitesKept.{NumbersFound, no_numbers, number_found, number_passed, numbers_are}
 use Rattle.node_world.proofs.controller_sites.sessions_of.Goals.{then-host-lt8, else-host-lt8}
 use Rattle.node_world.proofs.controller_sites.sessions_of.Goals as goal
@@ -25,9 +25,8 @@ loop-i-preserved c = elim c.if-host-lt8.branch [
     goes = λ hosts a.
         let k = c.index-sites-i.result in
         let F : List ℕ → Type 0 = λ s. NumbersFound (c.loop-i.i + 1) s hosts in
-        let high : 8 ≤ k.host = omega (arith, w.if-host-lt8.false, c.from-host.ensures) in
         subst F (sym w.sessions-is) (number_passed c.loop-i.i c.args.sites.now hosts c.loop-i.sessions k a
-        (c.loop-i.invariant.goes hosts a) c.loop-i-test.true c.index-sites-i.is high);
+        (c.loop-i.invariant.goes hosts a) c.loop-i-test.true c.index-sites-i.is (omega (arith, w.if-host-lt8.false, c.from-host.ensures)));
   }
 ]
 

@@ -44,8 +44,7 @@ comes_to-requires-clause-state c =
     let below : c.loop.counter < c.taken-end.result = c.loop-test.true in
     let a = c.loop.invariant.goes s.0 s.1 s.2 s.3 in
     let ready = bounds_again s.1 (Takes c.args.at) 250000000 c.loop.counter a.behind (omega arith) (omega (arith, many, few, below)) a.goes_on a.few in
-    let there = there_still c.args.at.link a.behind s.1 a.hosts (is_there c.args.at.link s.3 s.3.is_line.may_follow.0) in
-    (a.behind, a.world, ready, there)
+    (a.behind, a.world, ready, (there_still c.args.at.link a.behind s.1 a.hosts (is_there c.args.at.link s.3 s.3.is_line.may_follow.0)))
 
 pub loop-preserved : goal.loop-preserved
 loop-preserved c = record {
@@ -69,8 +68,6 @@ loop-preserved c = record {
 pub returns-then-not-runs-2-clause-stands : goal.returns-then-not-runs-2-clause-stands
 returns-then-not-runs-2-clause-stands c header w world may =
     let n : ℕ = taken_of c.args.count (frames_at w c.args.at) in
-    let many : c.taken-end.result ≡ taken_of c.args.count (frames_at w c.args.at) =
-    c.taken-end.ensures (frames_at w c.args.at) (sym (c.on_the_way-standing.ensures w world.sites may.goes_on)) in
     let below : c.loop.counter < c.taken-end.result = c.loop-test.true in
     let a = c.loop.invariant.goes header w world may in
     let not : is_running a.behind (node_of c.args.at) ≡ false =
@@ -83,13 +80,11 @@ returns-then-not-runs-2-clause-stands c header w world may =
     c.loop.noted.entries.items c.loop.counter n a c.requires.nothing
     (takes_one w c.args.at on some) refl (again_stops w
     (Takes c.args.at) 250000000 c.loop.controller c.loop.sites c.args.noted.now.entries.items c.loop.noted.entries.items c.loop.counter n a
-    (omega (arith, many, below)) not)
+    (omega (arith, (c.taken-end.ensures (frames_at w c.args.at) (sym (c.on_the_way-standing.ensures w world.sites may.goes_on))), below)) not)
 
 pub returns-clause-stands : goal.returns-clause-stands
 returns-clause-stands c header w world may =
     let n : ℕ = taken_of c.args.count (frames_at w c.args.at) in
-    let many : c.taken-end.result ≡ n =
-    c.taken-end.ensures (frames_at w c.args.at) (sym (c.on_the_way-standing.ensures w world.sites may.goes_on)) in
     let last : c.loop.counter ≡ c.taken-end.result = omega (arith, c.loop-test.false, c.loop.auto.counter-end) in
     let a = c.loop.invariant.goes header w world may in
     let on : is_running w (node_of c.args.at) ≡ true =
@@ -99,5 +94,5 @@ returns-clause-stands c header w world may =
     again_plays w (Takes c.args.at) 250000000 (line.Deliver c.args.at c.args.count) c.loop.controller c.loop.sites c.args.noted.now.entries.items
     c.loop.noted.entries.items c.loop.counter c.loop.counter a c.requires.nothing
     (takes_one w c.args.at on some) (ap (λ k. so_often w (Takes c.args.at) k) (sym
-    (last ∙ many))) (again_ends w
+    (last ∙ (c.taken-end.ensures (frames_at w c.args.at) (sym (c.on_the_way-standing.ensures w world.sites may.goes_on)))))) (again_ends w
     (Takes c.args.at) 250000000 c.loop.controller c.loop.sites c.args.noted.now.entries.items c.loop.noted.entries.items c.loop.counter a)

@@ -17,11 +17,9 @@ lose_frame-requires c =
 
 pub returns-then-not-runs-clause-stands : goal.returns-then-not-runs-clause-stands
 returns-then-not-runs-clause-stands c header w world may =
-    let off : is_running w (node_of c.args.at) ≡ false =
-    sym (c.runs.ensures w world may.goes_on ∙ ap (λ n. is_running w n) c.node_of.ensures) ∙ c.if-not-runs.true in
     on_ok_weaker c.refuse.result (line_refused w (line.Lose c.args.at)
     c.args.controller.now c.args.sites.now c.args.noted.now.entries.items c.refuse.new.noted.entries.items c.requires.nothing no.Off
-    (off_takes_none w c.args.at off) world)
+    (off_takes_none w c.args.at (sym (c.runs.ensures w world may.goes_on ∙ ap (λ n. is_running w n) c.node_of.ensures) ∙ c.if-not-runs.true)) world)
     c.refuse.ensures.noted
 
 pub returns-then-on_the_way-eq0-clause-stands : goal.returns-then-on_the_way-eq0-clause-stands

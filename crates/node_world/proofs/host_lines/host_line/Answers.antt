@@ -22,11 +22,10 @@ number_off s host h same = sym (ap (λ n. n == 0) same) ∙ host.number
 pub give-requires-clause-host : goal.give-requires-clause-host
 give-requires-clause-host c =
     let w = c.requires.state.0 in
-    let k = slice_index_or c.args.sites.now c.in-Some.place c.index-sites-place.result in
     let a : StandsAt c.in-Some.place c.args.at.link w.sites = c.in-Some.ensures.place w.sites c.requires.state.1 in
     let t = at_place c.args.sites.now w c.in-Some.place c.args.at.link a c.index-sites-place.result
     c.requires.state.1 c.index-sites-place.is c.requires.state.2 in
-    is_some_host k a.site c.in-On.node t.is t.host c.in-On.is
+    is_some_host (slice_index_or c.args.sites.now c.in-Some.place c.index-sites-place.result) a.site c.in-On.node t.is t.host c.in-On.is
 
 pub give-requires-clause-runs : goal.give-requires-clause-runs
 give-requires-clause-runs c =
@@ -41,13 +40,12 @@ give-requires-clause-runs c =
 pub finish_host-requires-clause-state : goal.finish_host-requires-clause-state
 finish_host-requires-clause-state c =
     let w = c.requires.state.0 in
-    let k = slice_index_or c.args.sites.now c.in-Some.place c.index-sites-place.result in
     let a : StandsAt c.in-Some.place c.args.at.link w.sites = c.in-Some.ensures.place w.sites c.requires.state.1 in
     let t = at_place c.args.sites.now w c.in-Some.place c.args.at.link a c.index-sites-place.result
     c.requires.state.1 c.index-sites-place.is c.requires.state.2 in
     let before = c.args.noted.now.entries.items in
     let e = c.in_default-give.ensures in
-    let d = began k _ a.site c.in-On.node c.give.new.node
+    let d = began (slice_index_or c.args.sites.now c.in-Some.place c.index-sites-place.result) _ a.site c.in-On.node c.give.new.node
     _ before _ c.give.new.noted _ (ap (replicate 8) c.session-noted.ensures) t.is t.host c.in-On.is refl refl
     (deeds_asked c.args.asked) (asked_mute c.args.asked a.site.host) e.given (e.noted _ before) (none_noted _) t.is.wires in
     (a.site, d.step, d.l, d.w, before, d.midway)
@@ -55,11 +53,10 @@ finish_host-requires-clause-state c =
 pub finish_host-requires-clause-room : goal.finish_host-requires-clause-room
 finish_host-requires-clause-room c =
     let w = c.requires.state.0 in
-    let k = slice_index_or c.args.sites.now c.in-Some.place c.index-sites-place.result in
     let a : StandsAt c.in-Some.place c.args.at.link w.sites = c.in-Some.ensures.place w.sites c.requires.state.1 in
     let t = at_place c.args.sites.now w c.in-Some.place c.args.at.link a c.index-sites-place.result
     c.requires.state.1 c.index-sites-place.is c.requires.state.2 in
-    room_there k a.site t.is t.few
+    room_there (slice_index_or c.args.sites.now c.in-Some.place c.index-sites-place.result) a.site t.is t.few
 
 pub returns-in_default-clause-stands : goal.returns-in_default-clause-stands
 returns-in_default-clause-stands c w all ready there = nowhere w.sites c.args.at.link there (c.in_default.ensures.place w.sites all)

@@ -11,8 +11,7 @@ boot-requires-clause-number c = let r = c.requires.state in low_host r.0.host r.
 pub boot-requires-clause-memory : goal.boot-requires-clause-memory
 boot-requires-clause-memory c =
     let r = c.requires.state in
-    let taken = kept_is c.args.site.now.power r.0.memory r.0.node (λ h. r.0.link.host) r.1.place in
-    subst IsSoundMemory (sym taken) r.4
+    subst IsSoundMemory (sym (kept_is c.args.site.now.power r.0.memory r.0.node (λ h. r.0.link.host) r.1.place)) r.4
 
 pub returns-in-On-clause-stands : goal.returns-in-On-clause-stands
 returns-in-On-clause-stands c s is host off side =

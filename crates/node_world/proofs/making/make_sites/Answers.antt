@@ -12,14 +12,10 @@ loop-host-preserved c =
     let i : ℕ = c.loop-host.host-index in
     let before = c.loop-host.sites.items in
     let host : ℕ = get_or hosts i 0 in
-    let grown = c.in-Ok.ensures.items in
-    let all = take_more hosts i 0 c.loop-host-test.true in
     let same : map made (take (i + 1) hosts) ≡ map made (take i hosts) ++ made host ∷ [] =
-    ap (map made) all ∙ map-append made (take i hosts) (host ∷ []) in
+    ap (map made) (take_more hosts i 0 c.loop-host-test.true) ∙ map-append made (take i hosts) (host ∷ []) in
     let longer = together before (map made (take i hosts)) (c.in_ok-site.site ∷ []) (made host ∷ []) c.loop-host.invariant (c.in_ok-site.ensures, tt) in
-    rw grown (rw (← same) at longer)
+    rw c.in-Ok.ensures.items (rw (← same) at longer)
 
 pub returns : goal.returns
-returns c =
-    let hosts : List ℕ = c.args.hosts.now in
-    rw (← take_all c.loop-host.host-index hosts c.loop-host-test.false) c.loop-host.invariant
+returns c = rw (← take_all c.loop-host.host-index c.args.hosts.now c.loop-host-test.false) c.loop-host.invariant

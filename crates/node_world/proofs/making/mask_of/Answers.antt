@@ -13,15 +13,13 @@ loop-host-preserved c =
     let twice = double c.loop-host.host-counter in
     elim c.if-contains.branch [
       | then-contains w ↦
-          let passed = sym c.contains.ensures.value ∙ w.if-contains.true in
           let is = w.mask-is in
           let bit = w.bit_of-mask.ensures in
-          let more = mask_of-taken test c.loop-host.host-counter from passed in
+          let more = mask_of-taken test c.loop-host.host-counter from (sym c.contains.ensures.value ∙ w.if-contains.true) in
           (omega arith, omega arith)
       | else-contains w ↦
-          let failed = sym c.contains.ensures.value ∙ w.if-contains.false in
           let is = w.mask-is in
-          let same = ap mask_of (hosts_below-left test c.loop-host.host-counter from failed) in
+          let same = ap mask_of (hosts_below-left test c.loop-host.host-counter from (sym c.contains.ensures.value ∙ w.if-contains.false)) in
           (omega arith, omega arith)
     ]
 

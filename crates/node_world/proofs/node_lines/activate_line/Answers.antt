@@ -60,10 +60,9 @@ comes_to-requires-2-clause-state c =
 
 pub returns-then-not-runs-clause-stands : goal.returns-then-not-runs-clause-stands
 returns-then-not-runs-clause-stands c header w world may =
-    let e : is_running w 0 ≡ false = sym (c.runs.ensures w world may.goes_on) ∙ c.if-not-runs.true in
     on_ok_weaker c.refuse.result (line_refused w (line.Activate c.args.host c.args.sync c.args.power)
     c.args.controller.now c.args.sites.now c.args.noted.now.entries.items c.refuse.new.noted.entries.items c.requires.nothing no.Off
-    (first_is (if_off w 0) (if_off w c.args.host) no.Off (off_is w 0 e)) world)
+    (first_is (if_off w 0) (if_off w c.args.host) no.Off (off_is w 0 (sym (c.runs.ensures w world may.goes_on) ∙ c.if-not-runs.true))) world)
     c.refuse.ensures.noted
 
 pub returns-then-not-runs-2-clause-stands : goal.returns-then-not-runs-2-clause-stands

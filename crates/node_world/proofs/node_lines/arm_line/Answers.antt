@@ -1,7 +1,6 @@
 use Rattle.std.specs.List.{each_same}
-use Rattle.node_world.proofs.Words.{Arms, ArrayVec, Entry, HostSite, LinePlayed, List, NodeWorld, None, Plan, Power, Site, StandsAt, WorldIs, [], ap}
-use Rattle.node_world.proofs.Words.{append-nil, false, length, line_step, link_to, memory_at, ne_eqb, refl, rules, site_at, subst, sym, with_site, world_step}
-use Rattle.node_world.proofs.Words.{ℕ, ◌<◌, ◌==◌, ◌∙◌, ◌≡◌}
+use Rattle.node_world.proofs.Words.{Arms, ArrayVec, Entry, HostSite, LinePlayed, List, NodeWorld, None, Plan, Power, StandsAt, WorldIs, [], ap, append-nil}
+use Rattle.node_world.proofs.Words.{false, length, line_step, link_to, memory_at, ne_eqb, refl, rules, site_at, subst, sym, world_step, ℕ, ◌<◌, ◌==◌, ◌∙◌, ◌≡◌}
 use Rattle.trace_model.specs.declared.line.Line.TheVariants as line
 use Rattle.node_world.proofs.HostsInWorlds.{reads, site_stands, armed_in_world, armed, none_changed, found_becomes}
 use Rattle.node_world.proofs.LinesGo.{line_goes}
@@ -10,9 +9,7 @@ use Rattle.node_world.proofs.node_lines.arm_line.Goals as goal
 -- where no host has this number, nothing changes
 nothing_armed : (w : NodeWorld) (n : ℕ) (plan : Plan) → (n == 0) ≡ false → site_at w.sites n ≡ None → (world_step w (Arms n plan)).0 ≡ w
 nothing_armed w n plan off none =
-    let f : Site → Site = λ s. record s { memory = armed plan (memory_at w n) } in
-    let is : (world_step w (Arms n plan)).0 ≡ record w { sites = with_site n f w.sites } = rw off refl in
-    is ∙ ap (λ xs. record w { sites = xs }) (none_changed n f w.sites none)
+    (rw off refl) ∙ ap (λ xs. record w { sites = xs }) (none_changed n (λ s. record s { memory = armed plan (memory_at w n) }) w.sites none)
 
 -- the line is played where the world is so behind it
 armed_so : (w : NodeWorld) (n nth : ℕ) (fill : ArrayVec ℕ) (copy : List ℕ) (k : Power) (ks : List HostSite) (entries : List Entry) → entries ≡ []
@@ -53,12 +50,11 @@ returns-in-Some c = record {
       let n = c.args.node in
       let o = may.goes_on.orderly in
       let plan : Plan = record { nth = c.args.nth; fill = c.in_ok-fill.fill.items } in
-      let off : (n == 0) ≡ false = search (rules, ne_eqb) in
       let a : StandsAt c.in-Some.place n w.sites = c.in-Some.ensures.place w.sites world.sites in
       let is = rw c.index-sites-place.is at (reads c.args.sites.now w c.in-Some.place n a c.index-sites-place.result world.sites c.index-sites-place.is) in
       armed_so w n c.args.nth c.args.fill.now plan.fill _ _ c.args.noted.now.entries.items c.requires.nothing (each_same _ _ c.in_ok-fill.ensures.cases)
       (found_becomes w c.in-Some.place n a o (record a.site { memory = armed plan a.site.memory }, []) (world_step w (Arms n plan))
-      (armed_in_world w n a.site (site_stands w c.in-Some.place n a o) off plan) (record { host = refl; near = refl })
+      (armed_in_world w n a.site (site_stands w c.in-Some.place n a o) (search (rules, ne_eqb)) plan) (record { host = refl; near = refl })
       c.args.controller.now c.args.sites.now _ [] [] world
       (record {
         site = record {
@@ -75,8 +71,7 @@ returns-in_default c = record {
   stands = λ header w world may.
       let n = c.args.node in
       let plan : Plan = record { nth = c.args.nth; fill = c.in_ok-fill.fill.items } in
-      let off : (n == 0) ≡ false = search (rules, ne_eqb) in
       armed_so w n c.args.nth c.args.fill.now plan.fill c.args.controller.now c.args.sites.now c.args.noted.now.entries.items c.requires.nothing
       (each_same _ _ c.in_ok-fill.ensures.cases)
-      (rw (← nothing_armed w n plan off (c.in_default.ensures.place w.sites world.sites)) at world);
+      (rw (← nothing_armed w n plan (search (rules, ne_eqb)) (c.in_default.ensures.place w.sites world.sites)) at world);
 }

@@ -37,12 +37,11 @@ boot_host-requires c =
     let none = stands_not (node_at w n) (sym (c.runs.ensures w c.requires.state.2 may.goes_on) ∙ c.if-runs.false) in
     let off : (n == 0) ≡ false = search (rules, ne_eqb) in
     let a : StandsAt c.in-Some.place n w.sites = c.in-Some.ensures.place w.sites all in
-    let is = reads c.args.sites.now w c.in-Some.place n a c.index-sites-place.result all c.index-sites-place.is in
     let found = site_stands w c.in-Some.place n a may.goes_on.orderly in
     record {
       state = (
         a.site,
-        rw c.index-sites-place.is at is,
+        rw c.index-sites-place.is at (reads c.args.sites.now w c.in-Some.place n a c.index-sites-place.result all c.index-sites-place.is),
         is_host w c.in-Some.place n a may.goes_on,
         sym (node_there w n off a.site found) ∙ none,
         subst IsSoundMemory (memory_there w n off a.site found) (may.boots n may.is_line.may_follow.1 none),
@@ -51,10 +50,9 @@ boot_host-requires c =
 
 pub returns-then-runs-clause-stands : goal.returns-then-runs-clause-stands
 returns-then-runs-clause-stands c header w world may mask_is =
-    let e : is_running w c.args.node ≡ true = sym (c.runs.ensures w world may.goes_on) ∙ c.if-runs.true in
     on_ok_weaker c.refuse.result (line_refused w (line.Boot c.args.node)
     c.args.controller.now c.args.sites.now c.args.noted.now.entries.items c.refuse.new.noted.entries.items c.requires.nothing no.Running
-    (runs_refused w c.args.node e) world)
+    (runs_refused w c.args.node (sym (c.runs.ensures w world may.goes_on) ∙ c.if-runs.true)) world)
     c.refuse.ensures.noted
 
 pub returns-then-node-eq0-clause-stands : goal.returns-then-node-eq0-clause-stands

@@ -1,5 +1,5 @@
 use Rattle.std.specs.Option.{option_map}
-use Rattle.node_world.proofs.Words.{HciTables, Option, Running, StandsAt, false, get_or, ne_eqb, rules, ℕ, ◌==◌, ◌≡◌}
+use Rattle.node_world.proofs.Words.{HciTables, Option, Running, StandsAt, get_or, ne_eqb, rules, ℕ}
 use Rattle.node_world.proofs.HostsInWorlds.{reads, site_stands, node_there}
 use Rattle.node_world.proofs.node_lines.copied_tables.Goals as goal
 
@@ -7,9 +7,7 @@ abbrev tables_at : Option Running → Option HciTables
 tables_at o = option_map (λ (r : Running). r.core.tables) o
 
 pub returns-then-node-eq0 : goal.returns-then-node-eq0
-returns-then-node-eq0 c w world may =
-    let zero : c.args.node ≡ 0 = c.if-node-eq0.true in
-    rw zero (c.tables_of.ensures _ _ _ world.controller)
+returns-then-node-eq0 c w world may = rw c.if-node-eq0.true (c.tables_of.ensures _ _ _ world.controller)
 
 pub returns : goal.returns
 returns c w world may =
@@ -17,6 +15,4 @@ returns c w world may =
     let a : StandsAt i c.args.node w.sites = c.in-Some.ensures.place w.sites world.sites in
     let k = get_or c.args.sites.now i c.index-sites-place.result in
     let is = rw c.index-sites-place.is at (reads c.args.sites.now w i c.args.node a c.index-sites-place.result world.sites c.index-sites-place.is) in
-    let off : (c.args.node == 0) ≡ false = search (rules, ne_eqb) in
-    let node = node_there w c.args.node off a.site (site_stands w i c.args.node a may.orderly) in
-    rw node (c.tables_of-2.ensures _ _ _ is.place)
+    rw (node_there w c.args.node (search (rules, ne_eqb)) a.site (site_stands w i c.args.node a may.orderly)) (c.tables_of-2.ensures _ _ _ is.place)

@@ -11,10 +11,9 @@ use Rattle.node_world.proofs.node_lines.cut_line.Goals as goal
 
 pub returns-then-not-runs-clause-stands : goal.returns-then-not-runs-clause-stands
 returns-then-not-runs-clause-stands c header w world may =
-    let e : is_running w c.args.node ≡ false = sym (c.runs.ensures w world may.goes_on) ∙ c.if-not-runs.true in
     on_ok_weaker c.refuse.result (line_refused w (line.Cut c.args.node)
     c.args.controller.now c.args.sites.now c.args.noted.now.entries.items c.refuse.new.noted.entries.items c.requires.nothing no.Off
-    (off_is w c.args.node e) world)
+    (off_is w c.args.node (sym (c.runs.ensures w world may.goes_on) ∙ c.if-not-runs.true)) world)
     c.refuse.ensures.noted
 
 pub returns-then-node-eq0-clause-stands : goal.returns-then-node-eq0-clause-stands
@@ -23,8 +22,7 @@ returns-then-node-eq0-clause-stands c header w world may =
     let zero : c.args.node ≡ 0 = c.if-node-eq0.true in
     let before : List Entry = c.args.noted.now.entries.items in
     let now : List Entry = c.note_last.new.noted.entries.items in
-    let O : ℕ → Type 0 = λ n. node_at w n ≢ None in
-    let r = runs_so w.controller (subst O zero (stands_there (node_at w c.args.node) e)) in
+    let r = runs_so w.controller (subst (λ n. node_at w n ≢ None) zero (stands_there (node_at w c.args.node) e)) in
     let W : ℕ → Type 0 = λ n. WorldBecomes c.lose_controller.new.controller c.lose_controller.new.sites before now (world_step w (IsCut n)) in
     on_ok_weaker c.note_last.result
     (λ noted. line_goes w (line.Cut c.args.node) c.lose_controller.new.controller c.lose_controller.new.sites before now c.requires.nothing
@@ -56,5 +54,4 @@ pub returns-in-None-clause-stands : goal.returns-in-None-clause-stands
 returns-in-None-clause-stands c header w world may =
     let n = c.args.node in
     let e : is_running w n ≡ true = sym (c.runs.ensures w world may.goes_on) ∙ c.if-not-runs.false in
-    let off : (n == 0) ≡ false = search (rules, ne_eqb) in
-    absurd (stands_there (node_at w n) e (node_nowhere w n off (c.in-None.ensures.place w.sites world.sites)))
+    absurd (stands_there (node_at w n) e (node_nowhere w n (search (rules, ne_eqb)) (c.in-None.ensures.place w.sites world.sites)))

@@ -12,8 +12,7 @@ host_line-requires-clause-state c =
 
 pub host_line-requires-clause-host : goal.host_line-requires-clause-host
 host_line-requires-clause-host c =
-    let s = c.requires.state in
-    let may = rw c.in-Send.is at s.3 in
+    let may = rw c.in-Send.is at c.requires.state.3 in
     may.is_line.may_follow.sender may.is_header.nodes
 
 pub host_line-requires-clause-may : goal.host_line-requires-clause-may
@@ -26,12 +25,11 @@ host_line-requires-clause-may c =
 pub returns-in-Send-clause-stands : goal.returns-in-Send-clause-stands
 returns-in-Send-clause-stands c header w world may mask_is =
     let now = rw c.in-Send.is at may in
-    let e : c.as_slice.result.now ≡ c.in-Send.message = search rules in
     let H : List ℕ → Type 0 = λ m. OnOk c.host_line.result (HostsPlayed c.host_line.new.sites c.host_line.new.noted.entries.items
     (line_step w (line.Send c.in-Send.at c.in-Send.pid m))) in
     on_ok_weaker c.host_line.result (send_played c.args.controller.now c.args.sites.now c.host_line.new.sites c.host_line.new.noted.entries.items header w world
     c.args.line.now c.in-Send.at c.in-Send.pid c.in-Send.message c.in-Send.is may)
-    (subst H e (c.host_line.ensures.stands w world.sites (within now) (is_there c.in-Send.at.link now now.is_line.may_follow.known)))
+    (subst H (search rules) (c.host_line.ensures.stands w world.sites (within now) (is_there c.in-Send.at.link now now.is_line.may_follow.known)))
 
 pub host_line-requires-in-Init-clause-state : goal.host_line-requires-in-Init-clause-state
 host_line-requires-in-Init-clause-state c =
@@ -40,10 +38,7 @@ host_line-requires-in-Init-clause-state c =
     (s.1, s.2.sites, within may, is_there c.in-Init.at.link may may.is_line.may_follow.1.known)
 
 pub host_line-requires-in-Init-clause-host : goal.host_line-requires-in-Init-clause-host
-host_line-requires-in-Init-clause-host c =
-    let s = c.requires.state in
-    let may = rw c.in-Init.is at s.3 in
-    may.is_line.may_follow.1.host
+host_line-requires-in-Init-clause-host c = (rw c.in-Init.is at c.requires.state.3).is_line.may_follow.1.host
 
 pub host_line-requires-in-Init-clause-may : goal.host_line-requires-in-Init-clause-may
 host_line-requires-in-Init-clause-may c =

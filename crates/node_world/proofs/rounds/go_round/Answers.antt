@@ -1,4 +1,4 @@
-use Rattle.node_world.proofs.Words.{ap, arith, end_c, end_h, ends_in_order, ends_take_all, length, on_ok_weaker, slice_index_or, ℕ, ◌*◌, ◌+◌, ◌<◌, ◌∷◌, ◌≤◌}
+use Rattle.node_world.proofs.Words.{ap, arith, end_c, end_h, ends_in_order, ends_take_all, length, on_ok_weaker, slice_index_or, ℕ, ◌*◌, ◌+◌, ◌<◌, ◌∷◌}
 use Rattle.node_laws.proofs.rounds.Allowing.{ends_of}
 use Rattle.node_world.proofs.RoundsGo.{link_taken, may_take, next_link, round_gone, taken_next, taking_begins, taking_ends}
 use Rattle.node_world.proofs.rounds.go_round.Goals as goal
@@ -17,10 +17,9 @@ take_all-requires-clause-state c =
     let h : ℕ = site.host in
     let n = next_link s.0 c.loop-i.controller c.loop-i.sites c.args.noted.now.entries.items c.loop-i.noted.entries.items c.loop-i.i site
     (c.loop-i.invariant.goes s.0 s.1 s.2.takes) s.2.takes below (ap (slice_index_or c.loop-i.sites c.loop-i.i) c.index-sites-i.is) in
-    let few = n.few in
     let may = may_take s.0
     c.loop-i.controller c.loop-i.sites c.args.noted.now.entries.items c.loop-i.noted.entries.items (ends_in_order s.0) (end_c h) (end_h h ∷ ends_of n.back)
-    (250000000 + 256 * c.loop-i.i) n.done n.back n.taken (omega (arith, few)) n.is in
+    (250000000 + 256 * c.loop-i.i) n.done n.back n.taken (omega (arith, n.few)) n.is in
     (n.taken.behind, n.taken.gone.world, may)
 
 pub take_all-requires-in-loop-i-clause-state : goal.take_all-requires-in-loop-i-clause-state
@@ -75,18 +74,16 @@ loop-i-preserved c = record {
 pub tick_world-requires-clause-state : goal.tick_world-requires-clause-state
 tick_world-requires-clause-state c =
     let q = c.requires.state in
-    let over : length c.loop-i.sites ≤ c.loop-i.i = omega (arith, c.loop-i-test.false, c.loop-i.auto.sites) in
     let took = taking_ends q.0
     c.loop-i.controller c.loop-i.sites c.args.noted.now.entries.items c.loop-i.noted.entries.items c.loop-i.i (c.loop-i.invariant.goes q.0 q.1 q.2.takes)
-    q.2.takes over in
+    q.2.takes (omega (arith, c.loop-i-test.false, c.loop-i.auto.sites)) in
     ((ends_take_all q.0 (ends_in_order q.0)).0, took.gone.world, took.within, q.2.timely)
 
 pub returns-clause-stands : goal.returns-clause-stands
 returns-clause-stands c w world may =
-    let over : length c.loop-i.sites ≤ c.loop-i.i = omega (arith, c.loop-i-test.false, c.loop-i.auto.sites) in
     let took = taking_ends w
     c.loop-i.controller c.loop-i.sites c.args.noted.now.entries.items c.loop-i.noted.entries.items c.loop-i.i (c.loop-i.invariant.goes w world may.takes)
-    may.takes over in
+    may.takes (omega (arith, c.loop-i-test.false, c.loop-i.auto.sites)) in
     on_ok_weaker c.tick_world.result (λ b. round_gone w
     c.loop-i.controller c.tick_world.new.controller c.loop-i.sites c.tick_world.new.sites c.args.noted.now.entries.items
     c.loop-i.noted.entries.items c.tick_world.new.noted.entries.items took.gone b)

@@ -42,14 +42,12 @@ loop-preserved c = record {
 pub returns-then-not-runs-clause-stands : goal.returns-then-not-runs-clause-stands
 returns-then-not-runs-clause-stands c w world may =
     let n : ℕ = length (frames_at w c.args.at) in
-    let many : c.on_the_way-times.result ≡ n = c.on_the_way-times.ensures w world.sites may.goes_on in
-    let below : c.loop.counter < c.on_the_way-times.result = c.loop-test.true in
     let a = c.loop.invariant.goes w world may in
     let not : is_running a.behind (node_of c.args.at) ≡ false =
     sym (c.runs.ensures a.behind a.world a.goes_on ∙ ap (λ n. is_running a.behind n) c.node_of.ensures) ∙ c.if-not-runs.true in
     again_goes w (Takes c.args.at) 290000000 c.loop.controller c.loop.sites c.args.noted.now.entries.items c.loop.noted.entries.items c.loop.counter n a
     (again_stops w (Takes c.args.at) 290000000 c.loop.controller c.loop.sites c.args.noted.now.entries.items c.loop.noted.entries.items c.loop.counter n a
-    (omega (arith, many, below)) not)
+    (omega (arith, (c.on_the_way-times.ensures w world.sites may.goes_on), c.loop-test.true)) not)
 
 pub returns-clause-stands : goal.returns-clause-stands
 returns-clause-stands c w world may =

@@ -79,7 +79,6 @@ returns-then-at-clause-stands c w world ready there =
     let o = ready.goes_on.orderly in
     let a : StandsAt c.in-Some.place h w.sites = c.in-Some.ensures.place w.sites world.sites in
     let t = at_place c.args.sites.now w c.in-Some.place h a c.index-sites-place.result world.sites c.index-sites-place.is ready in
-    let counts = counts_coming _ a.site (as_comes c.args.what) t.is t.host t.few in
     let W : Option ResetRefused → End → Type 0 = λ cause e. WorldBecomes
     c.args.controller.now (slice_set c.args.sites.now c.in-Some.place c.comes_to_host.new.site) c.args.noted.now.entries.items
     c.comes_to_host.new.noted.entries.items (if_accepted cause w (comes_at w e (as_comes c.args.what))) in
@@ -91,7 +90,7 @@ returns-then-at-clause-stands c w world ready there =
     (hears_in_world w h a.site (site_stands w c.in-Some.place h a o) (as_comes c.args.what)) (hears_leaves a.site (as_comes c.args.what))
     c.args.controller.now c.args.sites.now c.comes_to_host.new.site c.args.noted.now.entries.items c.comes_to_host.new.noted.entries.items
     world cause b))
-    (c.comes_to_host.ensures.stands a.site t.is t.host counts)
+    (c.comes_to_host.ensures.stands a.site t.is t.host (counts_coming _ a.site (as_comes c.args.what) t.is t.host t.few))
 
 pub returns-in_default-controller-clause-refusal : goal.returns-in_default-controller-clause-refusal
 returns-in_default-controller-clause-refusal c w world ready there =
@@ -102,19 +101,17 @@ returns-in_default-controller-clause-refusal c w world ready there =
 pub returns-in_default-controller-clause-stands : goal.returns-in_default-controller-clause-stands
 returns-in_default-controller-clause-stands c w world ready there =
     let off = place_is_off c.args.controller.now w.memory w.controller (λ h. (link_to w.sites h).controller) c.in_default-controller.not-On world.controller in
-    let before = c.args.noted.now.entries.items in
     near_becomes c.args.at w (as_comes c.args.what) c.if-at.false
-    (rw (comes_off w c.args.at.link (as_comes c.args.what) off) (record { world = world; noted = sym (append-nil before) }))
+    (rw (comes_off w c.args.at.link (as_comes c.args.what) off) (record { world = world; noted = sym (append-nil c.args.noted.now.entries.items) }))
 
 pub returns-in_default-2-clause-refusal : goal.returns-in_default-2-clause-refusal
 returns-in_default-2-clause-refusal c w world ready there =
     let ks = c.args.sites.now in
     let k = slice_index_or ks c.in-Some.place c.index-sites-place-2.result in
-    let st = c.in-Some.ensures.place w.sites world.sites in
     let read = ap (slice_index_or ks c.in-Some.place) c.index-sites-place-2.is in
     let none = as_none c.in_default-2.is (near_comes c.args.at c.comes.new.self c.args.what _ _ _ c.if-at.false c.in_ok-arrived.ensures
     (link_to w.sites c.args.at.link)
-    (wires_there w c.args.at.link ready.goes_on there c.in-Some.place ks k st world.sites read)) in
+    (wires_there w c.args.at.link ready.goes_on there c.in-Some.place ks k (c.in-Some.ensures.place w.sites world.sites) world.sites read)) in
     near_refused c.args.at w (as_comes c.args.what) None c.if-at.false
     (none_refused c.args.what (link_to w.sites c.args.at.link) w.controller (link_to w.sites c.args.at.link).controller.side none.input)
 
@@ -127,14 +124,13 @@ returns-in_default-2-clause-stands c w world ready there =
     let read = ap (slice_index_or ks c.in-Some.place) c.index-sites-place-2.is in
     let none = as_none c.in_default-2.is (near_comes c.args.at c.comes.new.self c.args.what _ _ _ c.if-at.false c.in_ok-arrived.ensures
     (link_to w.sites h) (wires_there w h ready.goes_on there c.in-Some.place ks k st world.sites read)) in
-    let before = c.args.noted.now.entries.items in
     near_becomes c.args.at w (as_comes c.args.what) c.if-at.false
     (rw (comes_none w h (as_comes c.args.what) none.input) (record {
       world = record {
         controller = rw c.in-On.is at world.controller;
         sites = sites_still w h ready.goes_on there c.in-Some.place ks k st world.sites read c.comes.new.self none.wires;
       };
-      noted = none.noted ∙ sym (append-nil before);
+      noted = none.noted ∙ sym (append-nil c.args.noted.now.entries.items);
     }))
 
 pub step-requires : goal.step-requires
@@ -150,9 +146,8 @@ step-requires c =
     let arrived = as_some c.in-Some-2.is (near_comes c.args.at c.comes.new.self c.args.what _ _ _ c.if-at.false c.in_ok-arrived.ensures
     (link_to q.0.sites h) (wires_there q.0 h q.2.goes_on q.3 c.in-Some.place ks k st q.1.sites read)) in
     let sites = sites_with q.0 h q.2.goes_on q.3 c.in-Some.place ks k st q.1.sites read comes c.comes.new.self arrived.wires in
-    let i : LinkInput = input_of_end c.as_input.result in
     let input = arrived.input ∙ ap Some (sym c.as_input.ensures.input) in
-    let b = begins_there q.0 here.running h comes i q.3.0 q.2.goes_on here.runs q.3.1 input c.in-On.node here.place in
+    let b = begins_there q.0 here.running h comes (input_of_end c.as_input.result) q.3.0 q.2.goes_on here.runs q.3.1 input c.in-On.node here.place in
     let may = may_arrive false c.args.what c.in-Some-2.arrived _ arrived.is (subst (λ b. MayArrive b c.args.what) c.if-at.false c.requires.may)
     (λ value at_host. absurd (cc at_host)) in
     (_, _, b.runs, b.sent, c.as_input.ensures.may _ may)
@@ -193,9 +188,8 @@ finish_controller-requires-clause-room c =
     let arrived = as_some c.in-Some-2.is (near_comes c.args.at c.comes.new.self c.args.what _ _ _ c.if-at.false c.in_ok-arrived.ensures
     (link_to q.0.sites h) (wires_there q.0 h q.2.goes_on q.3 c.in-Some.place ks k st q.1.sites read)) in
     let sites = sites_with q.0 h q.2.goes_on q.3 c.in-Some.place ks k st q.1.sites read comes c.comes.new.self arrived.wires in
-    let i : LinkInput = input_of_end c.as_input.result in
     let input = arrived.input ∙ ap Some (sym c.as_input.ensures.input) in
-    let b = begins_there q.0 here.running h comes i q.3.0 q.2.goes_on here.runs q.3.1 input c.in-On.node here.place in
+    let b = begins_there q.0 here.running h comes (input_of_end c.as_input.result) q.3.0 q.2.goes_on here.runs q.3.1 input c.in-On.node here.place in
     room_kept ks _ q.0.sites (as_it_comes_to h comes q.0.sites) q.1.sites sites (resets_as_it_comes h comes q.0.sites)
     (room_for_all c.args.sites.now c.requires.state.0 c.requires.state.1.sites c.requires.state.2.few)
 
@@ -284,14 +278,11 @@ returns-in-Err-clause-stands c w world ready there =
     let input = arrived.input ∙ ap Some (sym c.as_input.ensures.input) in
     let b = begins_there w here.running h comes i there.0 ready.goes_on here.runs there.1 input c.in-On.node here.place in
     let left = wires_as_were c.args.what c.in-Some-2.arrived _ arrived (sym (c.as_input.ensures.refusal _) ∙ c.in-Err.ensures.refusal _ _ here.place.1) in
-    let before = c.args.noted.now.entries.items in
-    let place : IsNodePlace (On c.step.new.node) w.memory (Some here.running) (λ n. (link_to w.sites n).controller) =
-    (c.in-Err.ensures.quiet.1 ∙ here.place.0, c.in-Err.ensures.unchanged _ _ here.place.1, here.place.2) in
     let P : Option Running → Type 0 = λ o. IsNodePlace (On c.step.new.node) w.memory o (λ n. (link_to w.sites n).controller) in
     record {
       world = record {
-        controller = subst P (sym here.runs) place;
+        controller = subst P (sym here.runs) (c.in-Err.ensures.quiet.1 ∙ here.place.0, c.in-Err.ensures.unchanged _ _ here.place.1, here.place.2);
         sites = sites_still w h ready.goes_on there c.in-Some.place ks k st world.sites read c.comes.new.self left.0;
       };
-      noted = ap (λ n. n.entries.items) c.in-Err.ensures.quiet.0 ∙ (left.1 ∙ sym (append-nil before));
+      noted = ap (λ n. n.entries.items) c.in-Err.ensures.quiet.0 ∙ (left.1 ∙ sym (append-nil c.args.noted.now.entries.items));
     }

@@ -1,4 +1,4 @@
-use Rattle.node_world.proofs.Words.{HostSite, Link, LinkInput, None, Ok, On, Some, ap, arith, as_comes, exchanged, input_of_end, refl, replicate, session_at}
+use Rattle.node_world.proofs.Words.{HostSite, Link, None, Ok, On, Some, ap, arith, as_comes, exchanged, input_of_end, refl, replicate, session_at}
 use Rattle.node_world.proofs.Words.{sym, true, ◌∙◌}
 use Rattle.node_world.proofs.HostsHear.{as_none, as_some, may_arrive, off_refuses_none, none_refused, wires_as_were, arrived_noted, is_on, is_off}
 use Rattle.node_world.proofs.HostsHear.{unchanged_as, hears_off, hears_none, begins_at_end, heard, is_done, refused_here, still_stands, may_start}
@@ -32,13 +32,11 @@ pub finish_host-requires-clause-state : goal.finish_host-requires-clause-state
 finish_host-requires-clause-state c =
     let q = c.requires.state in
     let s = q.0 in
-    let l : Link = exchanged s.link in
     let before = c.args.noted.now.entries.items in
-    let arrived = as_some c.in-Some.is (c.in_ok-arrived.ensures l q.1.wires) in
-    let i : LinkInput = input_of_end c.as_input.result in
+    let arrived = as_some c.in-Some.is (c.in_ok-arrived.ensures (exchanged s.link) q.1.wires) in
     let sessions = replicate 8 c.session-noted.result in
     let d = heard c.args.site.now _ s c.in-On.node c.step.new.node c.in-Ok.live before _ c.step.new.noted sessions
-    (ap (replicate 8) c.session-noted.ensures) q.1 q.2 c.in-On.is refl refl (as_comes c.args.what) i q.3
+    (ap (replicate 8) c.session-noted.ensures) q.1 q.2 c.in-On.is refl refl (as_comes c.args.what) (input_of_end c.as_input.result) q.3
     (arrived.input ∙ ap Some (sym c.as_input.ensures.input))
     c.in-Ok.ensures.stepped (c.in-Ok.ensures.noted sessions before)
     (record { are = λ long. (refl, rw q.1.host at (arrived_noted (session_at sessions) arrived)) }) arrived.wires in
@@ -48,10 +46,8 @@ pub finish_host-requires-clause-room : goal.finish_host-requires-clause-room
 finish_host-requires-clause-room c =
     let q = c.requires.state in
     let l : Link = exchanged q.0.link in
-    let arrived = as_some c.in-Some.is (c.in_ok-arrived.ensures l q.1.wires) in
-    let was = q.1.wires.count in
-    let now = arrived.wires.count ∙ come_resets l (as_comes c.args.what) in
-    omega (arith, c.requires.room, was, now)
+    let now = (as_some c.in-Some.is (c.in_ok-arrived.ensures l q.1.wires)).wires.count ∙ come_resets l (as_comes c.args.what) in
+    omega (arith, c.requires.room, q.1.wires.count, now)
 
 pub returns-in_ok-finish_host-in-Ok-clause-refusal : goal.returns-in_ok-finish_host-in-Ok-clause-refusal
 returns-in_ok-finish_host-in-Ok-clause-refusal c s is host =
@@ -61,13 +57,11 @@ returns-in_ok-finish_host-in-Ok-clause-refusal c s is host =
 
 pub returns-in_ok-finish_host-in-Ok-clause-stands : goal.returns-in_ok-finish_host-in-Ok-clause-stands
 returns-in_ok-finish_host-in-Ok-clause-stands c s is host counts =
-    let l : Link = exchanged s.link in
     let before = c.args.noted.now.entries.items in
-    let arrived = as_some c.in-Some.is (c.in_ok-arrived.ensures l is.wires) in
-    let i : LinkInput = input_of_end c.as_input.result in
+    let arrived = as_some c.in-Some.is (c.in_ok-arrived.ensures (exchanged s.link) is.wires) in
     let sessions = replicate 8 c.session-noted.result in
     let d = heard c.args.site.now _ s c.in-On.node c.step.new.node c.in-Ok.live before _ c.step.new.noted sessions
-    (ap (replicate 8) c.session-noted.ensures) is host c.in-On.is refl refl (as_comes c.args.what) i counts
+    (ap (replicate 8) c.session-noted.ensures) is host c.in-On.is refl refl (as_comes c.args.what) (input_of_end c.as_input.result) counts
     (arrived.input ∙ ap Some (sym c.as_input.ensures.input))
     c.in-Ok.ensures.stepped (c.in-Ok.ensures.noted sessions before)
     (record { are = λ long. (refl, rw is.host at (arrived_noted (session_at sessions) arrived)) }) arrived.wires in

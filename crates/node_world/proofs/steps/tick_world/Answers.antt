@@ -66,8 +66,7 @@ tick_host-requires-clause-room c =
     let done = c.loop-i.invariant.goes (near_ticks q.0).0.sites first.world.sites to_tick in
     let n = walk_next tick_of tick_told now (near_ticks q.0).0.sites c.tick_controller.new.noted.entries.items c.loop-i.noted.entries.items i
     (slice_index_or now i c.index-sites-i.result) done lt (ap (slice_index_or now i) c.index-sites-i.is) in
-    let may = it_may (near_ticks q.0).0.sites done.done n.site n.back n.is to_tick in
-    rw n.here.wires.count may.room
+    rw n.here.wires.count (it_may (near_ticks q.0).0.sites done.done n.site n.back n.is to_tick).room
 
 pub loop-i-preserved : goal.loop-i-preserved
 loop-i-preserved c =

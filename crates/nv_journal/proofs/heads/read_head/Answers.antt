@@ -1,5 +1,4 @@
-use Rattle.std.proofs.Common.{w16}
-use Rattle.std.proofs.Common.{w32}
+use Rattle.std.proofs.Common.{w16, w32}
 use Rattle.nv_journal.proofs.Words.{Head, List, Side, [], ap, ap₂, arith, bank, bank_place, drop, from_be_bytes, length, refl, slice_index, slice_range, sym}
 use Rattle.nv_journal.proofs.Words.{take, take-take, ℕ, ◌+◌, ◌-◌, ◌∙◌, ◌∷◌, ◌≡◌}
 use Rattle.journal_laws.specs.Banks.{head_of}
@@ -53,8 +52,7 @@ read_fields x generation base snapshot g b s =
 pub returns-clause-head : goal.returns-clause-head
 returns-clause-head g c = λ tells.
     let bytes = c.read.new.buf in
-    let size : length bytes ≡ 12 = c.read.auto.buf in
     let is = c.in_ok-read.ensures.read tells ∙ head_bytes (g.N.Nv.content c.args.nv.now) c.args.side c.place.result c.place.ensures in
     read_fields bytes c.from_be_bytes.result c.from_be_bytes-2.result c.from_be_bytes-3.result c.from_be_bytes.ensures c.from_be_bytes-2.ensures
     c.from_be_bytes-3.ensures
-    ∙ head_of_twelve bytes size ∙ ap head_of is
+    ∙ head_of_twelve bytes c.read.auto.buf ∙ ap head_of is

@@ -11,10 +11,9 @@ use Rattle.swp_base.proofs.front.fill.Goals as goal
 set-overwritten : (m xs : List ℕ) (at j y : ℕ) → at + length xs ≡ j → j < length m → set (overwritten m at xs) j y ≡ overwritten m at (xs ++ y ∷ [])
 set-overwritten m xs at j y e h =
     let front = take at m ++ xs in
-    let here : length front ≡ j = grind (arith, common_steps) in
     let cut : drop (at + length xs) m ≡ get_or m j 0 ∷ drop (suc j) m = ap (λ n. drop n m) e ∙ drop-cons m j 0 h in
     let ahead : at + length (xs ++ y ∷ []) ≡ suc j = grind (arith, common_steps) in
-    ap (λ r. set (front ++ r) j y) cut ∙ ap (λ n. set (front ++ get_or m j 0 ∷ drop (suc j) m) n y) (sym here)
+    ap (λ r. set (front ++ r) j y) cut ∙ ap (λ n. set (front ++ get_or m j 0 ∷ drop (suc j) m) n y) (sym (grind (arith, common_steps)))
     ∙ set-append_seam front (get_or m j 0) (drop (suc j) m) y ∙ sym (append_assoc front (y ∷ []) (drop (suc j) m))
     ∙ ap (λ w. w ++ drop (suc j) m) (append_assoc (take at m) xs (y ∷ [])) ∙ ap (λ n. take at m ++ (xs ++ y ∷ []) ++ drop n m) (sym ahead)
 

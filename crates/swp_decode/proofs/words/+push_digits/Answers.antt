@@ -21,9 +21,7 @@ push_digits-requires t c =
     (omega (arith, c.decreases, c.if-n-ge100000.true), (omega (arith, c.if-n-ge100000.true), omega (arith, more, c.requires.room)))
 
 pub push-requires : goal.push-requires
-push-requires t c =
-    let more = length_more c.args.n c.if-n-ge10000.true c.ranges.n.fits in
-    (omega arith, omega (arith, more, c.requires.room))
+push-requires t c = (omega arith, omega (arith, (length_more c.args.n c.if-n-ge10000.true c.ranges.n.fits), c.requires.room))
 
 pub push_four_digits-requires-clause-room : goal.push_four_digits-requires-clause-room
 push_four_digits-requires-clause-room t c =

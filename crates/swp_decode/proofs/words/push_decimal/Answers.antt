@@ -4,9 +4,7 @@ use Rattle.swp_decode.proofs.words.push_decimal.Goals as goal
 
 pub push_digits-requires : goal.push_digits-requires
 push_digits-requires c =
-    let short : length (decimal c.args.n) ≤ 10 =
-    length-decimal-le 10 c.args.n (omega arith) (omega (arith, c.ranges.n.fits)) (omega (arith, c.ranges.n.fits)) in
-    omega (arith, short, c.requires)
+    omega (arith, (length-decimal-le 10 c.args.n (omega arith) (omega (arith, c.ranges.n.fits)) (omega (arith, c.ranges.n.fits))), c.requires)
 
 pub returns-clause-sized : goal.returns-clause-sized
 returns-clause-sized c =

@@ -27,9 +27,7 @@ fours-preserved c =
     }
 
 pub loop-byte-init : goal.loop-byte-init
-loop-byte-init c =
-    let whole : c.fours.read ≡ c.fours.read + 0 = omega arith in
-    c.fours.invariant.so_far ∙ ap (λ k. c.args.text.now.items ++ hex_of (take k c.args.bytes.now)) whole
+loop-byte-init c = c.fours.invariant.so_far ∙ ap (λ k. c.args.text.now.items ++ hex_of (take k c.args.bytes.now)) (omega arith)
 
 -- a place of what is left is one of the bytes
 inside : (bytes : List ℕ) (at i : ℕ) → i < length (take (length bytes - at) (drop at bytes)) → at + i < length bytes
@@ -50,11 +48,10 @@ loop-byte-preserved c =
     let at = c.fours.read in
     let i = c.loop-byte.byte-index in
     let there = ap (λ xs. get_or xs i 0) (take_rest bytes at) ∙ get_or-drop at bytes i 0 in
-    let further : at + i + 1 ≡ at + (i + 1) = omega arith in
     c.push_text.ensures.items
     ∙ ap₂ (λ xs digits. xs ++ digits) c.loop-byte.invariant (c.digits_of.ensures ∙ ap (λ byte. hex_of (byte ∷ [])) there)
     ∙ hex_more text (take (at + i) bytes) (get_or bytes (at + i) 0 ∷ [])
-    ∙ ap (λ xs. text ++ hex_of xs) (sym (take_more bytes (at + i) 0 (inside bytes at i c.loop-byte-test.true)) ∙ ap (λ k. take k bytes) further)
+    ∙ ap (λ xs. text ++ hex_of xs) (sym (take_more bytes (at + i) 0 (inside bytes at i c.loop-byte-test.true)) ∙ ap (λ k. take k bytes) (omega arith))
 
 -- behind the last place nothing is left
 all_read : (bytes : List ℕ) (at i : ℕ) → length (take (length bytes - at) (drop at bytes)) ≤ i → take (at + i) bytes ≡ bytes

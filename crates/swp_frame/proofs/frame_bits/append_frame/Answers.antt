@@ -1,5 +1,5 @@
 use Rattle.swp_frame.proofs.Words.{WritesOn, [], ap, arith, bits_of, byte_of_bit, crc_of, end_of_frame, get_or, length, length-append, length-take, map, rules}
-use Rattle.swp_frame.proofs.Words.{start_of_frame, stuffed, subst, sym, take, take_more, ◌++◌, ◌∙◌, ◌∷◌, ◌≡◌}
+use Rattle.swp_frame.proofs.Words.{start_of_frame, stuffed, subst, sym, take, take_more, ◌++◌, ◌∙◌, ◌∷◌}
 use Rattle.swp_frame.proofs.WritingLemmas.{take_all, writes_nothing, writes_byte, start_length, room, room_for_end, frame_is_written, with_crc-pushed}
 use Rattle.swp_frame.proofs.frame_bits.append_frame.Goals as goal
 
@@ -91,11 +91,10 @@ returns-clause-written g c =
     c.append_byte-ones-2.new.out.items c.loop-byte.invariant c.append_byte-ones-2.ensures in
     let written = writes_byte c.args.bit_bytes (front ++ high ∷ []) low c.append_byte-ones-2.result c.append_byte-ones-3.result
     c.append.new.out.items c.append_byte-ones-2.new.out.items c.append_byte-ones-3.new.out.items first c.append_byte-ones-3.ensures in
-    let whole : front ≡ c.args.lpdu.now = take_all items i (omega arith) ∙ c.bytes-byte-items.ensures.value in
     frame_is_written c.args.bit_bytes c.append_byte-ones-3.result (bits_of ((front ++ high ∷ []) ++ low ∷ [])) c.args.out.now.items
     c.append.new.out.items c.append_byte-ones-3.new.out.items c.append-2.new.out.items c.append.ensures written c.append-2.ensures
     ∙ ap (λ bytes. c.args.out.now.items ++ map (byte_of_bit c.args.bit_bytes) (start_of_frame ++ stuffed (bits_of bytes) ++ end_of_frame))
-    (ap (λ bytes. (bytes ++ high ∷ []) ++ low ∷ []) whole
+    (ap (λ bytes. (bytes ++ high ∷ []) ++ low ∷ []) (take_all items i (omega arith) ∙ c.bytes-byte-items.ensures.value)
     ∙ with_crc-pushed c.args.lpdu.now c.crc.result high low (c.crc.ensures ∙ ap crc_of c.bytes.ensures.value) c.crc.type_inv
     (ap (λ xs. get_or xs 0 0) c.to_be_bytes.ensures) (ap (λ xs. get_or xs 1 0) c.to_be_bytes.ensures))
 

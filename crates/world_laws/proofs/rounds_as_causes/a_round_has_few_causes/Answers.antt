@@ -16,6 +16,4 @@ returns-clause-settling c = λ n w. rounds_few (world_rounds_to_settle n w) w
 
 pub returns-clause-most : goal.returns-clause-most
 returns-clause-most c = λ n w few seven.
-    let causes = rounds_few (world_rounds_to_settle n w) w few seven in
-    let most = (first_rest world_rests world_after_round n w).most in
-    omega (arith, causes, most)
+    omega (arith, (rounds_few (world_rounds_to_settle n w) w few seven), ((first_rest world_rests world_after_round n w).most))

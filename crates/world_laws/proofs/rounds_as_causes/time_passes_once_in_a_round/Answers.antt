@@ -10,6 +10,4 @@ returns-clause-settling c = λ n w. ticks_are (world_rounds_to_settle n w) w
 
 pub returns-clause-most : goal.returns-clause-most
 returns-clause-most c = λ n w.
-    let ticks = ticks_are (world_rounds_to_settle n w) w in
-    let most = (first_rest world_rests world_after_round n w).most in
-    omega (arith, ticks, most)
+    omega (arith, (ticks_are (world_rounds_to_settle n w) w), ((first_rest world_rests world_after_round n w).most))

@@ -52,15 +52,13 @@ invariant_of-self c =
 pub returns-clause-fits : goal.returns-clause-fits
 returns-clause-fits c =
     let s = c.self.inside in
-    let first = first_free s.region.items s.next.items s.heads.items s.free s.free_len c.self.invariant.0 (some_free c) in
-    let used = slots_of s.region.items s.next.items s.heads.items in
     subst (λ (ss : List (Option Held)). s.free < length ss) (ap (λ (v : BlocksState). v.slots) c.self.view_is ∙ c.reach.ensures.slots)
     (omega (
       arith,
-      first.0,
+      (first_free s.region.items s.next.items s.heads.items s.free s.free_len c.self.invariant.0 (some_free c)).0,
       c.self.invariant.0.counted,
       length-slots_of s.region.items s.next.items s.heads.items,
-      length-append used (replicate s.fresh None),
+      length-append (slots_of s.region.items s.next.items s.heads.items) (replicate s.fresh None),
     ))
 
 pub returns-clause-fresh : goal.returns-clause-fresh

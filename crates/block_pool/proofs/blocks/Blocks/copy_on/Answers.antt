@@ -14,17 +14,15 @@ head_at-head-requires c =
 pub overflow_sub-left : goal.overflow_sub-left
 overflow_sub-left c =
     let s = c.self.inside in
-    let at : get_or s.heads.items c.args.first None ≡ Some c.head_at-head.result = rw c.deref.ensures.value at c.head_at-head.ensures.head in
     let len_is = len_says s.region.items s.next.items s.heads.items s.fresh c.args.self.now.slots
-    (ap (λ (v : BlocksState). v.slots) c.self.view_is) c.args.first c.head_at-head.result at in
+    (ap (λ (v : BlocksState). v.slots) c.self.view_is) c.args.first c.head_at-head.result (rw c.deref.ensures.value at c.head_at-head.ensures.head) in
     omega (arith, len_is, c.requires.in_chain)
 
 pub copy_from-read_on-requires-clause-reached : goal.copy_from-read_on-requires-clause-reached
 copy_from-read_on-requires-clause-reached c =
     let s = c.self.inside in
-    let at : get_or s.heads.items c.args.first None ≡ Some c.head_at-head.result = rw c.deref.ensures.value at c.head_at-head.ensures.head in
     let len_is = len_says s.region.items s.next.items s.heads.items s.fresh c.args.self.now.slots
-    (ap (λ (v : BlocksState). v.slots) c.self.view_is) c.args.first c.head_at-head.result at in
+    (ap (λ (v : BlocksState). v.slots) c.self.view_is) c.args.first c.head_at-head.result (rw c.deref.ensures.value at c.head_at-head.ensures.head) in
     subst (λ (ns : List ℕ). (k : ℕ) → k * 32 < c.args.from + length (take c.min-count.result c.args.out.now) → block_at ns c.args.first k < length ns)
     (sym c.deref-3.ensures.value)
     (λ k low. blocks_reached s.region.items s.next.items s.heads.items s.free s.free_len c.self.invariant.0 s.fresh c.args.self.now.slots
@@ -47,24 +45,19 @@ invariant_of-self c =
     let at : get_or s.heads.items c.args.first None ≡ Some head = rw c.deref.ensures.value at c.head_at-head.ensures.head in
     let copied : length (take c.min-count.result c.args.out.now) ≡ c.min-count.result =
     omega (arith, length-take c.min-count.result c.args.out.now, c.min-count.ensures) in
-    let behind : c.copy_from-read_on.result ≡ block_at s.next.items c.args.first ((c.args.from + c.min-count.result) / 32) =
-    rw (c.deref-3.ensures.value, copied) at c.copy_from-read_on.ensures.behind in
     let low : (c.args.from + c.min-count.result) / 32 < blocks_for head.len = omega (arith, c.if-count-left.true) in
-    let first = c.head_at-head.ensures.low in
-    let low_is : c.args.first < length s.heads.items = rw c.deref.ensures.value at first in
-    let was : c.index_mut.result.now ≡ Some head = get_or_read s.heads.items c.args.first c.index_mut.result.now low_is c.index_mut.ensures.value None ∙ at in
-    rw (c.go_on_at.ensures head was) (
+    let low_is : c.args.first < length s.heads.items = rw c.deref.ensures.value at c.head_at-head.ensures.low in
+    rw (c.go_on_at.ensures head (get_or_read s.heads.items c.args.first c.index_mut.result.now low_is c.index_mut.ensures.value None ∙ at)) (
       read_on_sound s.region.items s.next.items s.heads.items s.free s.free_len c.self.invariant.0 c.args.first c.copy_from-read_on.result
-          ((c.args.from + c.min-count.result) / 32) head at low behind,
+          ((c.args.from + c.min-count.result) / 32) head at low (rw (c.deref-3.ensures.value, copied) at c.copy_from-read_on.ensures.behind),
       c.self.invariant.1,
     )
 
 pub returns-then-count-left-clause-count : goal.returns-then-count-left-clause-count
 returns-then-count-left-clause-count c =
     let s = c.self.inside in
-    let at : get_or s.heads.items c.args.first None ≡ Some c.head_at-head.result = rw c.deref.ensures.value at c.head_at-head.ensures.head in
     let len_is = len_says s.region.items s.next.items s.heads.items s.fresh c.args.self.now.slots
-    (ap (λ (v : BlocksState). v.slots) c.self.view_is) c.args.first c.head_at-head.result at in
+    (ap (λ (v : BlocksState). v.slots) c.self.view_is) c.args.first c.head_at-head.result (rw c.deref.ensures.value at c.head_at-head.ensures.head) in
     omega (arith, c.min-count.ensures, len_is)
 
 pub returns-then-count-left-clause-copied : goal.returns-then-count-left-clause-copied
@@ -88,17 +81,15 @@ returns-then-count-left-clause-unchanged c =
     let slots =
     read_on_slots s.region.items s.next.items s.heads.items s.free s.free_len c.self.invariant.0 c.args.first c.copy_from-read_on.result passed head at in
     let chains = read_on_chains s.next.items s.heads.items c.args.first c.copy_from-read_on.result passed head low at in
-    let was : c.index_mut.result.now ≡ Some head = get_or_read s.heads.items c.args.first c.index_mut.result.now low c.index_mut.ensures.value None ∙ at in
-    rw (c.go_on_at.ensures head was)
+    rw (c.go_on_at.ensures head (get_or_read s.heads.items c.args.first c.index_mut.result.now low c.index_mut.ensures.value None ∙ at))
     (same_state _ _ _ _ _ _ _ s.free_len (ap (λ ss. ss ++ replicate s.fresh None) slots) (ap (λ cs. cs ++ replicate s.fresh []) chains)
     ∙ c.self.view_is)
 
 pub returns-else-count-left-clause-count : goal.returns-else-count-left-clause-count
 returns-else-count-left-clause-count c =
     let s = c.self.inside in
-    let at : get_or s.heads.items c.args.first None ≡ Some c.head_at-head.result = rw c.deref.ensures.value at c.head_at-head.ensures.head in
     let len_is = len_says s.region.items s.next.items s.heads.items s.fresh c.args.self.now.slots
-    (ap (λ (v : BlocksState). v.slots) c.self.view_is) c.args.first c.head_at-head.result at in
+    (ap (λ (v : BlocksState). v.slots) c.self.view_is) c.args.first c.head_at-head.result (rw c.deref.ensures.value at c.head_at-head.ensures.head) in
     omega (arith, c.min-count.ensures, len_is)
 
 pub returns-else-count-left-clause-copied : goal.returns-else-count-left-clause-copied

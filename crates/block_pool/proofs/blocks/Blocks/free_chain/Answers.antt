@@ -28,10 +28,8 @@ overflow_cast-self c =
     let view : slots_of s.region.items s.next.items s.heads.items ++ replicate s.fresh None ≡ c.args.self.now.slots = ap (λ (v : BlocksState). v.slots)
     c.self.view_is in
     let len_is = len_says s.region.items s.next.items s.heads.items s.fresh c.args.self.now.slots view c.args.first head at in
-    let free_is : s.free_len + s.fresh ≡ c.args.self.now.free = ap (λ (v : BlocksState). v.free) c.self.view_is in
     let all : c.args.self.now.free + blocks_for head.len < 2 ^ 16 = rw (← len_is) c.requires.fits in
-    let fits : s.free_len + blocks_for head.len < 2 ^ 16 = omega (arith, all, free_is) in
-    (blocks_fit c.div_ceil.result s.free_len head.len c.div_ceil.ensures fits).0
+    (blocks_fit c.div_ceil.result s.free_len head.len c.div_ceil.ensures (omega (arith, all, (ap (λ (v : BlocksState). v.free) c.self.view_is)))).0
 
 pub overflow_add-self : goal.overflow_add-self
 overflow_add-self c =
@@ -41,22 +39,19 @@ overflow_add-self c =
     let view : slots_of s.region.items s.next.items s.heads.items ++ replicate s.fresh None ≡ c.args.self.now.slots = ap (λ (v : BlocksState). v.slots)
     c.self.view_is in
     let len_is = len_says s.region.items s.next.items s.heads.items s.fresh c.args.self.now.slots view c.args.first head at in
-    let free_is : s.free_len + s.fresh ≡ c.args.self.now.free = ap (λ (v : BlocksState). v.free) c.self.view_is in
     let all : c.args.self.now.free + blocks_for head.len < 2 ^ 16 = rw (← len_is) c.requires.fits in
-    let fits : s.free_len + blocks_for head.len < 2 ^ 16 = omega (arith, all, free_is) in
-    (blocks_fit c.div_ceil.result s.free_len head.len c.div_ceil.ensures fits).1
+    (blocks_fit c.div_ceil.result s.free_len head.len c.div_ceil.ensures (omega (arith, all, (ap (λ (v : BlocksState). v.free) c.self.view_is)))).1
 
 pub invariant_of-self : goal.invariant_of-self
 invariant_of-self c =
     let s = c.self.inside in
     let head = c.head_at-head.result in
     let at : get_or s.heads.items c.args.first None ≡ Some head = rw c.deref.ensures.value at c.head_at-head.ensures.head in
-    let blocks : c.div_ceil.result ≡ blocks_for head.len = blocks_is c.div_ceil.result head.len c.div_ceil.ensures in
     rw c.none.ensures (
       subst
           (λ n. AreSoundBlocks s.region.items (slice_set s.next.items head.last s.free) (slice_set s.heads.items c.args.first None) c.args.first
           (s.free_len + n))
-          (sym blocks)
+          (sym (blocks_is c.div_ceil.result head.len c.div_ceil.ensures))
           (free_chain_sound s.region.items s.next.items s.heads.items s.free s.free_len c.self.invariant.0 c.args.first head at),
       c.self.invariant.1,
     )
@@ -80,7 +75,5 @@ returns-clause-free c =
     let view : slots_of s.region.items s.next.items s.heads.items ++ replicate s.fresh None ≡ c.args.self.now.slots = ap (λ (v : BlocksState). v.slots)
     c.self.view_is in
     let len_is = len_says s.region.items s.next.items s.heads.items s.fresh c.args.self.now.slots view c.args.first head at in
-    let free_is : s.free_len + s.fresh ≡ c.args.self.now.free = ap (λ (v : BlocksState). v.free) c.self.view_is in
     let blocks : c.div_ceil.result ≡ blocks_for head.len = blocks_is c.div_ceil.result head.len c.div_ceil.ensures in
-    let more : (s.free_len + c.div_ceil.result) + s.fresh ≡ c.args.self.now.free + blocks_for head.len = omega (arith, blocks, free_is) in
-    more ∙ ap (λ n. c.args.self.now.free + blocks_for n) (sym len_is)
+    (omega (arith, blocks, (ap (λ (v : BlocksState). v.free) c.self.view_is))) ∙ ap (λ n. c.args.self.now.free + blocks_for n) (sym len_is)

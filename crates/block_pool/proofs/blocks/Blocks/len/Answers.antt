@@ -1,4 +1,4 @@
-use Rattle.block_pool.proofs.Words.{BlocksState, IsSome, None, Some, ap, get_or, subst, sym, ◌≡◌}
+use Rattle.block_pool.proofs.Words.{BlocksState, IsSome, None, ap, get_or, subst, sym}
 use Rattle.block_pool.proofs.LayoutLemmas.{has_head, len_says}
 use Rattle.block_pool.proofs.blocks.Blocks.len.Goals as goal
 
@@ -12,6 +12,5 @@ head_at-requires c =
 pub returns : goal.returns
 returns c =
     let s = c.self.inside in
-    let at : get_or s.heads.items c.args.first None ≡ Some c.head_at.result = rw c.deref.ensures.value at c.head_at.ensures.head in
     sym (len_says s.region.items s.next.items s.heads.items s.fresh c.args.self.now.slots
-    (ap (λ (v : BlocksState). v.slots) c.self.view_is) c.args.first c.head_at.result at)
+    (ap (λ (v : BlocksState). v.slots) c.self.view_is) c.args.first c.head_at.result (rw c.deref.ensures.value at c.head_at.ensures.head))

@@ -13,17 +13,14 @@ sound c =
     subst (λ n. AreSoundBlocks s.region.items s.next.items s.heads.items s.free n) (none_listed c) c.self.invariant.0
 
 some_fresh : (c : goal.After-self-3-1) → 0 < c.self.inside.fresh
-some_fresh c =
-    let free_is : c.self.inside.free_len + c.self.inside.fresh ≡ c.args.self.now.free = ap (λ (v : BlocksState). v.free) c.self.view_is in
-    omega (arith, free_is, none_listed c, c.requires.free)
+some_fresh c = omega (arith, (ap (λ (v : BlocksState). v.free) c.self.view_is), none_listed c, c.requires.free)
 
 pub invariant_of-self : goal.invariant_of-self
 invariant_of-self c =
     let s = c.self.inside in
     let room = c.self.invariant.1 in
     let some = some_fresh c in
-    let len : length s.next.items ≡ s.next.len = sym s.next.ok.0 in
-    let few : length s.next.items < 16384 = omega (arith, room.few, some, len) in
+    let few : length s.next.items < 16384 = omega (arith, room.few, some, (sym s.next.ok.0)) in
     let grown = lengthened_sound s.region.items s.next.items s.heads.items s.free (sound c) (replicate 32 0) 0 refl few in (
       rw (c.add_block.ensures.items, c.push_reserved.ensures.items, c.push_reserved-2.ensures.items, c.none.ensures, c.len-block.ensures, s.next.ok.0) grown,
       record {

@@ -32,19 +32,14 @@ overflow_add-head c =
 
 pub of-requires-clause-some : goal.of-requires-clause-some
 of-requires-clause-some c =
-    let s = c.self.inside in
-    let head = c.head_at-head.result in
-    let at : get_or s.heads.items c.args.first None ≡ Some head = rw c.deref.ensures.value at c.head_at-head.ensures.head in
-    let some : 0 < head.len = (c.self.invariant.0.chains c.args.first head at).some in
-    omega (arith, some)
+    omega (arith, ((c.self.invariant.0.chains c.args.first c.head_at-head.result (rw c.deref.ensures.value at c.head_at-head.ensures.head)).some))
 
 pub of-requires-clause-few : goal.of-requires-clause-few
 of-requires-clause-few c =
     let s = c.self.inside in
     let head = c.head_at-head.result in
     let at : get_or s.heads.items c.args.first None ≡ Some head = rw c.deref.ensures.value at c.head_at-head.ensures.head in
-    let few = blocks_few s.region.items s.next.items s.heads.items s.free s.free_len c.self.invariant.0 c.args.first head at in
-    omega (arith, few)
+    omega (arith, (blocks_few s.region.items s.next.items s.heads.items s.free s.free_len c.self.invariant.0 c.args.first head at))
 
 pub invariant_of-self : goal.invariant_of-self
 invariant_of-self c =
@@ -55,11 +50,10 @@ invariant_of-self c =
     ap (λ (v : BlocksState). v.slots) c.self.view_is ∙ c.reach.ensures.slots in
     let len_is = len_says s.region.items s.next.items s.heads.items s.fresh c.args.self.now.slots view c.args.first head at in
     let some : 0 < s.free_len = subst (λ (v : BlocksState). 0 < v.listed) (sym c.self.view_is) c.reach.ensures.listed in
-    let full : head.len % 32 ≡ 0 = subst (λ n. n % 32 ≡ 0) len_is c.requires.full in
     let first = first_free s.region.items s.next.items s.heads.items s.free s.free_len c.self.invariant.0 some in
     rw c.of.ensures (
       push_in_new_block_sound s.region.items s.next.items s.heads.items s.free s.free_len c.self.invariant.0 c.args.first head
-          (32 * s.free) c.args.byte c.index.result.now at full some
+          (32 * s.free) c.args.byte c.index.result.now at (subst (λ n. n % 32 ≡ 0) len_is c.requires.full) some
           (get_or_read s.next.items s.free c.index.result.now (omega (arith, first.0, c.self.invariant.0.links)) c.index.ensures 0),
       c.self.invariant.1,
     )

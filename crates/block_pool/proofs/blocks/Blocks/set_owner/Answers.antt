@@ -1,5 +1,4 @@
-use Rattle.block_pool.proofs.Words.{BlocksState, IsSome, None, Some, ap, arith, get_or, laid_bytes, replicate, slots_of, subst, sym, with_chain, ◌++◌, ◌<◌, ◌∙◌}
-use Rattle.block_pool.proofs.Words.{◌≡◌}
+use Rattle.block_pool.proofs.Words.{BlocksState, IsSome, None, Some, ap, arith, get_or, laid_bytes, replicate, slots_of, subst, sym, with_chain, ◌++◌, ◌∙◌, ◌≡◌}
 use Rattle.block_pool.proofs.FreshLemmas.{set-filled}
 use Rattle.block_pool.proofs.LayoutLemmas.{begun_low, blocks_few, has_head, bytes_say, set_owner_sound, set_owner_slots}
 use Rattle.block_pool.proofs.blocks.Blocks.set_owner.Goals as goal
@@ -13,19 +12,14 @@ head_at-head-requires c =
 
 pub of-requires-clause-some : goal.of-requires-clause-some
 of-requires-clause-some c =
-    let s = c.self.inside in
-    let head = c.head_at-head.result in
-    let at : get_or s.heads.items c.args.first None ≡ Some head = rw c.deref.ensures.value at c.head_at-head.ensures.head in
-    let some : 0 < head.len = (c.self.invariant.0.chains c.args.first head at).some in
-    some
+    (c.self.invariant.0.chains c.args.first c.head_at-head.result (rw c.deref.ensures.value at c.head_at-head.ensures.head)).some
 
 pub of-requires-clause-few : goal.of-requires-clause-few
 of-requires-clause-few c =
     let s = c.self.inside in
     let head = c.head_at-head.result in
     let at : get_or s.heads.items c.args.first None ≡ Some head = rw c.deref.ensures.value at c.head_at-head.ensures.head in
-    let few = blocks_few s.region.items s.next.items s.heads.items s.free s.free_len c.self.invariant.0 c.args.first head at in
-    omega (arith, few)
+    omega (arith, (blocks_few s.region.items s.next.items s.heads.items s.free s.free_len c.self.invariant.0 c.args.first head at))
 
 pub invariant_of-self : goal.invariant_of-self
 invariant_of-self c =

@@ -37,7 +37,6 @@ invariant_of-self c =
     let other : q < length s.owners.items = subst (λ (v : PoolState). q < length v.owners) (sym c.self.view_is) c.requires.quota in
     let len : c.len.result ≡ length (named_bytes pool.slots chain.first) = c.len.ensures
     ∙ ap (λ (v : PoolState). length (named_bytes v.slots chain.first)) (sym c.self.view_is) in
-    let spare : c.spare-spare.result ≡ spare_of pool q = c.spare-spare.ensures.spare ∙ ap (λ (v : PoolState). spare_of v q) (sym c.self.view_is) in
     let old = c.index-before.result.now in
     let n = c.div_ceil-need.result in
     let has : IsCountedChain pool chain.owner chain.first n old = record {
@@ -48,7 +47,7 @@ invariant_of-self c =
     } in
     let taker : HasRoomFor pool chain.owner q n old c.index-after.result.now = record {
       has = other;
-      room = omega (arith, spare, c.if-need-spare.false);
+      room = omega (arith, (c.spare-spare.ensures.spare ∙ ap (λ (v : PoolState). spare_of v q) (sym c.self.view_is)), c.if-need-spare.false);
       counts = get_or_read (set s.owners.items chain.owner (less old n)) q c.index-after.result.now
           (omega (arith, other, length-set s.owners.items chain.owner (less old n))) c.index-after.ensures (record { quota = 0; used = 0; aside = 0 });
     } in

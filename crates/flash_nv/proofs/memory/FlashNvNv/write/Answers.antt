@@ -50,10 +50,8 @@ returns-in-Err-Failed-clause-step g c = record {
       let flash = ap (λ (m : FlashMemory g.row.F.Denot). m.flash) c.self.view_is in
       let known = ap (λ (m : FlashMemory g.row.F.Denot). m.known) c.self.view_is in
       let same : cells c.self.inside.flash ≡ cells c.args.self.now.flash = ap cells flash ∙ c.in_ok-know_pages.ensures.kept tells in
-      let clean = c.self.invariant.clean tells in
-      let pages = c.self.invariant.pages tells (known ∙ c.in_ok-know_pages.ensures.known) in
       let kept = subst (λ xs. IsKeptBeside xs (cells c.write_bytes.new.flash) c.args.at (length c.args.bytes.now)) same
-      (c.in-Err-Failed.ensures.kept tells clean pages) in
+      (c.in-Err-Failed.ensures.kept tells (c.self.invariant.clean tells) (c.self.invariant.pages tells (known ∙ c.in_ok-know_pages.ensures.known))) in
       torn_front (cells c.args.self.now.flash) (cells c.write_bytes.new.flash) 65536 c.args.at (length c.args.bytes.now) c.requires kept.beside;
 }
 
@@ -66,9 +64,7 @@ returns-in-Err-Spent-clause-step g c = record {
       let flash = ap (λ (m : FlashMemory g.row.F.Denot). m.flash) c.self.view_is in
       let known = ap (λ (m : FlashMemory g.row.F.Denot). m.known) c.self.view_is in
       let same : cells c.self.inside.flash ≡ cells c.args.self.now.flash = ap cells flash ∙ c.in_ok-know_pages.ensures.kept tells in
-      let clean = c.self.invariant.clean tells in
-      let pages = c.self.invariant.pages tells (known ∙ c.in_ok-know_pages.ensures.known) in
       let kept = subst (λ xs. IsKeptBeside xs (cells c.write_bytes.new.flash) c.args.at (length c.args.bytes.now)) same
-      (c.in-Err-Spent.ensures.kept tells clean pages) in
+      (c.in-Err-Spent.ensures.kept tells (c.self.invariant.clean tells) (c.self.invariant.pages tells (known ∙ c.in_ok-know_pages.ensures.known))) in
       torn_front (cells c.args.self.now.flash) (cells c.write_bytes.new.flash) 65536 c.args.at (length c.args.bytes.now) c.requires kept.beside;
 }

@@ -18,20 +18,17 @@ next_is : {pool : PoolState} {k : End} {m : LinkEnd} {o : Option Control} {none 
     → none ≡ (length k.acts.items == 0) → none ≡ true → k.shdlc.due ≡ []
     → ((e : EndState) → ShdlcStandsFor k.shdlc e → k.shdlc.due ≡ [] → o ≡ frame_due e) → o ≡ next_frame m
 next_is {k = k} h is none due frame =
-    let acts : k.acts.items ≡ [] = nil_from_length k.acts.items (eqb-true _ 0 (sym is ∙ none)) in
-    link_frame h (sym (ap front_act acts)) (λ e stands. frame e stands due)
+    link_frame h (sym (ap front_act (nil_from_length k.acts.items (eqb-true _ 0 (sym is ∙ none))))) (λ e stands. frame e stands due)
 
 pub write_fragment-lpdu-requires-clause-ns : goal.write_fragment-lpdu-requires-clause-ns
 write_fragment-lpdu-requires-clause-ns c =
-    let m = c.requires.0 in
     let next = next_is c.requires.1 c.is_empty.ensures c.if-is_empty.true c.in-Some.ensures.due.due c.fragment_due.ensures.frame in
-    (next_numbers m (frame_shown c.in-Some.field-0) (sym next ∙ ap (option_map frame_shown) c.in-Some.is)).0
+    (next_numbers c.requires.0 (frame_shown c.in-Some.field-0) (sym next ∙ ap (option_map frame_shown) c.in-Some.is)).0
 
 pub write_fragment-lpdu-requires-clause-nr : goal.write_fragment-lpdu-requires-clause-nr
 write_fragment-lpdu-requires-clause-nr c =
-    let m = c.requires.0 in
     let next = next_is c.requires.1 c.is_empty.ensures c.if-is_empty.true c.in-Some.ensures.due.due c.fragment_due.ensures.frame in
-    (next_numbers m (frame_shown c.in-Some.field-0) (sym next ∙ ap (option_map frame_shown) c.in-Some.is)).1
+    (next_numbers c.requires.0 (frame_shown c.in-Some.field-0) (sym next ∙ ap (option_map frame_shown) c.in-Some.is)).1
 
 pub returns-in-Some-clause-stands : goal.returns-in-Some-clause-stands
 returns-in-Some-clause-stands c m h =

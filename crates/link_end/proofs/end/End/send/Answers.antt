@@ -24,9 +24,8 @@ returns-in-Ok-clause-stands c m h =
 pub returns-in-Ok-clause-answer : goal.returns-in-Ok-clause-answer
 returns-in-Ok-clause-answer c m h =
     let x : Message = (c.args.pipe, c.args.message.now) in
-    let up : m.shdlc.phase ≡ Up = sym h.halfway.link.kept.phase ∙ (sym c.state.ensures.value ∙ c.in-Up.is) in
     let fits : blocks_for (length x.1) ≤ spare m = rw (spare_is c.args.pool.now c.args.self.now m h) (c.in-Ok.ensures.room.0 refl) in
-    sym (ap by_refusal_told (refused_none m x up c.if-message.false fits))
+    sym (ap by_refusal_told (refused_none m x (sym h.halfway.link.kept.phase ∙ (sym c.state.ensures.value ∙ c.in-Up.is)) c.if-message.false fits))
 
 pub returns-in-Ok-clause-elsewhere : goal.returns-in-Ok-clause-elsewhere
 returns-in-Ok-clause-elsewhere c =
@@ -40,18 +39,15 @@ pub returns-in-Err-clause-stands : goal.returns-in-Err-clause-stands
 returns-in-Err-clause-stands c m h =
     let x : Message = (c.args.pipe, c.args.message.now) in
     let k = c.args.self.now in
-    let up : m.shdlc.phase ≡ Up = sym h.halfway.link.kept.phase ∙ (sym c.state.ensures.value ∙ c.in-Up.is) in
-    let full = refused_full m x up c.if-message.false
+    let full = refused_full m x (sym h.halfway.link.kept.phase ∙ (sym c.state.ensures.value ∙ c.in-Up.is)) c.if-message.false
     (λ fits. (let n = c.in-Err.ensures.room.1 (subst (λ n. blocks_for (length x.1) ≤ n) (spare_is c.args.pool.now k m h) fits) in cc)) in
     rw (refusal_stays m x (Full (blocks_for (length x.1)) (spare m)) full, c.in-Err.ensures.err.1, c.in-Err.ensures.err.0) h
 
 pub returns-in-Err-clause-answer : goal.returns-in-Err-clause-answer
 returns-in-Err-clause-answer c m h =
     let x : Message = (c.args.pipe, c.args.message.now) in
-    let k = c.args.self.now in
-    let up : m.shdlc.phase ≡ Up = sym h.halfway.link.kept.phase ∙ (sym c.state.ensures.value ∙ c.in-Up.is) in
-    let spares = spare_is c.args.pool.now k m h in
-    let full = refused_full m x up c.if-message.false
+    let spares = spare_is c.args.pool.now c.args.self.now m h in
+    let full = refused_full m x (sym h.halfway.link.kept.phase ∙ (sym c.state.ensures.value ∙ c.in-Up.is)) c.if-message.false
     (λ fits. (let n = c.in-Err.ensures.room.1 (subst (λ n. blocks_for (length x.1) ≤ n) spares fits) in cc)) in
     ap (λ (n : ℕ). Err (SendFull n c.in-Err.field-0.spare)) c.in-Err.ensures.no_room.0
     ∙ (ap (λ (n : ℕ). Err (SendFull (blocks_for (length x.1)) n)) (c.in-Err.ensures.no_room.1 ∙ sym spares) ∙ sym (ap by_refusal_told full))

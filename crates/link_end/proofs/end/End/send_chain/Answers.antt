@@ -41,9 +41,8 @@ returns-in-Err-clause-stands c m h =
 pub returns-in-Err-clause-answer : goal.returns-in-Err-clause-answer
 returns-in-Err-clause-answer c m h =
     let x : Message = (c.args.pipe, chain_bytes c.args.pool.now c.args.chain) in
-    let k = c.args.self.now in
     let up : m.shdlc.phase ≡ Up = sym h.halfway.link.kept.phase ∙ (sym c.state.ensures.value ∙ c.in-Up.is) in
-    let spares = spare_is c.args.pool.now k m h in
+    let spares = spare_is c.args.pool.now c.args.self.now m h in
     let full = refused_full m x up (let l = c.len-len.ensures in omega (arith, l, c.if-len-gt-MAX_MESSAGE.false))
     (λ fits. (let n = c.in-Err.ensures.room.1 (subst (λ n. blocks_for (length x.1) ≤ n) spares fits) in cc)) in
     let r = c.in-Err.ensures.no_room in

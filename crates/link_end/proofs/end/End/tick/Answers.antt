@@ -5,8 +5,7 @@ use Rattle.link_end.proofs.«end».End.tick.Goals as goal
 pub returns-clause-stands : goal.returns-clause-stands
 returns-clause-stands c m h =
     let o : is_open m.role ≡ true = sym (ap is_open h.halfway.role) ∙ (sym c.is_open.ensures ∙ c.if-not-is_open.false) in
-    let P : LinkEnd → Type 0 = λ x. EndStandsFor c.tick_link.new.self c.tick_link.new.pool x in
-    subst P (sym (tick_after m true o)) (c.tick_link.ensures.stands m h)
+    subst (λ x. EndStandsFor c.tick_link.new.self c.tick_link.new.pool x) (sym (tick_after m true o)) (c.tick_link.ensures.stands m h)
 
 pub returns-then-not-is_open-clause-stands : goal.returns-then-not-is_open-clause-stands
 returns-then-not-is_open-clause-stands c m h =

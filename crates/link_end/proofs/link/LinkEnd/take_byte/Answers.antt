@@ -5,8 +5,7 @@ use Rattle.link_end.proofs.link.LinkEnd.take_byte.Goals as goal
 
 pub returns-in-Nothing-clause-stands : goal.returns-in-Nothing-clause-stands
 returns-in-Nothing-clause-stands c m seen h hs =
-    let P : Given → Type 0 = λ u. EndStandsFor c.args.self.now.link c.args.pool.now (after_some m (unit_input u)) in
-    subst P (c.in-Nothing.ensures.answer seen hs) h
+    subst (λ u. EndStandsFor c.args.self.now.link c.args.pool.now (after_some m (unit_input u))) (c.in-Nothing.ensures.answer seen hs) h
 
 pub returns-in-Nothing-clause-answer : goal.returns-in-Nothing-clause-answer
 returns-in-Nothing-clause-answer c m seen h hs = c.nothing.ensures ∙ ap (λ (u : Given). told_some m (unit_input u)) (c.in-Nothing.ensures.answer seen hs)
@@ -30,8 +29,7 @@ returns-in-Frame-clause-answer c m seen h hs =
 
 pub returns-in-Refused-clause-stands : goal.returns-in-Refused-clause-stands
 returns-in-Refused-clause-stands c m seen h hs =
-    let P : Given → Type 0 = λ u. EndStandsFor c.args.self.now.link c.args.pool.now (after_some m (unit_input u)) in
-    subst P (c.in-Refused.ensures.answer seen hs) h
+    subst (λ u. EndStandsFor c.args.self.now.link c.args.pool.now (after_some m (unit_input u))) (c.in-Refused.ensures.answer seen hs) h
 
 pub returns-in-Refused-clause-answer : goal.returns-in-Refused-clause-answer
 returns-in-Refused-clause-answer c m seen h hs = c.take_broken.ensures m ∙ ap (λ (u : Given). told_some m (unit_input u)) (c.in-Refused.ensures.answer seen hs)

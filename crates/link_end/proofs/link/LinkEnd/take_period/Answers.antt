@@ -1,4 +1,4 @@
-use Rattle.link_end.proofs.Words.{Bool, EndStandsFor, Fed, Option, Some, after_some, ap, fed_input, subst, sym, told_some, ◌∙◌, ◌∷◌, ◌≡◌}
+use Rattle.link_end.proofs.Words.{Bool, EndStandsFor, Fed, Option, Some, after_some, ap, fed_input, subst, sym, told_some, ◌∙◌, ◌∷◌}
 use Rattle.swp_frame.specs.Signal.{symbol_of}
 use Rattle.swp_frame.specs.Verdicts.{verdict}
 use Rattle.swp_frame.specs.Kept.{DeframerStandsFor}
@@ -8,27 +8,24 @@ use Rattle.link_end.proofs.link.LinkEnd.take_period.Goals as goal
 
 pub returns-in-Some-Bits-clause-stands : goal.returns-in-Some-Bits-clause-stands
 returns-in-Some-Bits-clause-stands c m seen h hs =
-    let bit : c.heard_bit.result ≡ heard_bit m.role c.in-Some-Bits.s1 c.in-Some-Bits.s2 = c.heard_bit.ensures c.args.pool.now m h in
-    let fed = c.feed-fed.ensures.answer seen hs ∙ ap (λ (b : Bool). verdict (symbol_of b ∷ seen)) bit in
+    let fed = c.feed-fed.ensures.answer seen hs ∙ ap (λ (b : Bool). verdict (symbol_of b ∷ seen)) (c.heard_bit.ensures c.args.pool.now m h) in
     let P : Fed → Type 0 = λ f. EndStandsFor c.take_fed.new.self.link c.take_fed.new.pool (after_some m (fed_input f)) in
     let Q : Option Period → Type 0 = λ p. EndStandsFor c.take_fed.new.self.link c.take_fed.new.pool (after_period m seen p) in
     subst Q (ap (λ (p : Period). Some p) (sym c.in-Some-Bits.field-0-is) ∙ c.in-Some-Bits.ensures.value) (subst P fed (c.take_fed.ensures.stands m h))
 
 pub returns-in-Some-Bits-clause-answer : goal.returns-in-Some-Bits-clause-answer
 returns-in-Some-Bits-clause-answer c m seen h hs =
-    let bit : c.heard_bit.result ≡ heard_bit m.role c.in-Some-Bits.s1 c.in-Some-Bits.s2 = c.heard_bit.ensures c.args.pool.now m h in
-    let fed = c.feed-fed.ensures.answer seen hs ∙ ap (λ (b : Bool). verdict (symbol_of b ∷ seen)) bit in
+    let fed = c.feed-fed.ensures.answer seen hs ∙ ap (λ (b : Bool). verdict (symbol_of b ∷ seen)) (c.heard_bit.ensures c.args.pool.now m h) in
     c.take_fed.ensures.answer m h ∙ (ap (λ (f : Fed). told_some m (fed_input f)) fed
     ∙ ap (told_period m seen) (ap (λ (p : Period). Some p) (sym c.in-Some-Bits.field-0-is) ∙ c.in-Some-Bits.ensures.value))
 
 pub returns-in-Some-Bits-clause-seen : goal.returns-in-Some-Bits-clause-seen
 returns-in-Some-Bits-clause-seen c m seen h hs =
-    let bit : c.heard_bit.result ≡ heard_bit m.role c.in-Some-Bits.s1 c.in-Some-Bits.s2 = c.heard_bit.ensures c.args.pool.now m h in
     let P : Bool → Type 0 = λ b. DeframerStandsFor c.feed-fed.new.self (symbol_of b ∷ seen) in
     let Q : Option Period → Type 0 = λ p. DeframerStandsFor c.take_fed.new.self.deframer (heard_after m.role seen p) in
     subst Q (ap (λ (p : Period). Some p) (sym c.in-Some-Bits.field-0-is) ∙ c.in-Some-Bits.ensures.value) (subst
     (λ d. DeframerStandsFor d (symbol_of (heard_bit m.role c.in-Some-Bits.s1 c.in-Some-Bits.s2) ∷ seen)) (sym c.take_fed.ensures.inputs.0)
-    (subst P bit (c.feed-fed.ensures.stands seen hs)))
+    (subst P (c.heard_bit.ensures c.args.pool.now m h) (c.feed-fed.ensures.stands seen hs)))
 
 pub returns-in-Some-Deactivated-clause-stands : goal.returns-in-Some-Deactivated-clause-stands
 returns-in-Some-Deactivated-clause-stands c m seen h hs =

@@ -6,13 +6,11 @@ pub returns-clause-runs : goal.returns-clause-runs
 returns-clause-runs g c core ports runs =
     let F : Node g.row.N.Denot → Type 0 = λ n. RunsAs n core ports → RunsAs c.next_out.new.self core (with_port n.number has_sent ports) in
     let P : ℕ → Type 0 = λ h. RunsAs c.next_out.new.self core (with_port h has_sent ports) in
-    let whole : F c.self.inside.node = λ r. subst P c.number-host.ensures (c.next_out.ensures.runs core ports r) in
-    subst F c.self.view_is whole runs
+    subst F c.self.view_is (λ r. subst P c.number-host.ensures (c.next_out.ensures.runs core ports r)) runs
 
 pub returns-clause-read : goal.returns-clause-read
 returns-clause-read g c core ports p runs is =
     let F : Node g.row.N.Denot → Type 0 = λ n. RunsAs n core ports → port_at ports n.number ≡ Some p
     → IfSome (next_frame p.side) (λ x. control_of (lpdu_of x) ≡ Ok x) in
     let P : ℕ → Type 0 = λ h. port_at ports h ≡ Some p in
-    let whole : F c.self.inside.node = λ r there. c.next_out.ensures.read core ports p r (subst P (sym c.number-host.ensures) there) in
-    subst F c.self.view_is whole runs is
+    subst F c.self.view_is (λ r there. c.next_out.ensures.read core ports p r (subst P (sym c.number-host.ensures) there)) runs is

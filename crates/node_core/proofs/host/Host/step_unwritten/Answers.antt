@@ -60,5 +60,4 @@ returns-clause-live g c =
 
 pub returns-in-Err-clause-live : goal.returns-in-Err-clause-live
 returns-in-Err-clause-live g c =
-    let m = seen_may c.self.view_is c.requires.may in
-    ap (λ (s : Stored g.row.N.Denot). s.journal.live) c.in-Err.ensures.quiet.1 ∙ m.runs.live
+    ap (λ (s : Stored g.row.N.Denot). s.journal.live) c.in-Err.ensures.quiet.1 ∙ (seen_may c.self.view_is c.requires.may).runs.live

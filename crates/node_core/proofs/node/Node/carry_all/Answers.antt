@@ -12,13 +12,11 @@ carry_out-requires-clause-doable g c =
     let i = c.loop-deed.deed-index in
     let d : Deed = c.deed-item.result in
     let m : Message = (c.args.pipe, c.args.message.now) in
-    let a : Handling = handling c.args.self.now m in
     let split : drop i deeds ≡ d ∷ drop (i + 1) deeds = split_at deeds i d c.loop-deed-test.true
     ∙ ap (λ (x : Deed). x ∷ drop (i + 1) deeds) (sym c.deed-item.is) in
     let r = c.loop-deed.invariant.doable in
-    let D : List Deed → Type 0 = λ l. AreDoableInTurn c.args.host a l r.1 in
-    let doable : D (d ∷ drop (i + 1) deeds) = subst D split r.3 in
-    (r.0, r.1, r.2, next_doable c.args.self.now m d r.2 c.loop-deed.invariant.live c.loop-deed.invariant.number doable.0)
+    let D : List Deed → Type 0 = λ l. AreDoableInTurn c.args.host (handling c.args.self.now m) l r.1 in
+    (r.0, r.1, r.2, next_doable c.args.self.now m d r.2 c.loop-deed.invariant.live c.loop-deed.invariant.number (subst D split r.3).0)
 
 pub returns-then-not-is_done-clause-carried : goal.returns-then-not-is_done-clause-carried
 returns-then-not-is_done-clause-carried g c start w u =
@@ -26,19 +24,17 @@ returns-then-not-is_done-clause-carried g c start w u =
     let i = c.loop-deed.deed-index in
     let d : Deed = c.deed-item.result in
     let m : Message = (c.args.pipe, c.args.message.now) in
-    let a : Handling = handling c.args.self.now m in
     let P : List Deed → Type 0 = λ l. GoesOn g.N.Nv.writes c.args.self.now c.loop-deed.self (g.W.Watch.noted c.loop-deed.watch)
     (g.W.Watch.is_short c.loop-deed.watch) start (map (deed_of c.args.self.now m) l) (map (deed_of c.args.self.now m) deeds) c.args.host w in
     let split : drop i deeds ≡ d ∷ drop (i + 1) deeds = split_at deeds i d c.loop-deed-test.true
     ∙ ap (λ (x : Deed). x ∷ drop (i + 1) deeds) (sym c.deed-item.is) in
     let k : P (d ∷ drop (i + 1) deeds) = subst P split (c.loop-deed.invariant.goes start w u) in
     let r = c.loop-deed.invariant.doable in
-    let D : List Deed → Type 0 = λ l. AreDoableInTurn c.args.host a l r.1 in
-    let doable : D (d ∷ drop (i + 1) deeds) = subst D split r.3 in
+    let D : List Deed → Type 0 = λ l. AreDoableInTurn c.args.host (handling c.args.self.now m) l r.1 in
     let o = c.carry_out in
     let B : DeedOf → Type 0 = λ x. Brings g.N.Nv.writes c.loop-deed.self.store.journal.nv o.new.self.store.journal.nv
     (IsInStep o.new.self (g.W.Watch.noted o.new.watch) (g.W.Watch.is_short o.new.watch) start) (done c.args.host x) k.now in
-    let shown = next_shown c.args.self.now m d r.2 c.loop-deed.invariant.live c.loop-deed.invariant.number doable.0 in
+    let shown = next_shown c.args.self.now m d r.2 c.loop-deed.invariant.live c.loop-deed.invariant.number (subst D split r.3).0 in
     let b : B (deed_of c.args.self.now m d) = subst B shown (o.ensures.carried start k.now k.under) in
     goes_no_further k b (b.stands.power ∙ ap not (ran_is o.ensures.ran c.is_done.ensures ∙ c.if-not-is_done.true))
 

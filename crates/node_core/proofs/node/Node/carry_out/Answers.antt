@@ -1,6 +1,6 @@
-use Rattle.node_core.proofs.Words.{[], not, sym, ◌++◌, ◌∙◌, ◌≡◌}
-use Rattle.node_core.proofs.Words.{Asks, Drops, Ends, Entry, Give, Hears, Host, IsAnswered, IsInStep, List, Node, None, Orders, Release, Releases, SaysOk, Sends}
-use Rattle.node_core.proofs.Words.{SetsErrors, Tells, ap, done, end_of, end_shown, ends_of, goes_on_with, handling, init_running, refl, subst, turn_at, ℕ, ◌∷◌}
+use Rattle.node_core.proofs.Words.{[], not, sym, ◌++◌, ◌∙◌, ◌≡◌, Asks, Drops, Ends, Entry, Give, Hears, Host, IsAnswered, IsInStep, List, Node, None, Orders}
+use Rattle.node_core.proofs.Words.{Release, Releases, SaysOk, Sends, SetsErrors, Tells, ap, done, end_of, end_shown, ends_of, goes_on_with, handling}
+use Rattle.node_core.proofs.Words.{init_running, refl, subst, turn_at, ℕ, ◌∷◌}
 use Rattle.node_machine.specs.Parts.About.{Removed}
 use Rattle.node_machine.specs.Carrying.{notified}
 use Rattle.node_deeds.specs.Shown.{creation_of_row}
@@ -29,10 +29,9 @@ returns-in-Sends-clause-carried g c start w u =
 
 pub returns-in-SaysOk-clause-carried : goal.returns-in-SaysOk-clause-carried
 returns-in-SaysOk-clause-carried g c start w u =
-    let k = u.core (u.power ∙ ap not c.requires.live) in
     let is : entry.AnyOk c.args.self.now.number c.kept-count.result ≡ entry.AnyOk w.core.node (count_of w.core.journal) =
     ap (λ (n : ℕ). entry.AnyOk n c.kept-count.result) (sym u.node)
-    ∙ (ap (λ (n : ℕ). entry.AnyOk w.core.node n) (c.kept-count.ensures ∙ ap count_of (sym k.journal))) in
+    ∙ (ap (λ (n : ℕ). entry.AnyOk w.core.node n) (c.kept-count.ensures ∙ ap count_of (sym (u.core (u.power ∙ ap not c.requires.live)).journal))) in
     of_deed c.args.host (handling c.args.self.now (c.args.pipe, c.args.message.now)) c.args.deed.now kept.SaysOk c.in-SaysOk.is
     (plainly g.N.Nv.writes (done c.args.host (SaysOk)) u c.requires.live refl
     (plain_noted (entry.AnyOk w.core.node (count_of w.core.journal)) refl u c.note.ensures.stays

@@ -1,7 +1,6 @@
 use Rattle.node_core.proofs.Words.{AreNotes, At, AtEnd, IsInStep, LinkInput, LinkReport, None, Option, Port, Some, TimePasses, Work, [], after_input, all_come}
 use Rattle.node_core.proofs.Words.{ap, entries_for, got_at, has_come, if◌then◌else◌, input_of_end, map, option_map, own_side, port_at, report, report_told}
 use Rattle.node_core.proofs.Words.{subst, sym, sync_told, told, unnumbered, whole_acked, with_port, ℕ, ◌∙◌, ◌≡◌}
-use Rattle.node_core.specs.declared.inputs.Came.{Came}
 use Rattle.node_core.specs.Running.{becomes_active_by}
 use Rattle.node_core.specs.Inputs.{IsWhatCame}
 use Rattle.node_core.proofs.Doing.{host_at}
@@ -84,9 +83,8 @@ returns-in_default-told-clause-came g c start w u =
     let i : LinkInput = input_of_end c.in-At.what in
     let told = sym (no_some c.comes.new.told c.in_default-told.not-Some) ∙ c.in_default.ensures.told w.ports u.ends in
     let none = no_port (λ (p : Port). report_told (report p.side i)) (port_at w.ports c.in-At.host) told in
-    let P : Came → Type 0 = λ came. IsWhatCame (AtEnd c.in-At.host i) w.ports came in
     rw c.in-At.is (
-      subst P (sym c.nothing.ensures) (record {
+      subst (λ came. IsWhatCame (AtEnd c.in-At.host i) w.ports came) (sym c.nothing.ensures) (record {
         sync = ap (sync_told c.in-At.host) told;
         active = sym (ap (λ (o : Option Port). becomes_active_by i o) none);
       }),
@@ -116,12 +114,11 @@ returns-in-Some-clause-carried g c start w b =
 
 pub returns-in-Some-clause-came : goal.returns-in-Some-clause-came
 returns-in-Some-clause-came g c start w u =
-    let i : LinkInput = input_of_end c.in-At.what in
     let told = sym c.in-Some.is ∙ c.in_default.ensures.told w.ports u.ends in
     rw c.in-At.is (
       record {
         sync = c.sync_told.ensures ∙ ap (sync_told c.in-At.host) told;
-        active = told_active c.in-Some.report i (port_at w.ports c.in-At.host) told;
+        active = told_active c.in-Some.report (input_of_end c.in-At.what) (port_at w.ports c.in-At.host) told;
       },
       c.in_default.ensures.refusal w.ports u.ends,
     )

@@ -6,14 +6,13 @@ use Rattle.node_core.proofs.node.Node.commit.Goals as goal
 
 pub returns-in-Ok-clause-carried : goal.returns-in-Ok-clause-carried
 returns-in-Ok-clause-carried g c start w u =
-    let e = c.commit.ensures in
     let note : entry.Command c.args.self.now.number c.copied.result ≡ entry.Command w.core.node c.args.command.now =
     ap (λ (n : ℕ). entry.Command n c.copied.result) (sym u.node) ∙ ap (λ (x : Command). entry.Command w.core.node x) c.copied.ensures in
     let old = c.args.self.now.store in
     let P : Bool → Type 0 = λ b. AreMade g.N.Nv.writes (commit_writes old.journal.state old.tables (body_of c.args.command.now)) old.journal.nv b
     c.commit.new.self.journal.nv in
     kept_brings c.args.command.now (record {
-      made = made_ok P c.commit.result c.in-Ok.is e.made;
+      made = made_ok P c.commit.result c.in-Ok.is c.commit.ensures.made;
       state = c.in-Ok.ensures.state;
       tables = c.in-Ok.ensures.tables;
       before = c.requires.live;
@@ -25,8 +24,7 @@ returns-in-Ok-clause-carried g c start w u =
 pub returns-clause-carried : goal.returns-clause-carried
 returns-clause-carried g c start w u =
     let e = c.commit.ensures in
-    let node = c.args.self.now.number in
-    let note : entry.Command node c.copied.result ≡ entry.Command w.core.node c.args.command.now =
+    let note : entry.Command c.args.self.now.number c.copied.result ≡ entry.Command w.core.node c.args.command.now =
     ap (λ (n : ℕ). entry.Command n c.copied.result) (sym u.node) ∙ ap (λ (x : Command). entry.Command w.core.node x) c.copied.ensures in
     let one = more_noted start w.entries (entry.Command w.core.node c.args.command.now) c.note.ensures.stays
     (λ kept. c.note.ensures.noted kept ∙ ap (λ (x : Entry). g.W.Watch.noted c.args.watch.now ++ x ∷ []) note) u.noted_are in

@@ -1,5 +1,5 @@
 use Rattle.node_core.proofs.Words.{EndsStandFor, IsInStep, List, Port, add-one, all_changed, arith, first_changed, next_changed, none_changed, refl, subst, sym}
-use Rattle.node_core.proofs.Words.{without_notice, ℕ, ◌+◌}
+use Rattle.node_core.proofs.Words.{without_notice, ◌+◌}
 use Rattle.node_core.proofs.Ticking.{many_ports}
 use Rattle.node_core.proofs.Lateness.{ends_changed}
 use Rattle.node_core.proofs.node.Node.drop_notices.Goals as goal
@@ -20,9 +20,8 @@ loop-i-preserved g c =
     let t = c.drop_notice in
     let next : (ports : List Port) → EndsStandFor c.args.self.now.ends ports → EndsStandFor t.new.self (first_changed (i + 1) without_notice ports) =
     λ ports e.
-    let P : ℕ → Type 0 = λ m. EndsStandFor t.new.self (first_changed m without_notice ports) in
     let Q : List Port → Type 0 = λ l. EndsStandFor t.new.self l in
-    subst P (sym (add-one i))
+    subst (λ m. EndsStandFor t.new.self (first_changed m without_notice ports)) (sym (add-one i))
     (subst Q (next_changed i without_notice ports) (t.ensures (first_changed i without_notice ports) (c.loop-i.invariant.ends ports e))) in
     record {
       store = c.loop-i.invariant.store;
@@ -35,6 +34,5 @@ loop-i-preserved g c =
 pub returns-clause-carried : goal.returns-clause-carried
 returns-clause-carried g c noted short start w u =
     let many = many_ports c.args.self.now.ends w.ports u.ends in
-    let past = c.loop-i-test.false in
     let P : List Port → Type 0 = λ l. IsInStep c.loop-i.self noted short start (record w { ports = l }) in
-    subst P (all_changed c.loop-i.i without_notice w.ports (omega (arith, many, past))) (c.loop-i.invariant.goes noted short start w u)
+    subst P (all_changed c.loop-i.i without_notice w.ports (omega (arith, many, c.loop-i-test.false))) (c.loop-i.invariant.goes noted short start w u)

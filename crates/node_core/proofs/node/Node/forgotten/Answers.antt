@@ -15,7 +15,6 @@ loop-i-preserved g c =
     let t : Option ℕ → List Deed = λ o. option_map_or (λ asker. Releases asker ∷ []) o [] in
     elim c.match-forgotten_at.branch [
       | in-Some w ↦
-          let len = w.push.ensures.len in
           let same = ap (λ v. length v.items) w.askers-is in
           record {
             items = λ ports e.
@@ -23,7 +22,7 @@ loop-i-preserved g c =
                 ∙ (ap (map Releases) w.push.ensures.items ∙ (map-append Releases c.loop-i.askers.items (w.in-Some.asker ∷ [])
                 ∙ one_gathered (freed_at ports) ports i (map Releases c.loop-i.askers.items) (Releases w.in-Some.asker ∷ []) (so_far.items ports e)
                 (sym (ap t w.in-Some.is) ∙ c.forgotten_at.ensures ports e)));
-            few = omega (arith, len, same, few);
+            few = omega (arith, w.push.ensures.len, same, few);
           }
       | in_default w ↦
           let same = ap (λ v. length v.items) w.askers-is in
@@ -39,6 +38,4 @@ loop-i-preserved g c =
 
 pub returns : goal.returns
 returns g c ports e =
-    let many = many_ports c.args.self.now.ends ports e in
-    let past = c.loop-i-test.false in
-    c.loop-i.invariant.items ports e ∙ freed_all c.loop-i.i ports (omega (arith, many, past))
+    c.loop-i.invariant.items ports e ∙ freed_all c.loop-i.i ports (omega (arith, (many_ports c.args.self.now.ends ports e), c.loop-i-test.false))

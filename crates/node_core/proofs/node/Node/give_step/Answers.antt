@@ -56,9 +56,8 @@ returns-then-not-is_order-clause-given g c start w u =
     let h = c.args.self.now.number in
     let t = c.send in
     let order = c.is_order-is_order in
-    let after : Work = turn_at h (Give (c.args.pipe, c.args.message.now)) w in
     let P : Work → Type 0 = λ v. IsInStep t.new.self (g.W.Watch.noted t.new.watch) (g.W.Watch.is_short t.new.watch) start v in
-    let Q : Bool → Type 0 = λ b. P (ordered_if b c.args.message.now after) in
+    let Q : Bool → Type 0 = λ b. P (ordered_if b c.args.message.now (turn_at h (Give (c.args.pipe, c.args.message.now)) w)) in
     subst P (given_so h c.args.pipe c.args.message.now w order.result order.ensures) (subst Q (sym c.if-not-is_order.true) (t.ensures.carried start w u))
 
 pub returns-clause-refusal : goal.returns-clause-refusal
@@ -76,9 +75,8 @@ returns-clause-given g c start w u =
     let h = c.args.self.now.number in
     let t = c.send in
     let order = c.is_order-is_order in
-    let after : Work = turn_at h (Give (c.args.pipe, c.args.message.now)) w in
     let P : Work → Type 0 = λ v. IsInStep (record t.new.self { tasks = record t.new.self.tasks { command = Some c.ordered_by.result } })
     (g.W.Watch.noted t.new.watch) (g.W.Watch.is_short t.new.watch) start v in
-    let Q : Bool → Type 0 = λ b. P (ordered_if b c.args.message.now after) in
+    let Q : Bool → Type 0 = λ b. P (ordered_if b c.args.message.now (turn_at h (Give (c.args.pipe, c.args.message.now)) w)) in
     subst P (given_so h c.args.pipe c.args.message.now w order.result order.ensures) (subst Q (sym c.if-not-is_order.false)
     (command_changed _ (Some c.args.message.now) (t.ensures.carried start w u) (ap (λ (o : Ordered). Some o) (sym c.ordered_by.ensures)) refl))

@@ -38,6 +38,5 @@ loop-i-preserved g c =
 pub returns-clause-carried : goal.returns-clause-carried
 returns-clause-carried g c noted short start w u =
     let many = c.count-i-end.ensures w.ports u.ends in
-    let past = c.loop-i-test.false in
     let P : List Port → Type 0 = λ l. IsInStep c.loop-i.self noted short start (record w { ports = l }) in
-    subst P (all_changed c.loop-i.i with_older w.ports (omega (arith, many, past))) (c.loop-i.invariant.goes noted short start w u)
+    subst P (all_changed c.loop-i.i with_older w.ports (omega (arith, many, c.loop-i-test.false))) (c.loop-i.invariant.goes noted short start w u)

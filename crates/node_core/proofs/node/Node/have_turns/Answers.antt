@@ -1,6 +1,6 @@
-use Rattle.node_core.proofs.Words.{AreSendable, Bool, Brings, Handling, IsDecided, IsInStep, List, Message, Node, Option, Work, [], ap, arith, deeds_shown, got_at}
-use Rattle.node_core.proofs.Words.{handling, have_turns, lack, lack_shown, lets_go, message_read, needs, not, option_map, refl, subst, sym, take, ℕ, ◌∙◌, ◌∷◌}
-use Rattle.node_core.proofs.Words.{◌≡◌}
+use Rattle.node_core.proofs.Words.{AreSendable, Bool, Brings, Handling, IsDecided, IsInStep, List, Message, Node, Option, Work, [], ap, arith, deeds_shown}
+use Rattle.node_core.proofs.Words.{got_at, handling, have_turns, lack, lack_shown, lets_go, message_read, needs, not, option_map, refl, subst, sym, take, ℕ}
+use Rattle.node_core.proofs.Words.{◌∙◌, ◌∷◌, ◌≡◌}
 use Rattle.node_deeds.specs.declared.deeds.Deed.{Deed}
 use Rattle.node_core.proofs.Steps.{plainly}
 use Rattle.node_core.proofs.HavingTurns.{no_some, let_cut, let_writes, let_anyway, decided}
@@ -30,8 +30,7 @@ deeds_for-requires-clause-sendable g c =
     let read : got_at w.ports c.args.host ≡ message_read c.match-lies.waits c.match-lies.buffer =
     elim c.match-lies.branch [ in-Some b ↦ grind (arith, c.requires.lies) | in_default b ↦ grind (arith, b.read-waits.ensures.waits w.ports u.ends) ] in
     let got = read ∙ ap (λ (o : Option (ℕ × ℕ)). message_read o c.match-lies.buffer) c.in-Some-waits.is in
-    let sendable = subst AreSendable got (got_at_sendable c.args.self.now.ends.pool c.args.self.now.ends.seats w.ports c.args.host u.ends.each) in
-    sendable.0
+    (subst AreSendable got (got_at_sendable c.args.self.now.ends.pool c.args.self.now.ends.seats w.ports c.args.host u.ends.each)).0
 
 pub deeds_for-requires-clause-own : goal.deeds_for-requires-clause-own
 deeds_for-requires-clause-own g c =
@@ -66,14 +65,12 @@ turn_decided-requires-clause-decided g c =
     let k = u.core (u.power ∙ ap not c.requires.live) in
     let L : List Deed → Type 0 = λ ds. option_map lack_shown short ≡ lack w.ports (needs h (deeds_shown a ds)) in
     let spares = c.spares-spares.ensures w.ports u.ends (hosts_low w.ports r.3.0.hosts) in
-    let lacks : L d.new.deeds.items = subst L c.as_slice.ensures.value (c.lack-short.ensures a w.ports refl spares) in
     let is = decided h a d.new.deeds.items short w (sym k.init) r.3.0.task r.3.1 sendable.0 (d.ensures.deeds _ _ start w u r.3.0)
-    d.ensures.doable lacks in
+    d.ensures.doable (subst L c.as_slice.ensures.value (c.lack-short.ensures a w.ports refl spares)) in
     let H : Bool → Type 0 = λ b. IsDecided h a d.new.deeds.items short b w in
     let D : List Deed → Type 0 = λ ds. IsDecided h a ds short c.is_held-held.result w in
     let A : Node g.row.N.Denot → Type 0 = λ n. IsDecided h (handling n m) c.as_slice-2.result.now short c.is_held-held.result w in
-    let U : Node g.row.N.Denot → Type 0 = λ n. IsInStep n (g.W.Watch.noted c.args.watch.now) (g.W.Watch.is_short c.args.watch.now) start w in
-    let v = subst U (sym d.ensures.same) u in
+    let v = subst (λ n. IsInStep n (g.W.Watch.noted c.args.watch.now) (g.W.Watch.is_short c.args.watch.now) start w) (sym d.ensures.same) u in
     let decided = subst A (sym d.ensures.same) (subst D (sym c.as_slice-2.ensures.value) (subst H (sym held) is)) in
     (start, w, v, (decided, got))
 
@@ -93,14 +90,12 @@ returns-clause-carried g c start w u order few =
     let k = u.core (u.power ∙ ap not c.requires.live) in
     let L : List Deed → Type 0 = λ ds. option_map lack_shown short ≡ lack w.ports (needs h (deeds_shown a ds)) in
     let spares = c.spares-spares.ensures w.ports u.ends (hosts_low w.ports order.hosts) in
-    let lacks : L d.new.deeds.items = subst L c.as_slice.ensures.value (c.lack-short.ensures a w.ports refl spares) in
     let is = decided h a d.new.deeds.items short w (sym k.init) order.task few sendable.0 (d.ensures.deeds _ _ start w u order)
-    d.ensures.doable lacks in
+    d.ensures.doable (subst L c.as_slice.ensures.value (c.lack-short.ensures a w.ports refl spares)) in
     let H : Bool → Type 0 = λ b. IsDecided h a d.new.deeds.items short b w in
     let D : List Deed → Type 0 = λ ds. IsDecided h a ds short c.is_held-held.result w in
     let A : Node g.row.N.Denot → Type 0 = λ n. IsDecided h (handling n m) c.as_slice-2.result.now short c.is_held-held.result w in
-    let U : Node g.row.N.Denot → Type 0 = λ n. IsInStep n (g.W.Watch.noted c.args.watch.now) (g.W.Watch.is_short c.args.watch.now) start w in
-    let v = subst U (sym d.ensures.same) u in
+    let v = subst (λ n. IsInStep n (g.W.Watch.noted c.args.watch.now) (g.W.Watch.is_short c.args.watch.now) start w) (sym d.ensures.same) u in
     let decided = subst A (sym d.ensures.same) (subst D (sym c.as_slice-2.ensures.value) (subst H (sym held) is)) in
     let t = c.turn_decided in
     let P : List Message → Type 0 = λ ms. Brings g.N.Nv.writes c.args.self.now.store.journal.nv t.new.self.store.journal.nv

@@ -15,7 +15,6 @@ loop-i-preserved g c =
     let t : Response → Option ℕ → List Deed = λ r o. option_map_or (answers_owed r) o [] in
     elim c.match-owed_at.branch [
       | in-Some w ↦
-          let len = w.push.ensures.len in
           let same = ap (λ v. length v.items) w.askers-is in
           record {
             items = λ ports r e.
@@ -24,7 +23,7 @@ loop-i-preserved g c =
                 ∙ one_gathered (owed_at c.args.late r) ports i (flat_map (answers_owed r) c.loop-i.askers.items) (answers_owed r w.in-Some.asker)
                 (so_far.items ports r e)
                 (sym (ap (t r) w.in-Some.is) ∙ c.owed_at.ensures ports r e)));
-            few = omega (arith, len, same, few);
+            few = omega (arith, w.push.ensures.len, same, few);
           }
       | in_default w ↦
           let same = ap (λ v. length v.items) w.askers-is in
@@ -40,6 +39,5 @@ loop-i-preserved g c =
 
 pub returns : goal.returns
 returns g c ports r e =
-    let many = many_ports c.args.self.now.ends ports e in
     let past = c.loop-i-test.false in
-    c.loop-i.invariant.items ports r e ∙ owed_all c.args.late r c.loop-i.i ports (omega (arith, many, past))
+    c.loop-i.invariant.items ports r e ∙ owed_all c.args.late r c.loop-i.i ports (omega (arith, (many_ports c.args.self.now.ends ports e), past))

@@ -18,29 +18,25 @@ loop-i-init g c = record {
 pub returns-in_default-clause-carried : goal.returns-in_default-clause-carried
 returns-in_default-clause-carried g c start w u may =
     let k = c.loop-i.invariant.goes start w u may.0 may.1 in
-    let none = sym (no_some c.host.result c.in_default.not-Some) ∙ c.host.ensures k.now.ports k.under.ends in
-    pass_ends k (pass_over k none) c.loop-i.invariant.live
+    pass_ends k (pass_over k (sym (no_some c.host.result c.in_default.not-Some) ∙ c.host.ensures k.now.ports k.under.ends)) c.loop-i.invariant.live
 
 pub have_turns-requires-clause-some : goal.have_turns-requires-clause-some
 have_turns-requires-clause-some g c =
     let r = c.requires.may in
     let k = c.loop-i.invariant.goes r.0 r.1 r.2 r.3.0 r.3.1 in
-    let is = sym c.in-Some.is ∙ c.host.ensures k.now.ports k.under.ends in
-    (is_host_at c.loop-i.i k.now.ports c.in-Some.host k.order.hosts is).0
+    (is_host_at c.loop-i.i k.now.ports c.in-Some.host k.order.hosts (sym c.in-Some.is ∙ c.host.ensures k.now.ports k.under.ends)).0
 
 pub have_turns-requires-clause-host : goal.have_turns-requires-clause-host
 have_turns-requires-clause-host g c =
     let r = c.requires.may in
     let k = c.loop-i.invariant.goes r.0 r.1 r.2 r.3.0 r.3.1 in
-    let is = sym c.in-Some.is ∙ c.host.ensures k.now.ports k.under.ends in
-    (is_host_at c.loop-i.i k.now.ports c.in-Some.host k.order.hosts is).1
+    (is_host_at c.loop-i.i k.now.ports c.in-Some.host k.order.hosts (sym c.in-Some.is ∙ c.host.ensures k.now.ports k.under.ends)).1
 
 pub have_turns-requires-clause-may : goal.have_turns-requires-clause-may
 have_turns-requires-clause-may g c =
     let r = c.requires.may in
     let k = c.loop-i.invariant.goes r.0 r.1 r.2 r.3.0 r.3.1 in
-    let is = sym c.in-Some.is ∙ c.host.ensures k.now.ports k.under.ends in
-    (r.0, k.now, k.under, (k.order, next_few k c.in-Some.host is))
+    (r.0, k.now, k.under, (k.order, next_few k c.in-Some.host (sym c.in-Some.is ∙ c.host.ensures k.now.ports k.under.ends)))
 
 pub returns-then-not-is_done-clause-carried : goal.returns-then-not-is_done-clause-carried
 returns-then-not-is_done-clause-carried g c start w u may =

@@ -9,8 +9,7 @@ pub pass_on-requires : goal.pass_on-requires
 pass_on-requires g c =
     let r = c.requires.waits in
     let h = c.args.host in
-    let m : Message = (c.args.pipe, c.args.message.now) in
-    (with_port h not_held r.1.ports, m, c.set_holds.ensures r.1.ports r.2.ends, got_still h r.1.ports ∙ r.3)
+    (with_port h not_held r.1.ports, (c.args.pipe, c.args.message.now), c.set_holds.ensures r.1.ports r.2.ends, got_still h r.1.ports ∙ r.3)
 
 pub returns-then-pass_on-clause-carried : goal.returns-then-pass_on-clause-carried
 returns-then-pass_on-clause-carried g c start w u got =
@@ -44,7 +43,6 @@ returns-else-pass_on-clause-carried g c start w u got =
     let come = got_still h w.ports ∙ got in
     let swap = either_first h w.ports in
     let P : List Port → Type 0 = λ l. EndsStandFor c.pass_on.new.self (with_port to (after_turn (Give m)) l) in
-    let stands = subst P swap (c.pass_on.ensures.stands (with_port h not_held w.ports) m e come) in
     let refuses = sym c.if-pass_on.false ∙ (c.pass_on.ensures.answer (with_port h not_held w.ports) m e come
     ∙ ap (λ (l : List Port). takes_at m (port_at l to)) swap) in
-    relayed_nowhere m h to noted stands refuses
+    relayed_nowhere m h to noted (subst P swap (c.pass_on.ensures.stands (with_port h not_held w.ports) m e come)) refuses

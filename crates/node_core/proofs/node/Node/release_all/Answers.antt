@@ -1,4 +1,4 @@
-use Rattle.node_core.proofs.Words.{IsInStep, List, Release, Releases, Work, [], add-one, all_done, ap, drop, drop-cons, drop_all, get_or, map, refl, subst, sym}
+use Rattle.node_core.proofs.Words.{IsInStep, List, Release, Releases, Work, add-one, all_done, ap, drop, drop-cons, drop_all, get_or, map, refl, subst, sym}
 use Rattle.node_core.proofs.Words.{ℕ, ◌+◌, ◌∙◌, ◌∷◌, ◌≡◌}
 use Rattle.node_core.proofs.Freeing.{DoesOn, one_done}
 use Rattle.node_core.proofs.Steps.{silent_turn}
@@ -32,9 +32,7 @@ loop-asker-preserved g c =
 
 pub returns-clause-carried : goal.returns-clause-carried
 returns-clause-carried g c noted short start w u =
-    let askers = c.args.askers.now in
     let i = c.loop-asker.asker-index in
     let k = c.loop-asker.invariant.goes noted short start w u in
-    let none : drop i askers ≡ [] = drop_all i askers c.loop-asker-test.false in
     let P : Work → Type 0 = λ v. IsInStep c.loop-asker.self noted short start v in
-    subst P (ap (λ (l : List ℕ). all_done 0 (map Releases l) k.now) (sym none) ∙ k.onto) k.under
+    subst P (ap (λ (l : List ℕ). all_done 0 (map Releases l) k.now) (sym (drop_all i c.args.askers.now c.loop-asker-test.false)) ∙ k.onto) k.under

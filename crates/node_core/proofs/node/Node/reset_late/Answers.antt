@@ -1,4 +1,4 @@
-use Rattle.node_core.proofs.Words.{FewAreDue, IsInStep, None, Option, Port, Some, Work, add-one, arith, refl, slice_get, subst, suc, sym, ℕ, ◌∙◌, ◌≡◌}
+use Rattle.node_core.proofs.Words.{FewAreDue, IsInStep, None, Option, Port, Some, Work, add-one, arith, refl, slice_get, subst, suc, sym, ◌∙◌, ◌≡◌}
 use Rattle.node_core.proofs.Ticking.{few_there, none_past, either_there}
 use Rattle.node_core.proofs.Lateness.{late_so_far, no_reset_yet, next_reset, all_reset, reset_past, reset_there}
 use Rattle.node_core.proofs.node.Node.reset_late.Goals as goal
@@ -8,8 +8,7 @@ loop-i-init g c = record {
   store = refl;
   number = refl;
   goes = λ start w u few.
-      let P : Work → Type 0 = λ v. IsInStep c.args.self.now (g.W.Watch.noted c.args.watch.now) (g.W.Watch.is_short c.args.watch.now) start v in
-      subst P (sym (no_reset_yet w)) u;
+      subst (λ v. IsInStep c.args.self.now (g.W.Watch.noted c.args.watch.now) (g.W.Watch.is_short c.args.watch.now) start v) (sym (no_reset_yet w)) u;
 }
 
 pub reset_late_at-requires : goal.reset_late_at-requires
@@ -33,19 +32,16 @@ loop-i-preserved g c =
       goes = λ start w u few.
           let i = c.loop-i.i in
           let P : Work → Type 0 = λ v. IsInStep t.new.self (g.W.Watch.noted t.new.watch) (g.W.Watch.is_short t.new.watch) start v in
-          let Q : ℕ → Type 0 = λ m. P (late_so_far m w) in
           let now = c.loop-i.invariant.goes start w u few in
           let there : (p : Port) → slice_get w.ports i ≡ Some p → P (late_so_far (suc i) w) = λ p is.
           subst P (next_reset i w p is) (t.ensures.carried start (late_so_far i w) p now (reset_there i w ∙ is)) in
           let past : slice_get w.ports i ≡ None → P (late_so_far (suc i) w) = λ none.
           subst P (reset_past i w (none_past i w.ports none)) (t.ensures.none start (late_so_far i w) now (reset_there i w ∙ none)) in
-          subst Q (sym (add-one i)) (either_there (slice_get w.ports i) refl there past);
+          subst (λ m. P (late_so_far m w)) (sym (add-one i)) (either_there (slice_get w.ports i) refl there past);
     }
 
 pub returns-clause-carried : goal.returns-clause-carried
 returns-clause-carried g c start w u few =
-    let i = c.loop-i.i in
     let P : Work → Type 0 = λ v. IsInStep c.loop-i.self (g.W.Watch.noted c.loop-i.watch) (g.W.Watch.is_short c.loop-i.watch) start v in
-    let many = c.count-i-end.ensures w.ports u.ends in
     let past = c.loop-i-test.false in
-    subst P (all_reset i w (omega (arith, many, past))) (c.loop-i.invariant.goes start w u few)
+    subst P (all_reset c.loop-i.i w (omega (arith, (c.count-i-end.ensures w.ports u.ends), past))) (c.loop-i.invariant.goes start w u few)

@@ -1,4 +1,4 @@
-use Rattle.node_core.proofs.Words.{AreNotes, LinkReport, None, Port, Reset, [], after_input, ap, at_place, entries_for, got_at, if◌then◌else◌, late_told, map}
+use Rattle.node_core.proofs.Words.{AreNotes, None, Port, Reset, [], after_input, ap, at_place, entries_for, got_at, if◌then◌else◌, late_told, map}
 use Rattle.node_core.proofs.Words.{own_side, refl, report, reset_late, slice_get, subst, sym, told, told_late, unnumbered, whole_acked, ℕ, ◌∙◌, ◌≡◌}
 use Rattle.node_core.proofs.HavingTurns.{no_some}
 use Rattle.node_core.proofs.Notes.{comes_noted, no_notes, notes_are}
@@ -32,10 +32,9 @@ returns-clause-carried g c start w p u is =
     let P : ℕ → Type 0 = λ n. AreNotes (g.W.Watch.is_short c.args.watch.now) (g.W.Watch.is_short c.note_input.new.watch)
     (g.W.Watch.noted c.args.watch.now) (g.W.Watch.noted c.note_input.new.watch)
     (map unnumbered (entries_for n (told (own_side w.core) p.session (report p.side (Reset None)) (whole_acked (after_input p.side (Reset None)))))) in
-    let G : LinkReport → Type 0 = λ r. (report p.side (Reset None)).got ≡ (if r.got then got_at (at_place i reset_late w.ports) h else []) in
     let notes = subst P same (c.note_input.ensures.notes (at_place i reset_late w.ports) w.core (report p.side (Reset None)) p.session
     (whole_acked (after_input p.side (Reset None))) stands u.node late.1 (late_acked c.reset_late.new.self w.ports i h p stands is late.0 same)
-    (subst G (sym late.1) refl)) in
+    (subst (λ r. (report p.side (Reset None)).got ≡ (if r.got then got_at (at_place i reset_late w.ports) h else [])) (sym late.1) refl)) in
     comes_noted (told_late w.core p) (at_place i reset_late w.ports) u stands (notes_are notes (ap (map unnumbered) (late_tells w.core p late.0)))
 
 pub returns-clause-none : goal.returns-clause-none

@@ -13,13 +13,11 @@ keep_sync-requires-clause-live g c =
 
 pub returns-then-not-is_done-clause-carried : goal.returns-then-not-is_done-clause-carried
 returns-then-not-is_done-clause-carried g c start w u =
-    let left : List Port = map (forgets w.ports) w.ports in
     let freed : map Releases c.as_slice.result.now ≡ forgotten w.ports =
     ap (map Releases) c.as_slice.ensures.value ∙ c.forgotten-freed.ensures w.ports u.ends in
     let begun : Work = record w { core = after_sessions w.core w.ports } in
-    let u0 = c.drop_tasks.ensures.carried _ _ start w u in
-    let u1 = c.forget.ensures.carried _ _ start begun u0 in
-    let u2 = left_under_way w (c.drop_notices.ensures.carried _ _ start (record begun { ports = left }) u1) in
+    let u1 = c.forget.ensures.carried _ _ start begun (c.drop_tasks.ensures.carried _ _ start w u) in
+    let u2 = left_under_way w (c.drop_notices.ensures.carried _ _ start (record begun { ports = (map (forgets w.ports) w.ports) }) u1) in
     let u3 = c.release_all.ensures.carried _ _ start (left_over w) u2 in
     let fs : List Deed = map Releases c.as_slice.result.now in
     let kept : c.release_all.new.self.store ≡ c.args.self.now.store =

@@ -29,12 +29,10 @@ returns-clause-carried g c start w p u is =
     let differ = hosts_differ c.args.self.now.ends.pool c.args.self.now.ends.seats w.ports u.ends.hosts u.ends.each in
     let same = same_host h w.ports i p (sym c.in-Some.is ∙ c.host.ensures w.ports u.ends) is in
     let E : List Port → Type 0 = λ ports. EndsStandFor c.tick.new.self ports in
-    let H : ℕ → Type 0 = λ m. EndsStandFor c.tick.new.self (with_port m (λ q. has_come q (Some Tick)) w.ports) in
-    let stands = subst H (sym same)
+    let stands = subst (λ m. EndsStandFor c.tick.new.self (with_port m (λ q. has_come q (Some Tick)) w.ports)) (sym same)
     (subst E (at_is_with i (λ q. has_come q (Some Tick)) w.ports p differ is) (c.tick.ensures.stands w.ports u.ends)) in
-    let found : port_at w.ports h ≡ Some p = ap (port_at w.ports) same ∙ found_there i w.ports p differ is in
     let told_is = sym c.in-Some-told.is ∙ (c.tick.ensures.answer w.ports u.ends ∙ (ap (option_map (λ (q : Port). report_told (report q.side Tick))) is
-    ∙ sym (ap (option_map (λ (q : Port). report_told (report q.side Tick))) found))) in
+    ∙ sym (ap (option_map (λ (q : Port). report_told (report q.side Tick))) (ap (port_at w.ports) same ∙ found_there i w.ports p differ is)))) in
     let R : ℕ → Type 0 = λ m. IsInStep (record c.args.self.now { ends = c.tick.new.self }) (g.W.Watch.noted c.note_input.new.watch)
     (g.W.Watch.is_short c.note_input.new.watch) start (all_come (AtEnd m Tick) w) in
     subst R same (comes_to h Tick c.in-Some-told.report u stands told_is

@@ -8,8 +8,7 @@ loop-i-init g c = record {
   store = refl;
   number = refl;
   goes = λ start w u few.
-      let P : Work → Type 0 = λ v. IsInStep c.args.self.now (g.W.Watch.noted c.args.watch.now) (g.W.Watch.is_short c.args.watch.now) start v in
-      subst P (sym (no_tick_yet w)) u;
+      subst (λ v. IsInStep c.args.self.now (g.W.Watch.noted c.args.watch.now) (g.W.Watch.is_short c.args.watch.now) start v) (sym (no_tick_yet w)) u;
 }
 
 pub tick_at-requires : goal.tick_at-requires
@@ -45,8 +44,6 @@ loop-i-preserved g c =
 
 pub returns-clause-carried : goal.returns-clause-carried
 returns-clause-carried g c start w u few =
-    let i = c.loop-i.i in
     let P : Work → Type 0 = λ v. IsInStep c.loop-i.self (g.W.Watch.noted c.loop-i.watch) (g.W.Watch.is_short c.loop-i.watch) start v in
-    let many = c.count-i-end.ensures w.ports u.ends in
     let past = c.loop-i-test.false in
-    subst P (all_ticked i w (omega (arith, many, past))) (c.loop-i.invariant.goes start w u few)
+    subst P (all_ticked c.loop-i.i w (omega (arith, (c.count-i-end.ensures w.ports u.ends), past))) (c.loop-i.invariant.goes start w u few)

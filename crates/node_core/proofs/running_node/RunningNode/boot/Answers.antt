@@ -5,8 +5,7 @@ use Rattle.node_core.proofs.running_node.RunningNode.boot.Goals as goal
 
 pub make-requires-clause-different : goal.make-requires-clause-different
 make-requires-clause-different g c =
-    let P : List ℕ → Type 0 = λ hs. AreAllDifferent hs in
-    subst P (sym (c.as_slice.ensures.value ∙ c.links_of-hosts.ensures)) (linked_differ c.args.number c.args.mask)
+    subst (λ hs. AreAllDifferent hs) (sym (c.as_slice.ensures.value ∙ c.links_of-hosts.ensures)) (linked_differ c.args.number c.args.mask)
 
 pub returns-in-Ok-start-clause-runs : goal.returns-in-Ok-start-clause-runs
 returns-in-Ok-start-clause-runs g c =

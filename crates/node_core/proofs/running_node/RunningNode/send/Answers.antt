@@ -22,12 +22,11 @@ pub returns-clause-refusal : goal.returns-clause-refusal
 returns-clause-refusal g c core ports p runs at =
     let noted = g.W.Watch.noted c.args.watch.now in
     let short = g.W.Watch.is_short c.args.watch.now in
-    let ok = was_ok c.give_step.result c.in_default.not-Err in
     let F : Node g.row.N.Denot → Type 0 = λ n. RunsAs n core ports → port_at ports n.number ≡ Some p
     → None ≡ if_waiting ((c.args.pipe == 1 && is_command_message c.args.message.now) && is_some core.command)
     (give_refusal p.side (c.args.pipe, c.args.message.now)) in
     let whole : F c.self.inside.node = λ r here. (
-    ap (λ (x : Result (Unit {0}) HostRefused). refused_as x) (sym ok)
+    ap (λ (x : Result (Unit {0}) HostRefused). refused_as x) (sym (was_ok c.give_step.result c.in_default.not-Err))
     ∙ c.give_step.ensures.refusal noted short noted (at_rest core ports) (between p) (rests_in_step noted short r)
     (kept_at c.self.inside.node.number ports ∙ ap (option_map between) here)) in
     subst F c.self.view_is whole runs at
@@ -39,8 +38,7 @@ returns-clause-given g c start w asked =
     let F : Node g.row.N.Denot → Type 0 = λ n. IsAsked n (g.W.Watch.noted c.args.watch.now) (g.W.Watch.is_short c.args.watch.now) start w
     → HasStepped (record c.give_step.new.self { ends = c.begin_step.new.self }) (g.W.Watch.noted t.new.watch) (g.W.Watch.is_short t.new.watch) start
     (all_done n.number (sending n.number (c.args.pipe, c.args.message.now)) w) in
-    let whole : F c.self.inside.node = λ a. by ok a in
-    subst F c.self.view_is whole asked
+    subst F c.self.view_is (λ a. by ok a) asked
   where
     by : c.give_step.result ≡ Ok tt → IsAsked c.self.inside.node (g.W.Watch.noted c.args.watch.now) (g.W.Watch.is_short c.args.watch.now) start w
         → HasStepped (record c.give_step.new.self { ends = c.begin_step.new.self })

@@ -42,10 +42,9 @@ finish-ran-requires-clause-may g c =
 
 pub returns-in-Err-clause-refusal : goal.returns-in-Err-clause-refusal
 returns-in-Err-clause-refusal g c core ports runs =
-    let r = seen_runs c.self.view_is runs in
     let noted = g.W.Watch.noted c.args.watch.now in
     sym (kept_refused c.args.input ports)
-    ∙ c.in-Err.ensures.came noted (at_rest core ports) (rests_in_step noted (g.W.Watch.is_short c.args.watch.now) r)
+    ∙ c.in-Err.ensures.came noted (at_rest core ports) (rests_in_step noted (g.W.Watch.is_short c.args.watch.now) (seen_runs c.self.view_is runs))
 
 pub returns-in-Err-clause-unchanged : goal.returns-in-Err-clause-unchanged
 returns-in-Err-clause-unchanged g c core ports runs =
@@ -56,10 +55,9 @@ returns-in-Err-clause-unchanged g c core ports runs =
 
 pub returns-clause-refusal : goal.returns-clause-refusal
 returns-clause-refusal g c core ports runs =
-    let r = seen_runs c.self.view_is runs in
     let noted = g.W.Watch.noted c.args.watch.now in
     sym (kept_refused c.args.input ports)
-    ∙ (c.in-Ok.ensures.came noted (at_rest core ports) (rests_in_step noted (g.W.Watch.is_short c.args.watch.now) r)).1
+    ∙ (c.in-Ok.ensures.came noted (at_rest core ports) (rests_in_step noted (g.W.Watch.is_short c.args.watch.now) (seen_runs c.self.view_is runs))).1
 
 pub returns-clause-active : goal.returns-clause-active
 returns-clause-active g c start w begins =

@@ -5,10 +5,9 @@ use Rattle.node_ends.proofs.ends.Ends.acked.Goals as goal
 
 pub returns-in_default : goal.returns-in_default
 returns-in_default c ports stands =
-    let e = opened c.self.view_is stands in
     ap (λ (o : Option Port). option_map_or (λ (p : Port). kept_number (whole_acked p.side)) o 0)
     (sym (nowhere c.args.host (λ (p : Port). p) c.place_of.result (c.place_of.ensures.place ∙ ap (place_in c.args.host) c.as_slice.ensures.value)
-    c.in_default.not-Some e).1)
+    c.in_default.not-Some (opened c.self.view_is stands)).1)
 
 pub returns : goal.returns
 returns c ports stands =

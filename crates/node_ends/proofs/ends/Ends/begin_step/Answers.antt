@@ -34,15 +34,12 @@ loop-i-preserved c =
 
 pub returns : goal.returns
 returns c ports stands =
-    let e = c.loop-i.invariant.stands ports stands in
     let many = as_many c.self.inside.pool c.self.inside.seats.items ports (opened c.self.view_is stands).each in
-    let len = c.len-i-end.ensures in
     let past = c.loop-i-test.false in
     let P : List Port → Type 0 = λ l. AreEnds c.loop-i.self-inside.pool c.loop-i.self-inside.seats.items l in
-    subst P (all_changed c.loop-i.i begins ports (omega (arith, many, len, past))) e
+    subst P (all_changed c.loop-i.i begins ports (omega (arith, many, c.len-i-end.ensures, past))) (c.loop-i.invariant.stands ports stands)
 
 pub invariant_of-self : goal.invariant_of-self
 invariant_of-self c =
     let i = c.self.invariant in
-    let P : KeptEnds → Type 0 = λ k. EndsStandFor k i.0 in
-    (_, c.loop-i.invariant.stands i.0 (subst P c.self.view_is i.1))
+    (_, c.loop-i.invariant.stands i.0 (subst (λ k. EndsStandFor k i.0) c.self.view_is i.1))

@@ -5,7 +5,4 @@ use Rattle.node_ends.proofs.ends.Ends.count.Goals as goal
 
 pub returns : goal.returns
 returns c ports stands =
-    let e = opened c.self.view_is stands in
-    let seats = c.len.ensures in
-    let many = as_many c.self.inside.pool c.self.inside.seats.items ports e.each in
-    omega (arith, seats, many)
+    omega (arith, c.len.ensures, (as_many c.self.inside.pool c.self.inside.seats.items ports (opened c.self.view_is stands).each))

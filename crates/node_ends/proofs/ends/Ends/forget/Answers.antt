@@ -17,8 +17,7 @@ returns-in_default c ports stands =
     let asked : option_map asker (option_map creation_of_row c.awaited.result) ≡ asker_at (slice_get ports c.args.i) =
     ap (option_map asker) (ap (option_map creation_of_row) c.awaited.ensures) ∙ (asker_is _ l.port l.stands.desk ∙ ap asker_at (sym l.port_is)) in
     let none = ap (option_map asker) (ap (option_map creation_of_row) (none_at_all c.awaited.result c.in_default.not-Some)) in
-    let P : List Port → Type 0 = λ l. AreEnds c.self.inside.pool c.self.inside.seats.items l in
-    subst P (sym (at_place_as c.args.i (forgets ports) (λ (p : Port). p) ports
+    subst (λ l. AreEnds c.self.inside.pool c.self.inside.seats.items l) (sym (at_place_as c.args.i (forgets ports) (λ (p : Port). p) ports
     (λ p is. forgets_none ports p (ap asker_at (sym is) ∙ (sym asked ∙ none))) ∙ at_place_still c.args.i ports)) e)
 
 pub returns-else-is_over : goal.returns-else-is_over
@@ -29,8 +28,7 @@ returns-else-is_over c ports stands =
     ap (option_map asker) (ap (option_map creation_of_row) c.awaited.ensures) ∙ (asker_is _ l.port l.stands.desk ∙ ap asker_at (sym l.port_is)) in
     let some = ap (option_map asker) (ap (option_map creation_of_row) c.in-Some.is) in
     let over : is_over_at ports c.in-Some.row.creator ≡ false = sym (c.is_over.ensures ports stands) ∙ c.if-is_over.false in
-    let P : List Port → Type 0 = λ l. AreEnds c.self.inside.pool c.self.inside.seats.items l in
-    subst P (sym (at_place_as c.args.i (forgets ports) (λ (p : Port). p) ports
+    subst (λ l. AreEnds c.self.inside.pool c.self.inside.seats.items l) (sym (at_place_as c.args.i (forgets ports) (λ (p : Port). p) ports
     (λ p is. forgets_by ports p c.in-Some.row.creator false (ap asker_at (sym is) ∙ (sym asked ∙ some)) over) ∙ at_place_still c.args.i ports)) e)
 
 pub returns-then-is_over : goal.returns-then-is_over

@@ -5,7 +5,6 @@ use Rattle.node_ends.proofs.ends.Ends.have_ended.Goals as goal
 
 pub returns : goal.returns
 returns c ports stands =
-    let e = opened c.self.view_is stands in
     let test : Seat → Bool = λ s. s.ended || s.late in
     any_from_yields_List test _ _ _ c.any.ensures.ran (YieldsList-from_slice c.as_slice.result.now cc) (λ x b q k. search (rules, tests))
-    ∙ (ap (list_any test) c.as_slice.ensures.value ∙ ended_are c.self.inside.pool c.self.inside.seats.items ports e.each)
+    ∙ (ap (list_any test) c.as_slice.ensures.value ∙ ended_are c.self.inside.pool c.self.inside.seats.items ports (opened c.self.view_is stands).each)

@@ -7,10 +7,9 @@ use Rattle.node_ends.proofs.ends.Ends.read.Goals as goal
 
 pub returns-in_default-clause-waits : goal.returns-in_default-clause-waits
 returns-in_default-clause-waits c ports stands =
-    let e = opened c.self.view_is stands in
     ap (λ (o : Option Port). option_map_or (λ (p : Port). p.side.got) o [])
     (nowhere c.args.host (λ (p : Port). p) c.place_of.result (c.place_of.ensures.place ∙ ap (place_in c.args.host) c.as_slice.ensures.value)
-    c.in_default.not-Some e).1
+    c.in_default.not-Some (opened c.self.view_is stands)).1
 
 pub copy_out-len-requires-clause-live : goal.copy_out-len-requires-clause-live
 copy_out-len-requires-clause-live c =

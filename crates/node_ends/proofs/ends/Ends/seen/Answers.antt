@@ -13,9 +13,8 @@ up_there p = is_up p.side.shdlc.phase
 
 pub push-requires : goal.push-requires
 push-requires c =
-    let low = low_place c.loop-seat.seat-index c.loop-seat-test.true c.as_slice-seat-items.ensures.value c.self.invariant.1 in
     let few = c.loop-seat.invariant.few in
-    omega (arith, low, few)
+    omega (arith, (low_place c.loop-seat.seat-index c.loop-seat-test.true c.as_slice-seat-items.ensures.value c.self.invariant.1), few)
 
 pub loop-seat-preserved : goal.loop-seat-preserved
 loop-seat-preserved c =
@@ -41,9 +40,8 @@ loop-seat-preserved c =
         eight = ap length w.links-is ∙ c.loop-seat.invariant.eight;
         far = λ pool ports e.
             (let r = lent_here i s c.loop-seat-test.true c.seat-item.is e in
-            let no = w.if-host-lt8.false in
             goes_by up_there false ports c.loop-seat.links c.if-host-lt8.links i c.from-host.result s r.port r.stands r.port_is c.from-host.ensures
-            (omega (arith, no)) w.links-is (c.loop-seat.invariant.far pool ports e));
+            (omega (arith, w.if-host-lt8.false)) w.links-is (c.loop-seat.invariant.far pool ports e));
       }
     ]
 
@@ -53,10 +51,9 @@ returns-clause-seen c ports stands hosts =
     let here = lent c.as_slice-seat-items.ensures.value e in
     let b = bits _ c.bit.result c.bit-2.result c.bit-3.result c.bit-4.result c.bit-5.result c.bit-6.result c.bit-7.result refl c.bit.ensures.small
     c.bit-2.ensures.small c.bit-3.ensures.small c.bit-4.ensures.small c.bit-5.ensures.small c.bit-6.ensures.small c.bit-7.ensures.small in
-    let many = as_many c.self.inside.pool _ ports here.each in
     let past = c.loop-seat-test.false in
     let links = all_so_far up_there false c.loop-seat.links c.loop-seat.seat-index ports (c.loop-seat.invariant.far c.self.inside.pool ports here)
-    (omega (arith, many, past)) in
+    (omega (arith, (as_many c.self.inside.pool _ ports here.each), past)) in
     are_seen c.self.inside.pool _ c.loop-seat.desks.items c.self.inside.seats.items ports
     (all_desks c.loop-seat.seat-index c.loop-seat.desks.items c.loop-seat.invariant.items past c.as_slice-seat-items.ensures.value)
     (λ h some most. has_bit (has_link ports) _ h some most
@@ -73,12 +70,10 @@ returns-clause-few c =
     let all = ap (λ (ds : List Desk). length ds)
     (all_desks c.loop-seat.seat-index c.loop-seat.desks.items c.loop-seat.invariant.items c.loop-seat-test.false c.as_slice-seat-items.ensures.value)
     ∙ length-map c.self.inside.seats.items (λ (s : Seat). s.desk) in
-    let few = c.self.invariant.1.few in
-    omega (arith, all, few)
+    omega (arith, all, c.self.invariant.1.few)
 
 pub returns-clause-sound : goal.returns-clause-sound
 returns-clause-sound c =
-    let P : List Desk → Type 0 = λ ds. AreSoundDesks ds in
-    subst P
+    subst (λ ds. AreSoundDesks ds)
     (sym (all_desks c.loop-seat.seat-index c.loop-seat.desks.items c.loop-seat.invariant.items c.loop-seat-test.false c.as_slice-seat-items.ensures.value))
     (are_sound c.self.inside.pool c.self.inside.seats.items c.self.invariant.0 c.self.invariant.1.each)

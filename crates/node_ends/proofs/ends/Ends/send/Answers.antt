@@ -33,11 +33,10 @@ returns-in_default-clause-stands c ports stands =
 
 pub returns-in_default-clause-answer : goal.returns-in_default-clause-answer
 returns-in_default-clause-answer c ports stands =
-    let e = opened c.self.view_is stands in
     let f = after_turn (Give (c.args.pipe, c.args.message.now)) in
     ap (given_at (c.args.pipe, c.args.message.now))
     (sym (nowhere c.args.host f c.place_of.result (c.place_of.ensures.place ∙ ap (place_in c.args.host) c.as_slice.ensures.value)
-    c.in_default.not-Some e).1)
+    c.in_default.not-Some (opened c.self.view_is stands)).1)
 
 pub returns-in_default-clause-unchanged : goal.returns-in_default-clause-unchanged
 returns-in_default-clause-unchanged c = refl

@@ -38,9 +38,8 @@ loop-i-preserved c =
         eight = ap length w.spares-is ∙ c.loop-i.invariant.eight;
         far = λ ports e.
             (let l = lent_here i s inside c.index-seat.ensures e in
-            let no = w.if-host-lt8.false in
             goes_by spare_there 0 ports c.loop-i.spares c.if-host-lt8.spares i c.from-host.result s l.port l.stands l.port_is c.from-host.ensures
-            (omega (arith, no)) w.spares-is (c.loop-i.invariant.far ports e));
+            (omega (arith, w.if-host-lt8.false)) w.spares-is (c.loop-i.invariant.far ports e));
       }
     ]
 

@@ -53,13 +53,12 @@ returns-after-report-clause-becomes c =
     let r = c.requires.may in
     let s : Seat = c.args.self.now in
     let old : PoolState = c.args.pool.now in
-    let held : WaitsHeld s.waiting s.side = held_there old s r.0 r.1 r.3 in
     let answer : (m : Machine) → HoldsSeat old s m → t.result ≡ report_told (report m (lpdu_input lpdu)) =
     λ m h. t.ensures.answer (without_got m) lpdu h.stands may.1 ∙ lpdu_told_apart m lpdu in
     let moves : Moves old t.new.pool s.side t.new.self =
     call_moves old t.new.pool s.side t.new.self (without_got r.0.side) r.1.holds.stands t.ensures.elsewhere in
     let took : Takes old t.new.pool s c.if-report.self (lpdu_input lpdu) = elim c.if-report.branch [
-      then-report w ↦
+      | then-report w ↦
           let f = w.next_message.ensures in
           let same : option_map as_waiting w.next_message.result ≡ w.match-next_message.self =
           elim w.match-next_message.branch [ in-Some b ↦ grind arith | in-None b ↦ grind arith ] in
@@ -67,7 +66,7 @@ returns-after-report-clause-becomes c =
             outside = lpdu_is_outside lpdu;
             stands = λ m h.
                 let came : is_some (oldest (got_by m (lpdu_input lpdu))) ≡ _ = ap (λ (r : LinkReport). r.got) (sym (answer m h)) ∙ w.if-report.true in
-                let none : s.waiting ≡ None = none_waited s.side s.waiting m lpdu h held came in
+                let none : s.waiting ≡ None = none_waited s.side s.waiting m lpdu h (held_there old s r.0 r.1 r.3) came in
                 let h2 = subst (λ (o : Option Waiting). HoldsEnd old s.side o m) none h in
                 let stands = subst (λ (n : Machine). EndStandsFor t.new.self t.new.pool (after_input n (lpdu_input lpdu)))
                 (none_got old s.side m h2) (t.ensures.stands (without_got m) lpdu h.stands may.1) in
@@ -83,7 +82,7 @@ returns-after-report-clause-becomes c =
                 (ap (λ (e : End). e.outbox.owner) f.rest, ap (λ (e : End). e.inbox.joiner.owner) f.rest);
             rest = refl;
           })
-    | else-report w ↦ subst (λ (x : Seat). Takes old t.new.pool s x (lpdu_input lpdu)) (sym w.self-is) (record {
+      | else-report w ↦ subst (λ (x : Seat). Takes old t.new.pool s x (lpdu_input lpdu)) (sym w.self-is) (record {
         outside = lpdu_is_outside lpdu;
         stands = λ m h.
             let none = none_came (got_by m (lpdu_input lpdu)) (ap (λ (r : LinkReport). r.got) (sym (answer m h)) ∙ w.if-report.false) in
@@ -91,9 +90,9 @@ returns-after-report-clause-becomes c =
             (t.ensures.stands (without_got m) lpdu h.stands may.1);
         moves = moves;
         rest = refl;
-      }) ] in
-    let P : LinkInput → Type 0 = λ i. SeatBecomes old t.new.pool s c.count.new.self (λ p. has_come p (Some i)) in
-    rw c.in-Frame.is (subst P (frame_is _ lpdu may.1)
+      })
+    ] in
+    rw c.in-Frame.is (subst (λ i. SeatBecomes old t.new.pool s c.count.new.self (λ p. has_come p (Some i))) (frame_is _ lpdu may.1)
     (takes {t = c.if-report.self} {i = lpdu_input lpdu} {told = t.result} {kept = c.insert-report.result.now} took (λ p g. answer p.side g.holds)
     c.insert-report.ensures.value c.count.ensures))
 
@@ -151,9 +150,8 @@ returns-in-Start-clause-becomes c =
 
 pub returns-in-Start-clause-told : goal.returns-in-Start-clause-told
 returns-in-Start-clause-told c p g =
-    let t = c.activate in
     rw c.in-Start.is (ap (λ (r : LinkReport). Some r) (c.insert-report-in-Start.ensures.value
-    ∙ (t.ensures.answer (without_got p.side) g.holds.stands ∙ start_told_apart p.side c.in-Start.value)))
+    ∙ (c.activate.ensures.answer (without_got p.side) g.holds.stands ∙ start_told_apart p.side c.in-Start.value)))
 
 pub returns-in-Stop-clause-becomes : goal.returns-in-Stop-clause-becomes
 returns-in-Stop-clause-becomes c =
@@ -166,6 +164,5 @@ returns-in-Stop-clause-becomes c =
 
 pub returns-in-Stop-clause-told : goal.returns-in-Stop-clause-told
 returns-in-Stop-clause-told c p g =
-    let t = c.deactivate in
     rw c.in-Stop.is (ap (λ (r : LinkReport). Some r) (c.insert-report-in-Stop.ensures.value
-    ∙ (t.ensures.answer (without_got p.side) g.holds.stands ∙ stop_told_apart p.side)))
+    ∙ (c.deactivate.ensures.answer (without_got p.side) g.holds.stands ∙ stop_told_apart p.side)))

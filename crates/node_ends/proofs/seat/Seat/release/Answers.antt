@@ -6,16 +6,12 @@ use Rattle.node_ends.proofs.seat.Seat.release.Goals as goal
 
 pub release-requires-clause-quota : goal.release-requires-clause-quota
 release-requires-clause-quota c =
-    let P : ℕ → Type 0 = λ n. n < length c.args.pool.now.owners in
-    subst P c.requires.owner c.requires.stands.1.stands.halfway.sends.lies.kept.has_quota
+    subst (λ n. n < length c.args.pool.now.owners) c.requires.owner c.requires.stands.1.stands.halfway.sends.lies.kept.has_quota
 
 pub release-requires-clause-aside : goal.release-requires-clause-aside
 release-requires-clause-aside c =
-    let P : ℕ → Type 0 = λ n. 0 < aside_of c.args.pool.now n in
-    let a = c.requires.stands.1.stands.halfway.aside in
-    let b = c.requires.stands.2 in
     let some = c.if-self-eq0.false in
-    subst P c.requires.owner (omega (arith, a, b, some))
+    subst (λ n. 0 < aside_of c.args.pool.now n) c.requires.owner (omega (arith, c.requires.stands.1.stands.halfway.aside, c.requires.stands.2, some))
 
 pub returns : goal.returns
 returns c =
@@ -34,10 +30,8 @@ returns c =
       stands = λ m h same. (
         (let old = c.args.pool.now in
             let new = c.release.new.self in
-            let a = h.stands.halfway.aside in
-            let some = c.if-self-eq0.false in
             let Q : ℕ → Type 0 = λ n. Counts old new n (used_of old n - 1) (aside_of old n - 1) in
-            released_holds old new c.args.self.now.side c.args.self.now.waiting m h (omega (arith, a, same, some))
+            released_holds old new c.args.self.now.side c.args.self.now.waiting m h (omega (arith, h.stands.halfway.aside, same, c.if-self-eq0.false))
             (subst Q (sym c.requires.owner) (record { slots = c.release.ensures.slots; owners = c.release.ensures.owners }))),
         (ap (λ n. n - 1) same),
       );

@@ -14,8 +14,7 @@ returns-clause-becomes c =
       moves = t.ensures.moves;
       stands = λ p g.
           let late : is_late p ≡ true = sym (late_is _ p _ g.desk g.ended) ∙ (sym c.is_late.ensures ∙ c.if-not-is_late.false) in
-          let P : Port → Type 0 = λ q. SeatStandsFor t.new.pool t.new.self q in
-          subst P (now_late p late) (record {
+          subst (λ q. SeatStandsFor t.new.pool t.new.self q) (now_late p late) (record {
             holds = t.ensures.stands p.side g.holds;
             desk = ap (λ (s : Seat). desk_shown s.desk) t.ensures.rest ∙ g.desk;
             late = ap (λ (s : Seat). s.late) t.ensures.rest;
@@ -39,9 +38,8 @@ returns-then-not-is_late-clause-becomes c =
       host = refl;
       moves = stays_beside c.args.pool.now s.side s.side refl refl;
       stands = λ p g.
-          let late : is_late p ≡ false = sym (late_is _ p _ g.desk g.ended) ∙ (sym c.is_late.ensures ∙ c.if-not-is_late.true) in
           let P : Port → Type 0 = λ q. SeatStandsFor c.args.pool.now s q in
-          subst P (not_late p late) g;
+          subst P (not_late p (sym (late_is _ p _ g.desk g.ended) ∙ (sym c.is_late.ensures ∙ c.if-not-is_late.true))) g;
     }
 
 pub returns-then-not-is_late-clause-answer : goal.returns-then-not-is_late-clause-answer

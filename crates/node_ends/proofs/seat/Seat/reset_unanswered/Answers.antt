@@ -22,15 +22,13 @@ pub returns-in-Ok-clause-moves : goal.returns-in-Ok-clause-moves
 returns-in-Ok-clause-moves c =
     let t = c.reset in
     let r = c.requires.stands in
-    let P : Seat → Type 0 = λ s. Moves c.args.pool.now t.new.pool c.args.self.now.side s.side in
-    subst P (sym c.count.ensures)
+    subst (λ s. Moves c.args.pool.now t.new.pool c.args.self.now.side s.side) (sym c.count.ensures)
     (call_moves c.args.pool.now t.new.pool c.args.self.now.side t.new.self (without_got r.0) r.1.stands t.ensures.elsewhere)
 
 pub returns-in-Ok-clause-rest : goal.returns-in-Ok-clause-rest
 returns-in-Ok-clause-rest c =
     let was : Seat = c.args.self.now in
-    let P : Seat → Type 0 = λ s. record s { ended = was.ended } ≡ record was { side = s.side; late = true; acked = s.acked } in
-    subst P (sym c.count.ensures) refl
+    subst (λ s. record s { ended = was.ended } ≡ record was { side = s.side; late = true; acked = s.acked }) (sym c.count.ensures) refl
 
 pub returns-in-Err-clause-stands : goal.returns-in-Err-clause-stands
 returns-in-Err-clause-stands c m h =

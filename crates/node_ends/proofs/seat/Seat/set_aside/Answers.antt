@@ -6,15 +6,11 @@ use Rattle.node_ends.proofs.Changing.{turned}
 use Rattle.node_ends.proofs.seat.Seat.set_aside.Goals as goal
 
 pub set_aside-requires : goal.set_aside-requires
-set_aside-requires c =
-    let P : ℕ → Type 0 = λ n. n < length c.args.pool.now.owners in
-    subst P c.requires.owner c.requires.stands.1.stands.halfway.sends.lies.kept.has_quota
+set_aside-requires c = subst (λ n. n < length c.args.pool.now.owners) c.requires.owner c.requires.stands.1.stands.halfway.sends.lies.kept.has_quota
 
 pub overflow_add-self : goal.overflow_add-self
 overflow_add-self c =
-    let low = few_aside c.args.pool.now c.args.self.now.side c.requires.stands.0 c.requires.stands.1.stands in
-    let same = c.requires.stands.2 in
-    omega (arith, low, same)
+    omega (arith, (few_aside c.args.pool.now c.args.self.now.side c.requires.stands.0 c.requires.stands.1.stands), c.requires.stands.2)
 
 pub returns-in-Ok : goal.returns-in-Ok
 returns-in-Ok c =
@@ -62,8 +58,7 @@ returns-in-Err c =
             let same = set_refused c.args.pool.now k m h.stands
             (λ s. true≢false (sym (c.in-Err.ensures.room.1 (subst P c.requires.owner s)))) in
             let A : PoolState → Type 0 = λ p. HoldsEnd p k waiting m in
-            let B : Machine → Type 0 = λ n. HoldsEnd c.set_aside.new.self k waiting n in
-            subst B (sym same) (subst A (sym c.in-Err.ensures.err) h)),
+            subst (λ n. HoldsEnd c.set_aside.new.self k waiting n) (sym same) (subst A (sym c.in-Err.ensures.err) h)),
         (let k = c.args.self.now.side in
             let P : ℕ → Type 0 = λ n. 0 < spare_of c.args.pool.now n in
             same ∙ sym (ap (λ (x : Machine). x.aside) (set_refused c.args.pool.now k m h.stands

@@ -5,10 +5,9 @@ use Rattle.node_world.proofs.worlds.NodeWorld.rests.Goals as goal
 pub all_rest-requires : goal.all_rest-requires
 all_rest-requires c =
     let r = c.requires.state in
-    let w = nodes_behind r.0 (lines_played r.0 r.1) in
     record {
       state = (
-        w,
+        (nodes_behind r.0 (lines_played r.0 r.1)),
         rw (← c.as_slice.ensures.value) at r.2.stands,
         in_order_behind c.args.self.now r.0 r.1 r.2,
         timely_so c.args.self.now r.0 r.1 r.2,

@@ -61,11 +61,10 @@ returns-in-Damage-clause-stands c header plays s may =
     let many : length d.new.sites ≡ old.sites.len = omega (arith, d.auto.sites, c.as_mut_slice-sites.ensures.len) in
     let L : Line → Type 0 = λ l. MayPlay header l w → IfOk d.result (λ other. other ≡ None
     → LinePlayed d.new.controller d.new.sites d.new.noted.entries.items (line_step w l)) in
-    let M : Line → Type 0 = λ l. IfOk d.result (IsMisreadIn w l) in
     stands_answered d.result old (after old d.new.controller d.new.sites d.new.noted) header plays line s may
     (steps_few old line c.requires.room header plays s)
     (written old line w d.new.controller d.new.sites d.new.noted d.result many (subst L (sym c.in-Damage.is) (d.ensures.stands header w world) p))
-    (subst M (sym c.in-Damage.is) (d.ensures.misread w world p.goes_on)) d.ensures.memory refl refl refl
+    (subst (λ l. IfOk d.result (IsMisreadIn w l)) (sym c.in-Damage.is) (d.ensures.misread w world p.goes_on)) d.ensures.memory refl refl refl
 
 pub returns-in-Damage-clause-entries : goal.returns-in-Damage-clause-entries
 returns-in-Damage-clause-entries c header plays s may =
@@ -74,11 +73,10 @@ returns-in-Damage-clause-entries c header plays s may =
     let d = c.damage_line in
     let w = behind header plays in
     let world = as_slice old c.as_mut_slice-sites.result.now w c.as_mut_slice-sites.ensures.value s.stands in
-    let many : length d.new.sites ≡ old.sites.len = omega (arith, d.auto.sites, c.as_mut_slice-sites.ensures.len) in
     let L : Line → Type 0 = λ l. MayPlay header l w → IfOk d.result (λ other. other ≡ None
     → LinePlayed d.new.controller d.new.sites d.new.noted.entries.items (line_step w l)) in
     entries_answered d.result old (after old d.new.controller d.new.sites d.new.noted) header plays line s may
-    (written old line w d.new.controller d.new.sites d.new.noted d.result many
+    (written old line w d.new.controller d.new.sites d.new.noted d.result (omega (arith, d.auto.sites, c.as_mut_slice-sites.ensures.len))
     (subst L (sym c.in-Damage.is) (d.ensures.stands header w world) (may_be_said old line header plays s may)))
 
 pub returns-in-Damage-clause-misread : goal.returns-in-Damage-clause-misread

@@ -1,5 +1,5 @@
 use Rattle.nv_journal.proofs.Words.{AreMade, Bool, HasRoomForBody, LeftByCut, List, Says, State, append_writes, arith, false, made_in_part, made_whole, rules}
-use Rattle.nv_journal.proofs.Words.{true, ℕ}
+use Rattle.nv_journal.proofs.Words.{ℕ}
 use Rattle.swp_base.specs.Outside.{IsWritten}
 use Rattle.nv_journal.proofs.Appending.{says_after, records_after, all_or_nothing, left_by_cut, on_err}
 use Rattle.nv_journal.proofs.journal.Journal.append.Goals as goal
@@ -15,20 +15,18 @@ cut_short writes content told body s old new says room made =
 pub returns-in_err-write-clause-cut : goal.returns-in_err-write-clause-cut
 returns-in_err-write-clause-cut g c = λ tells.
     let k = c.self.inside in
-    let made : AreMade g.N.Nv.writes (append_writes k.state c.args.body.now) k.nv false c.write.new.self = search rules in
     rw (← c.self.view_is)
     (on_err c.from_residual.result _ (cut_short g.N.Nv.writes g.N.Nv.content (λ m at bytes ok n step. g.met.N.Nv.told m at bytes ok n tells step)
     c.args.body.now k.state k.nv c.write.new.self (c.self.invariant.says (rw (← c.self.view_is) at c.requires.live) tells)
-    (rw (← c.self.view_is) at c.requires.room) made))
+    (rw (← c.self.view_is) at c.requires.room) (search rules)))
 
 pub returns-in_err-write-2-clause-cut : goal.returns-in_err-write-2-clause-cut
 returns-in_err-write-2-clause-cut g c = λ tells.
     let k = c.self.inside in
-    let made : AreMade g.N.Nv.writes (append_writes k.state c.args.body.now) k.nv false c.write-2.new.self = search rules in
     rw (← c.self.view_is)
     (on_err c.from_residual-in_err-write-2.result _ (cut_short g.N.Nv.writes g.N.Nv.content (λ m at bytes ok n step. g.met.N.Nv.told m at bytes ok n tells step)
     c.args.body.now k.state k.nv c.write-2.new.self (c.self.invariant.says (rw (← c.self.view_is) at c.requires.live) tells)
-    (rw (← c.self.view_is) at c.requires.room) made))
+    (rw (← c.self.view_is) at c.requires.room) (search rules)))
 
 pub invariant_of-self-2 : goal.invariant_of-self-2
 invariant_of-self-2 g c =
@@ -41,9 +39,8 @@ invariant_of-self-2 g c =
       few = omega (arith, c.self.invariant.few);
       says = λ live tells.
           let says = c.self.invariant.says (rw (← c.self.view_is) at c.requires.live) tells in
-          let made : AreMade g.N.Nv.writes (append_writes k.state body) k.nv true c.write-2.new.self = search rules in
           let whole = made_whole g.N.Nv.writes g.N.Nv.content (λ m at bytes ok n step. g.met.N.Nv.told m at bytes ok n tells step)
-          (append_writes k.state body) k.nv c.write-2.new.self made in
+          (append_writes k.state body) k.nv c.write-2.new.self (search rules) in
           rw whole (says_after (g.N.Nv.content k.nv) body k.state says room);
     }
 
@@ -51,9 +48,7 @@ pub returns-clause-records : goal.returns-clause-records
 returns-clause-records g c = λ tells.
     let k = c.self.inside in
     let body = c.args.body.now in
-    let room = rw (← c.self.view_is) at c.requires.room in
     let says = c.self.invariant.says (rw (← c.self.view_is) at c.requires.live) tells in
-    let made : AreMade g.N.Nv.writes (append_writes k.state body) k.nv true c.write-2.new.self = search rules in
     let whole = made_whole g.N.Nv.writes g.N.Nv.content (λ m at bytes ok n step. g.met.N.Nv.told m at bytes ok n tells step)
-    (append_writes k.state body) k.nv c.write-2.new.self made in
-    rw (← c.self.view_is, whole) (records_after (g.N.Nv.content k.nv) body k.state says room)
+    (append_writes k.state body) k.nv c.write-2.new.self (search rules) in
+    rw (← c.self.view_is, whole) (records_after (g.N.Nv.content k.nv) body k.state says (rw (← c.self.view_is) at c.requires.room))

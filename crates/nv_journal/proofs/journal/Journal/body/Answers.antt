@@ -39,12 +39,10 @@ returns-in_default-clause-body g c =
     let rest = c.left.result + (c.next_place-end.result - c.args.at) in
     let content = g.N.Nv.content k.nv in
     let before : c.args.at < next_place k.state = omega (arith, c.next_place-end.ensures.place, c.if-at-end.false) in
-    let rest_is : rest ≡ left k.state + (next_place k.state - c.args.at) = omega (arith, c.left.ensures, c.next_place-end.ensures.place) in
-    let none = rw c.in_default.is at c.in_ok-body.ensures.record in
     rw (← c.self.view_is)
     (λ live tells i gate. absurd (has_room content k.state (c.self.invariant.says live tells) i c.args.at (min 65 rest)
     rest (slice_range content c.args.at (c.args.at + min 65 rest)) gate before c.self.invariant.inside
-    rest_is refl refl (none tells)))
+    (omega (arith, c.left.ensures, c.next_place-end.ensures.place)) refl refl ((rw c.in_default.is at c.in_ok-body.ensures.record) tells)))
 
 pub returns-clause-body : goal.returns-clause-body
 returns-clause-body g c =
@@ -70,14 +68,12 @@ returns-clause-next g c =
     let k = c.self.inside in
     let rest = c.left.result + (c.next_place-end.result - c.args.at) in
     let content = g.N.Nv.content k.nv in
-    let before : c.args.at < next_place k.state = omega (arith, c.next_place-end.ensures.place, c.if-at-end.false) in
     let rest_is : rest ≡ left k.state + (next_place k.state - c.args.at) = omega (arith, c.left.ensures, c.next_place-end.ensures.place) in
     let read = slice_range content c.args.at (c.args.at + min 65 rest) in
-    let some = rw c.in-Some.is at c.in_ok-body.ensures.record in
     rw (← c.self.view_is)
     (λ live tells.
     let gate = rw (← c.self.view_is) at c.requires.gate live tells in
     subst (λ l. IsGate l (c.args.at + c.in-Some.gap)) (sym (c.in_ok-body.ensures.kept tells))
-    (subst (λ n. IsGate content (c.args.at + n)) (sym (some tells).1)
+    (subst (λ n. IsGate content (c.args.at + n)) (sym ((rw c.in-Some.is at c.in_ok-body.ensures.record) tells).1)
     (next_is_gate content k.state (c.self.invariant.says live tells) gate.0 c.args.at (min 65 rest) rest read gate.1
-    before c.self.invariant.inside rest_is refl refl)))
+    (omega (arith, c.next_place-end.ensures.place, c.if-at-end.false)) c.self.invariant.inside rest_is refl refl)))

@@ -9,12 +9,11 @@ returns-in_err-self-inside-clause-cut g c = λ tells failed.
     let k = c.self.inside in
     let bodies = c.args.snapshot.now in
     let made = c.in_err-self-inside.ensures in
-    let says = c.self.invariant.says (rw (← c.self.view_is) at c.requires.live) tells in
     let cut = made_in_part g.N.Nv.writes g.N.Nv.content (λ m at bytes ok n step. g.met.N.Nv.told m at bytes ok n tells step)
     (compact_writes k.state bodies) k.nv c.write_snapshot.new.nv made.made in
     rw (← c.self.view_is)
     (left_by_cut (compact_writes k.state bodies) (g.N.Nv.content k.nv) (g.N.Nv.content c.write_snapshot.new.nv)
-    (all_or_nothing (g.N.Nv.content k.nv) bodies k.state says made.can) cut)
+    (all_or_nothing (g.N.Nv.content k.nv) bodies k.state (c.self.invariant.says (rw (← c.self.view_is) at c.requires.live) tells) made.can) cut)
 
 pub invariant_of-self-2 : goal.invariant_of-self-2
 invariant_of-self-2 g c =

@@ -151,7 +151,6 @@ invariant_of-result g c =
     let s = c.begun-state.result in
     let zero = begun_size c.in-Ok.heads.0 c.in-Ok.heads.1 in
     let none = ap (λ (t : State). t.size) c.begun-state.ensures ∙ zero.0 in
-    let no_records = ap (λ (t : State). t.many) c.begun-state.ensures ∙ zero.1 in
     let known : IsTrue (s.version == 1 || s.version == 2) = elim c.else-state-ne1.branch [
       | else-state-ne1-via-then-state-ne1+else-state-ne2 w ↦ known_begun s.version (inr w.if-state-ne2.false)
       | else-state-ne1-via-else-state-ne1 w ↦ known_begun s.version (inl w.if-state-ne1.false)
@@ -160,7 +159,7 @@ invariant_of-result g c =
       size = c.in-Ok.ensures.size ∙ c.requires;
       inside = omega (arith, none);
       read = omega (arith, none, ap length c.new.ensures);
-      few = omega (arith, none, no_records);
+      few = omega (arith, none, (ap (λ (t : State). t.many) c.begun-state.ensures ∙ zero.1));
       known = known;
       idle = idle_begun s.in_use c.is_none-ended.result c.is_none-ended.ensures;
       says = λ tells.
@@ -177,19 +176,17 @@ returns-clause-known g c = λ tells.
     let s = c.begun-state.result in
     let content = g.N.Nv.content c.args.nv in
     let heads = c.in-Ok.ensures.heads tells in
-    let is : s ≡ begun_scan (head content First) (head content Second) = c.begun-state.ensures ∙ ap₂ begun_scan heads.0 heads.1 in
     let long : 65536 ≤ length content = omega (arith, g.met.N.Nv.sized c.args.nv tells, c.requires) in
     let known : IsKnown s.version = elim c.else-state-ne1.branch [
       | else-state-ne1-via-then-state-ne1+else-state-ne2 w ↦ known_begun s.version (inr w.if-state-ne2.false)
       | else-state-ne1-via-else-state-ne1 w ↦ known_begun s.version (inl w.if-state-ne1.false)
     ] in
-    subst IsKnown (ap (λ (t : State). t.version) is ∙ sym (version_begun content long)) known
+    subst IsKnown (ap (λ (t : State). t.version) (c.begun-state.ensures ∙ ap₂ begun_scan heads.0 heads.1) ∙ sym (version_begun content long)) known
 
 pub returns-then-state-ne2-clause-unknown : goal.returns-then-state-ne2-clause-unknown
 returns-then-state-ne2-clause-unknown g c = λ tells.
     let content = g.N.Nv.content c.args.nv in
     let heads = c.in-Ok.ensures.heads tells in
-    let is : c.begun-state.result ≡ begun_scan (head content First) (head content Second) = c.begun-state.ensures ∙ ap₂ begun_scan heads.0 heads.1 in
     let long : 65536 ≤ length content = omega (arith, g.met.N.Nv.sized c.args.nv tells, c.requires) in
-    inr (ap is_known (version_begun content long ∙ sym (ap (λ (t : State). t.version) is))
+    inr (ap is_known (version_begun content long ∙ sym (ap (λ (t : State). t.version) (c.begun-state.ensures ∙ ap₂ begun_scan heads.0 heads.1)))
     ∙ unknown_version c.begun-state.result.version c.if-state-ne1.true c.if-state-ne2.true)

@@ -7,7 +7,6 @@ use Rattle.nv_journal.proofs.scan.Scan.start.Goals as goal
 pub of-requires-in-Ok : goal.of-requires-in-Ok
 of-requires-in-Ok g c =
     let k = c.self.inside in
-    let none = none_of k.state.in_use (sym c.is_some.ensures ∙ c.if-is_some.false) in
     rw c.in-Ok.ensures.state
     record {
       kept = record {
@@ -15,11 +14,10 @@ of-requires-in-Ok g c =
         inside = omega arith;
         few = omega arith;
         says = λ live tells.
-            let content = g.N.Nv.content k.nv in
             let says = (c.self.invariant.says tells).at_end (rw (← c.self.view_is) at c.requires) in
             rw (made_whole g.N.Nv.writes g.N.Nv.content
             (λ m at bytes ok n step. g.met.N.Nv.told m at bytes ok n tells step) format_writes k.nv c.format.new.nv c.in-Ok.ensures.made)
-            (says_formatted content k.state says none);
+            (says_formatted (g.N.Nv.content k.nv) k.state says (none_of k.state.in_use (sym c.is_some.ensures ∙ c.if-is_some.false)));
       };
     }
 

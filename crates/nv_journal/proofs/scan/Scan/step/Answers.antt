@@ -69,9 +69,7 @@ returns-in-Record-clause-body g c = λ tells.
     let len = c.in-Record.len in
     let is = c.in-Record.ensures.gate ∙ ap₂ (gate_of k.state.version k.state.many) c.left-rest.ensures c.as_slice.ensures in
     let bounds = c.in-Record.ensures.record in
-    let fits = rw c.left-rest.ensures at bounds.2 in
-    let body_is = c.body_of-body.ensures ∙ ap₂ (λ n l. take len (drop (2 + n) l)) c.index_len-from.ensures c.as_slice-in-Record.ensures in
-    rw (← c.self.view_is, body_is)
+    rw (← c.self.view_is, (c.body_of-body.ensures ∙ ap₂ (λ n l. take len (drop (2 + n) l)) c.index_len-from.ensures c.as_slice-in-Record.ensures))
     (record_so_far (g.N.Nv.content k.nv) k.state k.ahead k.ended (old.says tells)
     (rw (← c.self.view_is) at c.requires.going) old.idle old.few old.inside old.known
-    (rw (← c.self.view_is) at c.requires.enough) len is bounds.1 fits)
+    (rw (← c.self.view_is) at c.requires.enough) len is bounds.1 (rw c.left-rest.ensures at bounds.2))

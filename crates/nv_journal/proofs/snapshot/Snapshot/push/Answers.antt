@@ -11,9 +11,7 @@ grown c =
     let room = rw (← c.self.view_is) at c.requires.room in
     let record_is = c.as_slice.ensures.value ∙ c.record-record.ensures in
     let fits = c.try_extend_from_slice-fits.ensures.variant.1 (omega (arith, c.push.ensures.len, size, room, ap length record_is)) in
-    let extended : c.try_extend_from_slice-fits.new.self.items ≡ c.push.new.self.items ++ c.as_slice.result.now =
-    search (rules, fits, c.try_extend_from_slice-fits.ensures.ok) in
-    extended
+    search (rules, fits, c.try_extend_from_slice-fits.ensures.ok)
     ∙ ap (λ l. c.push.new.self.items ++ l) record_is
     ∙ ap (λ l. l ++ record_bytes s.many body) c.push.ensures.items
     ∙ append_assoc s.bytes.items (90 ∷ []) (record_bytes s.many body)
@@ -21,9 +19,8 @@ grown c =
 pub push-requires : goal.push-requires
 push-requires c =
     let s = c.self.inside in
-    let size = size_of_bytes s.bytes.items s.many (bodies_of s.bytes.items) c.self.invariant in
     let room = rw (← c.self.view_is) at c.requires.room in
-    (omega arith, omega (arith, size, room))
+    (omega arith, omega (arith, (size_of_bytes s.bytes.items s.many (bodies_of s.bytes.items) c.self.invariant), room))
 
 pub overflow_add-self : goal.overflow_add-self
 overflow_add-self c =

@@ -8,8 +8,7 @@ use Rattle.registry.proofs.registry.Registry.clear_host.Goals as goal
 pub invariant_of-self : goal.invariant_of-self
 invariant_of-self c =
     let kept = filter-from_retain _ (λ (v : RegValue). not (eqb v.host c.args.host)) _ (λ x b f' y called. search rules) _ _ c.retain.ensures.filtered in
-    let P : List RegValue → Type 0 = AreValues in
-    subst P (sym kept) (AreValues-filter (λ v. not (eqb v.host c.args.host)) c.self.inside.values.items c.self.invariant)
+    subst AreValues (sym kept) (AreValues-filter (λ v. not (eqb v.host c.args.host)) c.self.inside.values.items c.self.invariant)
 
 pub returns : goal.returns
 returns c =

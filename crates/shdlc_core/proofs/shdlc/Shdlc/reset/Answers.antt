@@ -5,8 +5,7 @@ use Rattle.shdlc_core.proofs.shdlc.Shdlc.reset.Goals as goal
 pub returns-clause-stands : goal.returns-clause-stands
 returns-clause-stands c = λ e h.
     let stood = subst (λ k. ShdlcStandsFor k e) (sym c.self.view_is) h in
-    let asked = reset_with-other e c.self.inside.phase c.args.window stood.phase (sym c.eq.ensures ∙ c.if-eq.false) in
-    subst (ShdlcStandsFor c.wait.new.self) (sym asked)
+    subst (ShdlcStandsFor c.wait.new.self) (sym (reset_with-other e c.self.inside.phase c.args.window stood.phase (sym c.eq.ensures ∙ c.if-eq.false)))
     (c.wait.ensures.stands (record e { own_window = c.args.window }) (record {
       phase = stood.phase;
       own_window = refl;

@@ -27,11 +27,9 @@ returns c =
       long,
       held_is,
     ) in
-    let rest : c.fill.new.self ≡ replicate (length old - held) 255 =
-    c.fill.ensures.after (λ y is. is) ∙ ap (λ n. replicate n 255) behind in
     let fits : c.args.at + length old ≤ size =
     omega (arith, c.requires, ap length c.self.view_is, length-filled_up items size c.self.invariant.0) in
     both_parts c.copy_from_slice.new.self c.fill.new.self old held long
-    ∙ ap₂ (λ l m. l ++ m) copied rest
+    ∙ ap₂ (λ l m. l ++ m) copied (c.fill.ensures.after (λ y is. is) ∙ ap (λ n. replicate n 255) behind)
     ∙ front_read items c.args.at (length old) size from held c.self.invariant.0 fits from_is held_is
     ∙ ap (λ l. slice_range l c.args.at (c.args.at + length old)) c.self.view_is

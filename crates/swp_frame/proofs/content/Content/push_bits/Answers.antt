@@ -28,12 +28,11 @@ invariant_of-self-then-filled-width-lt64 c =
 pub returns-then-filled-width-lt64-clause-bits : goal.returns-then-filled-width-lt64-clause-bits
 returns-then-filled-width-lt64-clause-bits c = λ bits more kept l n.
     let old = c.args.self.now in
-    let fits : old.partial < 2 ^ (old.bits % 64) = old.within_word (omega arith) in
     record {
       count = omega (arith, kept.count, length-append bits more, l);
       few = λ h.
           let same : length (bits ++ more) / 64 ≡ length bits / 64 = omega (arith, kept.count, length-append bits more, l) in
-          rw (no_wrap old.partial (old.bits % 64) c.args.width fits (omega arith), same)
+          rw (no_wrap old.partial (old.bits % 64) c.args.width (old.within_word (omega arith)) (omega arith), same)
           (more_within (whole_words (length bits) old.bytes) old.partial bits more c.args.value c.args.width
           (kept.few (omega (arith, length-append bits more))) l n (omega (arith, kept.count, length-append bits more)));
     }

@@ -12,10 +12,9 @@ pub returns-else-self : goal.returns-else-self
 returns-else-self c seen stands behind quiet =
     let more = part_bits c.args.part in
     let none = closed c.args.self.now.is_open c.args.self.now.content (since_start seen) stands.open_frame c.if-self.false in
-    let since_is = quiet_since seen more quiet ∙ ap (λ before. option_map (λ since. read_on since more) before) none in
     record {
       ones = new_run c.args.self.now.ones c.run_behind-self.result seen more stands.ones c.run_behind-self.ensures;
-      open_frame = rw (since_is, c.if-self.false) tt;
+      open_frame = rw ((quiet_since seen more quiet ∙ ap (λ before. option_map (λ since. read_on since more) before) none), c.if-self.false) tt;
     }
 
 pub returns-then-self : goal.returns-then-self

@@ -33,10 +33,9 @@ returns c since behind =
     let w = c.loop-put_in.width in
     let bits = part_bits own in
     let ones : ℕ = run_of since in
-    let left : c.loop-put_in.put_in ≡ 0 = omega (arith, c.loop-put_in-test.false) in
     let kept : low_bits w c.loop-put_in.bits ≡ kept_of ones bits =
     sym (without_none w (low_bits w c.loop-put_in.bits) (length-low_bits w c.loop-put_in.bits))
-    ∙ ap (λ n. without (low_bits w n) (low_bits w c.loop-put_in.bits)) (sym left)
+    ∙ ap (λ n. without (low_bits w n) (low_bits w c.loop-put_in.bits)) (sym (omega (arith, c.loop-put_in-test.false)))
     ∙ c.loop-put_in.invariant.same
     ∙ ap (λ n. without (low_bits own.width n) bits) behind
     ∙ ap (λ xs. without xs bits) (low_bits-number_of (places_put_in ones bits) own.width (length-put_in ones bits ∙ length-low_bits own.width own.bits))

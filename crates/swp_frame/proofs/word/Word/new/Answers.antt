@@ -107,16 +107,14 @@ window : (front bits : List Bool) (j k n : ℕ) → length bits ≡ n → length
 window front bits j k n l m =
     let whole : ℕ = spelled_number front * 2 ^ n + spelled_number bits in
     let all : ℕ = j + n + k in
-    let sized : length (front ++ bits) ≡ all = omega (arith, length-append front bits, l, m) in
     let same : low_bits all whole ≡ front ++ bits =
     ap (low_bits all) (sym (number_of-append front bits ∙ ap (λ p. spelled_number front * 2 ^ p + spelled_number bits) l))
-    ∙ low_bits-number_of (front ++ bits) all sized in
-    let places : all - (j + n) ≡ k = omega arith in
+    ∙ low_bits-number_of (front ++ bits) all (omega (arith, length-append front bits, l, m)) in
     ap (λ xs. spelled_number (take n (drop j xs))) (sym same)
     ∙ ap spelled_number (sym (low_bits-between all j n whole (omega arith)))
     ∙ number_of-low_bits n (whole / 2 ^ (all - (j + n)) % 2 ^ n)
     ∙ mod-eq_of_lt (mod_below (whole / 2 ^ (all - (j + n))) (2 ^ n) (pow_pos n))
-    ∙ ap (λ p. whole / 2 ^ p % 2 ^ n) places
+    ∙ ap (λ p. whole / 2 ^ p % 2 ^ n) (omega arith)
 
 -- the seven bits in front that have so many 1 bits at their end
 abbrev front_bit : ℕ → ℕ → Bool
@@ -145,11 +143,10 @@ before_right : (n x ones j k : ℕ) → x < 2 ^ n → ones ≤ 7 → 7 ≡ j + k
     → spelled_number (earlier (drop j (front_of_seven ones)) (low_bits n x)) ≡ before_of n x ones k
 before_right n x ones j k fits few e =
     let l = length-low_bits n x in
-    let is : spelled_number (low_bits n x) ≡ x = number_of-low_bits n x ∙ mod-eq_of_lt fits in
     ap (λ m. spelled_number (take m (drop j (front_of_seven ones) ++ low_bits n x))) l
     ∙ ap (λ xs. spelled_number (take n xs)) (sym (drop-front j (front_of_seven ones) (low_bits n x) (omega (arith, e))))
     ∙ window (front_of_seven ones) (low_bits n x) j k n l e
-    ∙ ap₂ (λ p q. (p * 2 ^ n + q) / 2 ^ k % 2 ^ n) (front_right ones few).0 is
+    ∙ ap₂ (λ p q. (p * 2 ^ n + q) / 2 ^ k % 2 ^ n) (front_right ones few).0 (number_of-low_bits n x ∙ mod-eq_of_lt fits)
   where
     drop-front : (j : ℕ) (xs ys : List Bool) → j ≤ length xs → drop j (xs ++ ys) ≡ drop j xs ++ ys
     drop-front zero xs ys h = refl
@@ -204,11 +201,10 @@ put_in_number n x ones fits few =
     let behind = five_right n x ones fits few in
     let l6 = length-earlier (drop 1 (front_of_seven ones)) n x in
     let no_six = length-map sixth not ∙ l6 in
-    let no_bits = length-map bits not ∙ length-low_bits n x in
     let together = length-both list (map not sixth) n behind.0 no_six in
     sym (ap spelled_number (put_in_places (front_bit ones 6) (front_bit ones 5) (front_bit ones 4) (front_bit ones 3) (front_bit ones 2) (front_bit ones 1)
     (front_bit ones 0) ones bits (front_right ones few).1)
-    ∙ number_of-both (both list (map not sixth)) (map not bits) n together no_bits
+    ∙ number_of-both (both list (map not sixth)) (map not bits) n together (length-map bits not ∙ length-low_bits n x)
     ∙ ap₂ bit_and
     (number_of-both list (map not sixth) n behind.0 no_six
     ∙ ap₂ bit_and behind.1 (number_of-none sixth n l6 ∙ ap (λ m. 2 ^ n - 1 - m) (before_right n x ones 1 6 fits few refl)))
@@ -224,11 +220,9 @@ marks_number n x ones fits few =
     let behind = five_right n x ones fits few in
     let l6 = length-earlier (drop 1 (front_of_seven ones)) n x in
     let l7 = length-earlier (front_of_seven ones) n x in
-    let no_seven = length-map seventh not ∙ l7 in
-    let together = length-both list sixth n behind.0 l6 in
     sym (ap spelled_number (mark_places (front_bit ones 6) (front_bit ones 5) (front_bit ones 4) (front_bit ones 3) (front_bit ones 2) (front_bit ones 1)
     (front_bit ones 0) ones bits (front_right ones few).1)
-    ∙ number_of-both (both list sixth) (map not seventh) n together no_seven
+    ∙ number_of-both (both list sixth) (map not seventh) n (length-both list sixth n behind.0 l6) (length-map seventh not ∙ l7)
     ∙ ap₂ bit_and
     (number_of-both list sixth n behind.0 l6 ∙ ap₂ bit_and behind.1 (before_right n x ones 1 6 fits few refl))
     (number_of-none seventh n l7 ∙ ap (λ m. 2 ^ n - 1 - m) (before_right n x ones 0 7 fits few refl)))
