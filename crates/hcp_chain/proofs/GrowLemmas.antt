@@ -2,12 +2,34 @@
 use Rattle.std.proofs.Common.{length-append}
 use Rattle.std.specs.Prelude.{Result, Ok, Err, IsOk, OnOk}
 use Rattle.std.proofs.lemmas.List.{map_push}
-use Rattle.hcp_chain.proofs.Words.{AllByRecursion, CanGrow, Chain, Grown, IsApart, IsLive, Joiner, KeepsOthers, List, Open, Packet, PoolState, [], ap, arith}
-use Rattle.hcp_chain.proofs.Words.{blocks_for, chain_bytes, length, subst, sum_by-cons, sum_by_push, sym, used_of, ℕ, ◌*◌, ◌++◌, ◌+◌, ◌∙◌, ◌∷◌, ◌≡◌, ◌≢◌, ◌≤◌}
-use Rattle.block_pool.specs.Pool.{Appends, chain_spare, more_blocks, spare_of}
-use Rattle.hcp_chain.specs.Holding.{message_of, messages_in, IsOwnOpen, AreApart, held_blocks}
+use Rattle.hcp_chain.proofs.Words.{AllByRecursion, Chain, IsApart, IsLive, Joiner, KeepsOthers, List, Open, Packet, PoolState, [], ap, arith, blocks_for}
+use Rattle.hcp_chain.proofs.Words.{chain_bytes, length, subst, sum_by-cons, sum_by_push, sym, used_of, with_used, ℕ, ◌*◌, ◌++◌, ◌+◌, ◌<◌, ◌∙◌, ◌∷◌, ◌≡◌, ◌≢◌}
+use Rattle.hcp_chain.proofs.Words.{◌≤◌}
+use Rattle.block_pool.specs.Pool.{Appends, chain_spare, more_blocks, quota_of, spare_of}
+use Rattle.hcp_chain.specs.Holding.{HoldsChains, IsApartFrom, message_of, messages_in, IsOwnOpen, AreApart, held_blocks}
 use Rattle.hcp_chain.proofs.HoldingLemmas.{all_push, all_map, all_both, apart_push}
 use Rattle.hcp_chain.proofs.ClearLemmas.{kept}
+
+-- a packet's data can be appended to a chain that was taken out
+pub record CanGrow (pool : PoolState) (joiner : Joiner) (p : Packet) (chain : Chain) : Type 0 where
+  pub room : length joiner.open.items < 4
+  pub live : IsLive pool chain
+  pub owned : chain.owner ≡ joiner.owner
+  pub fits : length (chain_bytes pool chain) + length p.bytes.items ≤ 4096
+  pub apart : AllByRecursion (λ x. (x.pipe ≢ p.pipe) × IsApart x.chain chain) joiner.open.items
+  pub holds : HoldsChains pool joiner.owner joiner.open.items
+  pub quota : quota_of pool joiner.owner ≡ 512
+  pub used : used_of pool joiner.owner ≡ blocks_for (length (chain_bytes pool chain)) + held_blocks pool joiner.open.items
+
+-- the data was appended, and the chain stands behind the others
+pub record Grown (old new : PoolState) (owner pipe : ℕ) (chain after : Chain) (xs : List Open) (bytes : List ℕ) : Type 0 where
+  pub bytes_are : chain_bytes new after ≡ bytes
+  pub holds : HoldsChains new owner (xs ++ record { pipe = pipe; chain = after } ∷ [])
+  pub used : new.owners ≡ with_used old.owners owner (held_blocks new (xs ++ record { pipe = pipe; chain = after } ∷ []))
+  pub others : (other : Chain) → IsLive old other → IsApartFrom xs other → IsApart other chain
+      → IsLive new other × (chain_bytes new other ≡ chain_bytes old other) × IsApartFrom (xs ++ record { pipe = pipe; chain = after } ∷ []) other
+  pub rest : messages_in new xs ≡ messages_in old xs
+  pub more : messages_in new (xs ++ record { pipe = pipe; chain = after } ∷ []) ≡ messages_in old xs ++ (pipe, bytes) ∷ []
 
 -- a message has at most 128 blocks
 held_low : (pool : PoolState) (owner : ℕ) (xs : List Open) → AllByRecursion (IsOwnOpen pool owner) xs → held_blocks pool xs ≤ 128 * length xs

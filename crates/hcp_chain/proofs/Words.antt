@@ -9,7 +9,6 @@ pub use Rattle.block_pool.specs.Pool.{Gives, HasQuota, IsApart, IsLive, KeepsOth
 pub use Rattle.block_pool.specs.Slots.{blocks_for}
 pub use Rattle.block_pool.specs.declared.chain.Chain.{Chain}
 pub use Rattle.block_pool.specs.declared.owners.Owner.{Owner}
-pub use Rattle.hcp_chain.specs.TakingOut.{CanGrow, Grown}
 pub use Rattle.hcp_chain.specs.declared.joiner.Joiner.{Joiner}
 pub use Rattle.hcp_chain.specs.declared.joiner.Open.{Open}
 pub use Rattle.hcp_packet.specs.declared.Packet.{Packet}

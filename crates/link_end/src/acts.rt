@@ -38,7 +38,7 @@ pub fn bring_to_front(acts: &mut ArrayVec<ActDue, 8>)
     *acts = moved;
 }
 
-// One SHDLC control frame fewer stands before each. Some wait, which they seldom do.
+// Counts one SHDLC control frame fewer before each act. A call of its own, since acts seldom wait.
 #[inline(never)]
 fn bring_nearer(acts: &mut ArrayVec<ActDue, 8>)
     ensures { acts.new.items ≡ map kept_nearer acts.old.items }

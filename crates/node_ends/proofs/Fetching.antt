@@ -1,5 +1,5 @@
 -- A frame comes to an end, and the message that it brings is fetched.
-use Rattle.std.specs.Prelude.{option_to_list}
+use Rattle.std.specs.Prelude.{IfSome, option_to_list}
 use Rattle.node_ends.proofs.Words.{Accounts, AllByRecursion, Chain, Control, End, EndStandsFor, Err, FetchMessage, HoldsEnd, List, LpduFault, Machine, Message}
 use Rattle.node_ends.proofs.Words.{Moves, None, Ok, Open, Option, PoolState, Result, Some, Take, Waiting, [], ap, arith, chain_bytes, chain_of, control_of}
 use Rattle.node_ends.proofs.Words.{drop, false, got_by, is_some, length, lpdu_input, messages_waiting, oldest, option_map, refl, report, report_told, subst}
@@ -10,9 +10,16 @@ use Rattle.link_messages.specs.declared.inbox.Got.{Got}
 use Rattle.link_messages.specs.Incoming.{got_chains}
 use Rattle.link_end.specs.Ends.{MayTake}
 use Rattle.link_end.proofs.AccountLemmas.{rests, rests_may_take, may_take_held}
-use Rattle.node_ends.specs.Holding.{WaitsHeld, as_waiting}
 use Rattle.node_ends.proofs.Apart.{is_outside}
 use Rattle.node_ends.proofs.Quiet.{held_gets_none}
+
+-- while a message waits, the end is held
+abbrev pub WaitsHeld : Option Waiting → End → Type 0
+WaitsHeld waiting k = IfSome waiting (λ w. k.shdlc.ready ≡ false)
+
+-- a message that was fetched waits
+abbrev pub as_waiting : ℕ × Chain → Waiting
+as_waiting x = record { pipe = x.0; chain = x.1 }
 
 -- at most one message came
 one_in : (pool : PoolState) (g : Option Got) → drop 1 (messages_of pool (got_chains g)) ≡ []

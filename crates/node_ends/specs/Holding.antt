@@ -1,5 +1,5 @@
 -- What is kept of one end with the message that waits there for its turn, and for which states of the end's machine it stands.
-use Rattle.std.specs.Prelude.{◌≡◌, ℕ, ◌+◌, ◌≤◌, min, length, List, [], ◌∷◌, Option, Some, None, IfSome, Bool, false, is_some, if◌then◌else◌, Result, Ok, Err}
+use Rattle.std.specs.Prelude.{◌≡◌, ℕ, ◌+◌, ◌≤◌, min, length, List, [], ◌∷◌, Option, Some, None, Bool, false, is_some, if◌then◌else◌, Result, Ok, Err}
 use Rattle.std.specs.List.{AllByRecursion}
 use Rattle.block_pool.specs.declared.chain.Chain.{Chain}
 use Rattle.block_pool.specs.Pool.{PoolState, chain_bytes}
@@ -42,14 +42,6 @@ pub record Moves (old new : PoolState) (before after : End) : Type 0 where
   pub receiver : after.inbox.joiner.owner ≡ before.inbox.joiner.owner
   pub beside : (other : End) (waiting : Option Waiting) (m : Machine) → HaveOwners before other → HoldsEnd old other waiting m
       → HoldsEnd new other waiting m
-
--- while a message waits, the end is held
-abbrev pub WaitsHeld : Option Waiting → End → Type 0
-WaitsHeld waiting k = IfSome waiting (λ w. k.shdlc.ready ≡ false)
-
--- a message that was fetched waits
-abbrev pub as_waiting : ℕ × Chain → Waiting
-as_waiting x = record { pipe = x.0; chain = x.1 }
 
 -- an end of some role comes to this state
 pub record IsReached (m : Machine) : Type 0 where

@@ -1,10 +1,10 @@
-use Rattle.hcp_chain.proofs.Words.{CanGrow, Chain, Grown, IsApart, IsLive, List, Open, [], append-nil, arith, chain_bytes, common_steps, rules, subst, sym}
+use Rattle.hcp_chain.proofs.Words.{Chain, IsApart, IsLive, List, Open, [], append-nil, arith, chain_bytes, common_steps, rules, subst, sym}
 use Rattle.hcp_chain.proofs.Words.{◌++◌, ◌∙◌, ◌∷◌, ◌≡◌, ◌≢◌}
 use Rattle.hcp_chain.specs.Holding.{IsApartFrom, whole_in}
 use Rattle.hcp_chain.proofs.HoldingLemmas.{all_map}
 use Rattle.hcp_chain.proofs.ClearLemmas.{HasOneMore, all_given, ready_again}
 use Rattle.hcp_packet.specs.Packets.{packet_seen}
-use Rattle.hcp_chain.proofs.GrowLemmas.{of_ok, room_for, grows}
+use Rattle.hcp_chain.proofs.GrowLemmas.{CanGrow, Grown, of_ok, room_for, grows}
 use Rattle.hcp_chain.proofs.joiner.Joiner.take_view.Goals as goal
 use Rattle.hcp_chain.proofs.joiner.Joiner.take_view.Goals.{After-take}
 

@@ -4,11 +4,11 @@ use Rattle.node_ends.proofs.Words.{SeatBecomes, Some, Start, Stop, Waiting, acco
 use Rattle.node_ends.proofs.Words.{oldest, option_map, refl, report, subst, sym, without_got, ℕ, ◌∙◌, ◌≡◌}
 use Rattle.link_end.specs.Roles.{MayStart}
 use Rattle.node_ends.proofs.Counting.{reset_done}
-use Rattle.node_ends.proofs.Fetching.{fetches, none_got, none_came, none_waited, lpdu_told_apart, lpdu_is_outside, moves_on}
+use Rattle.node_ends.proofs.Fetching.{WaitsHeld, as_waiting, fetches, none_got, none_came, none_waited, lpdu_told_apart, lpdu_is_outside, moves_on}
 use Rattle.node_ends.proofs.Coming.{still_holds, reset_so, start_told_apart, stop_told_apart}
 use Rattle.node_ends.proofs.Keeping.{Takes, takes, refuses, not_refused, why_refused, side_takes, frame_is}
 use Rattle.node_ends.proofs.Moving.{call_moves, few_controls}
-use Rattle.node_ends.specs.Holding.{HoldsSeat, Moves, WaitsHeld, as_waiting}
+use Rattle.node_ends.specs.Holding.{HoldsSeat, Moves}
 use Rattle.node_ends.specs.Ends.{IsHeldWhileOneWaits, SeatStandsFor}
 use Rattle.node_machine.specs.Parts.{Port}
 use Rattle.link_end.specs.Reports.{report_told}
