@@ -46,23 +46,23 @@ grown_held slots o b bytes live =
     let before : blocks_in o (slot slots b) ≡ blocks_for (length (held_bytes slots b)) = grind arith in
     let after : blocks_in o (Some (record { owner = o; bytes = held_bytes slots b ++ bytes })) ≡ blocks_for (length (held_bytes slots b) + length bytes) =
     in_same o (held_bytes slots b ++ bytes) ∙ ap blocks_for (length-append (held_bytes slots b) bytes) in
-    omega (arith, (held_set slots b (Some (record { owner = o; bytes = held_bytes slots b ++ bytes })) o (slot_low slots b live.0)), before, after)
+    omega (arith, held_set slots b (Some (record { owner = o; bytes = held_bytes slots b ++ bytes })) o (slot_low slots b live.0), before, after)
 
 grown_others : (slots : List (Option Held)) (o b p : ℕ) (bytes : List ℕ) → IsLiveAt slots o (Some b) → p ≢ o
     → blocks_held (with_chain slots b o bytes) p ≡ blocks_held slots p
 grown_others slots o b p bytes live apart =
     let before : blocks_in p (slot slots b) ≡ 0 = ap (blocks_in p) (live_slot slots o b live) ∙ in_other p o (held_bytes slots b) apart in
-    omega (arith, (held_set slots b (Some (record { owner = o; bytes = bytes })) p (slot_low slots b live.0)), before, (in_other p o bytes apart))
+    omega (arith, held_set slots b (Some (record { owner = o; bytes = bytes })) p (slot_low slots b live.0), before, in_other p o bytes apart)
 
 begun_held : (slots : List (Option Held)) (o b : ℕ) (bytes : List ℕ) → b < length slots → slot slots b ≡ None
     → blocks_held (with_chain slots b o bytes) o ≡ blocks_held slots o + blocks_for (length bytes)
 begun_held slots o b bytes low none =
-    omega (arith, (held_set slots b (Some (record { owner = o; bytes = bytes })) o low), (ap (blocks_in o) none), in_same o bytes)
+    omega (arith, held_set slots b (Some (record { owner = o; bytes = bytes })) o low, ap (blocks_in o) none, in_same o bytes)
 
 begun_others : (slots : List (Option Held)) (o b p : ℕ) (bytes : List ℕ) → b < length slots → slot slots b ≡ None → p ≢ o
     → blocks_held (with_chain slots b o bytes) p ≡ blocks_held slots p
 begun_others slots o b p bytes low none apart =
-    omega (arith, (held_set slots b (Some (record { owner = o; bytes = bytes })) p low), (ap (blocks_in p) none), in_other p o bytes apart)
+    omega (arith, held_set slots b (Some (record { owner = o; bytes = bytes })) p low, ap (blocks_in p) none, in_other p o bytes apart)
 
 no_blocks : blocks_for 0 ≡ 0
 no_blocks = refl
@@ -101,7 +101,7 @@ pub remove_others : (slots : List (Option Held)) (o : ℕ) (name : Option ℕ) (
 remove_others slots o None p live apart = refl
 remove_others slots o (Some b) p live apart =
     let before : blocks_in p (slot slots b) ≡ 0 = ap (blocks_in p) (live_slot slots o b live) ∙ in_other p o (held_bytes slots b) apart in
-    omega (arith, (held_set slots b None p (slot_low slots b live.0)), before)
+    omega (arith, held_set slots b None p (slot_low slots b live.0), before)
 
 -- a chain put back where one was removed
 pub again_held : (slots : List (Option Held)) (o q : ℕ) (name : Option ℕ) → IsLiveAt slots o name

@@ -31,7 +31,7 @@ at_once (x ∷ xs) region place fits =
     let behind : drop ((place + 1) + length xs) after ≡ drop (place + length (x ∷ xs)) region =
     drop-set-lt ((place + 1) + length xs) region place x (omega arith) ∙ ap (λ n. drop n region) (sym (omega arith)) in
     sym
-    (sym (at_once xs after (place + 1) (omega (arith, (length-set region place x))))
+    (sym (at_once xs after (place + 1) (omega (arith, length-set region place x)))
     ∙ (ap (λ ys. ys ++ (xs ++ drop ((place + 1) + length xs) after)) (take_more_set region place x (omega arith))
     ∙ (append_assoc (take place region) (x ∷ []) (xs ++ drop ((place + 1) + length xs) after)
     ∙ ap (λ ys. take place region ++ (x ∷ (xs ++ ys))) behind)))

@@ -109,7 +109,7 @@ pub counted_keeps : (old new : PoolState) (o used aside : ℕ) (chain : Chain) �
     → IsLive new chain × (chain_bytes new chain ≡ chain_bytes old chain)
 counted_keeps old new o used aside chain slots owners live =
     let len : length new.owners ≡ length old.owners = ap length owners
-    ∙ length-set old.owners o (record { quota = (owner_at old.owners o).quota; used = used; aside = aside }) in (grind arith)
+    ∙ length-set old.owners o (record { quota = (owner_at old.owners o).quota; used = used; aside = aside }) in grind arith
 
 -- a use that is counted anew
 pub with_used-with_used : (owners : List Owner) (o a b : ℕ) → o < length owners → with_used (with_used owners o a) o b ≡ with_used owners o b

@@ -77,9 +77,7 @@ module _ (region next : List ℕ) (heads : List (Option Head)) (free free_len : 
 
   -- the block that has room is the last one
   last_has_room : (b : ℕ) (head : Head) → get_or heads b None ≡ Some head → 0 < head.len % 32 → block_at next b (head.len / 32) ≡ head.last
-  last_has_room b head at room =
-      let e : head.len / 32 ≡ blocks_for head.len - 1 = omega arith in
-      ap (block_at next b) e ∙ (sound.chains b head at).last
+  last_has_room b head at room = ap (block_at next b) (omega arith) ∙ (sound.chains b head at).last
 
   -- the chain's bytes after a byte more in its last block
   pub pushed_bytes : (b : ℕ) (head : Head) (byte : ℕ) → get_or heads b None ≡ Some head → 0 < head.len % 32
@@ -87,18 +85,16 @@ module _ (region next : List ℕ) (heads : List (Option Head)) (free free_len : 
   pushed_bytes b head byte at room =
       let chain = sound.chains b head at in
       let place = 32 * head.last + head.len % 32 in
-      let last_in : head.last < sound.count = (last_marked chain).0 in
-      let in_region : place < length region = omega (arith, last_in, sound.bytes) in
+      let in_region : place < length region = omega (arith, (last_marked chain).0, sound.bytes) in
       let new_byte : linked_byte (set region place byte) next b head.len ≡ byte =
       ap (λ x. get_or (set region place byte) (32 * x + head.len % 32) 0) (last_has_room b head at room) ∙ get_or-set_same region place byte 0 in_region in
       let before : laid_bytes (set region place byte) next b head.len ≡ laid_bytes region next b head.len =
       same_bytes region next (set region place byte) next b head.len (λ i low.
       let m = block_of_byte chain i low in
-      let l = last_marked chain in
       get_or-set_other region place (32 * block_at next b (i / 32) + i % 32) byte 0
       (λ same.
       let blocks : block_at next b (i / 32) ≡ head.last = omega arith in
-      let parts = same_mark sound.mark (block_at next b (i / 32)) head.last b (i / 32) b (blocks_for head.len - 1) m.1 l.1 blocks in
+      let parts = same_mark sound.mark (block_at next b (i / 32)) head.last b (i / 32) b (blocks_for head.len - 1) m.1 (last_marked chain).1 blocks in
       let place_is : i / 32 ≡ blocks_for head.len - 1 = parts.1 in
       let offsets : i % 32 ≡ head.len % 32 = omega arith in
       absurd (omega arith))) in
@@ -114,11 +110,10 @@ module _ (region next : List ℕ) (heads : List (Option Head)) (free free_len : 
       let low : b < length heads = omega (arith, in_pool chain, sound.counted) in
       let longer : Head = record { owner = head.owner; last = head.last; len = head.len + 1; read_on = head.read_on; passed = head.passed } in
       let place = 32 * head.last + head.len % 32 in
-      let l = last_marked chain in
       slots_set (record {
         low = low;
         here = ap (λ bs. Some (record { owner = head.owner; bytes = bs })) (pushed_bytes b head byte at room);
-        others = λ c apart. other_held c (get_or heads c None) refl b head l.1 apart;
+        others = λ c apart. other_held c (get_or heads c None) refl b head (last_marked chain).1 apart;
       })
     where
       other_held : (c : ℕ) (h : Option Head) → get_or heads c None ≡ h → (b : ℕ) (head : Head) → sound.mark head.last ≡ (b, blocks_for head.len - 1) → c ≢ b
@@ -162,11 +157,9 @@ module _ (region next : List ℕ) (heads : List (Option Head)) (free free_len : 
   pub begin_sound : (owner byte place after : ℕ) → 0 < free_len → after ≡ get_or next free 0 → AreSoundBlocks (set region place byte) next
       (set heads free (Some (record { owner = owner; last = free; len = 1; read_on = free; passed = 0 }))) after (free_len - 1)
   begin_sound owner byte place after some is_next =
-      let first = first_free some in
-      let low : free < length heads = omega (arith, first.0, sound.counted) in
+      let low : free < length heads = omega (arith, (first_free some).0, sound.counted) in
       let new : Head = record { owner = owner; last = free; len = 1; read_on = free; passed = 0 } in
       let mark = λ (x : ℕ). popped sound.count free 0 (sound.mark x) in
-      let begun : IsChain next mark sound.count free new = grind arith in
       record {
         count = sound.count;
         counted = length-set heads free (Some new) ∙ sound.counted;
@@ -177,7 +170,7 @@ module _ (region next : List ℕ) (heads : List (Option Head)) (free free_len : 
         chains = λ c h e. elim (cases_eq c free) [
           | inl same ↦ subst (λ x. IsChain next mark sound.count x h) (sym same)
               (subst (λ g. IsChain next mark sound.count free g)
-              (sym (this_head free new h low (subst (λ x. get_or (set heads free (Some new)) x None ≡ Some h) same e))) begun)
+              (sym (this_head free new h low (subst (λ x. get_or (set heads free (Some new)) x None ≡ Some h) same e))) (grind arith))
           | inr apart ↦ popped_chain free 0 next c h (other_head free (Some new) c (Some h) apart e) (λ i low. refl)
         ];
         spare = popped_spare free 0 next after is_next (λ i low. refl);
@@ -194,11 +187,10 @@ module _ (region next : List ℕ) (heads : List (Option Head)) (free free_len : 
       let first = first_free some in
       let low : free < length heads = omega (arith, first.0, sound.counted) in
       let new : Head = record { owner = owner; last = free; len = 1; read_on = free; passed = 0 } in
-      let plain : 32 * free + 0 ≡ 32 * free = omega arith in
       slots_set (record {
         low = low;
         here = ap (λ bs. Some (record { owner = owner; bytes = bs })) (begun_bytes byte some);
-        others = λ c apart. ap (λ i. held_by (set region i byte) next c (get_or heads c None)) (sym plain)
+        others = λ c apart. ap (λ i. held_by (set region i byte) next c (get_or heads c None)) (sym (omega arith))
             ∙ other_held c (get_or heads c None) refl first.1;
       })
     where
@@ -265,8 +257,7 @@ module _ (region next : List ℕ) (heads : List (Option Head)) (free free_len : 
       (slots_of region next heads) b head.owner (laid_bytes region next b head.len ++ byte ∷ [])
   push_in_new_block_slots b head byte at full some =
       let chain = sound.chains b head at in
-      let b_low = in_pool chain in
-      let low : b < length heads = omega (arith, b_low, sound.counted) in
+      let low : b < length heads = omega (arith, in_pool chain, sound.counted) in
       let head_some : 0 < head.len = chain.some in
       let longer : Head = record { owner = head.owner; last = free; len = head.len + 1; read_on = head.read_on; passed = head.passed } in
       let first = first_free some in
@@ -324,8 +315,7 @@ module _ (region next : List ℕ) (heads : List (Option Head)) (free free_len : 
       → AreSoundBlocks region (set next head.last free) (set heads b None) b (free_len + blocks_for head.len)
   free_chain_sound b head at =
       let chain = sound.chains b head at in
-      let b_low = in_pool chain in
-      let low : b < length heads = omega (arith, b_low, sound.counted) in
+      let low : b < length heads = omega (arith, in_pool chain, sound.counted) in
       let head_some : 0 < head.len = chain.some in
       let l = last_marked chain in
       let n = blocks_for head.len in
@@ -349,8 +339,7 @@ module _ (region next : List ℕ) (heads : List (Option Head)) (free free_len : 
         chains = λ c h e. elim (cases_eq c b) [
           | inl same ↦ absurd (none_is_some h (sym (ap (λ x. get_or (set heads b None) x None) same ∙ get_or-set_same heads b None None low) ∙ e))
           | inr apart ↦
-              let at_c = other_head b None c (Some h) apart e in
-              let c_chain = sound.chains c h at_c in
+              let c_chain = sound.chains c h (other_head b None c (Some h) apart e) in
               let c_low = in_pool c_chain in
               let c_some : 0 < h.len = c_chain.some in
               let same = λ (i : ℕ) (i_low : i < blocks_for h.len). other_link c_chain head.last free b (n - 1) l.1
@@ -371,13 +360,11 @@ module _ (region next : List ℕ) (heads : List (Option Head)) (free free_len : 
           | inr further ↦
               let j = k - n in
               let m = sound.spare j (omega arith) in
-              let sum : n + j ≡ k = omega arith in
-              let turned : j + n ≡ k = omega arith in
               let place : block_at next' b k ≡ block_at next free j =
-              ap (block_at next' b) (sym sum) ∙ (sym (behind next' b n j) ∙ (ap (λ x. block_at next' x j) behind_last
+              ap (block_at next' b) (sym (omega arith)) ∙ (sym (behind next' b n j) ∙ (ap (λ x. block_at next' x j) behind_last
               ∙ free_link sound head.last free b (n - 1) l.1 (λ s. absurd (omega arith)) j (omega arith))) in
               subst (λ x. IsMarked mark sound.count x sound.count k) (sym place)
-              (m.0, ap (freed sound.count b n) m.1 ∙ (freed_free sound.count b n j count_apart ∙ ap (λ i. (sound.count, i)) turned))
+              (m.0, ap (freed sound.count b n) m.1 ∙ (freed_free sound.count b n j count_apart ∙ ap (λ i. (sound.count, i)) (omega arith)))
         ];
         all = omega (arith, sum_by-set head_blocks heads b None None low, ap head_blocks at, sound.all);
       }
@@ -387,8 +374,7 @@ module _ (region next : List ℕ) (heads : List (Option Head)) (free free_len : 
   free_chain_slots b head at =
       let chain = sound.chains b head at in
       let low : b < length heads = omega (arith, in_pool chain, sound.counted) in
-      let l = last_marked chain in
-      slots_set (record { low = low; here = refl; others = λ c apart. other_held c (get_or heads c None) refl b head l.1 apart })
+      slots_set (record { low = low; here = refl; others = λ c apart. other_held c (get_or heads c None) refl b head (last_marked chain).1 apart })
     where
       other_held : (c : ℕ) (h : Option Head) → get_or heads c None ≡ h → (b : ℕ) (head : Head) → sound.mark head.last ≡ (b, blocks_for head.len - 1) → c ≢ b
           → held_by region (set next head.last free) c (get_or heads c None) ≡ held_by region next c (get_or heads c None)

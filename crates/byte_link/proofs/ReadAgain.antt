@@ -108,8 +108,7 @@ tail_length : (lpdu : List ℕ) (high low : ℕ) → length (lpdu ++ high ∷ lo
 tail_length lpdu high low = length-append lpdu (high ∷ low ∷ [])
 
 checked_again : (lpdu : List ℕ) (crc : ℕ) → crc ≡ crc_of lpdu → checked (lpdu ++ crc / 256 ∷ crc % 256 ∷ []) ≡ Frame lpdu
-checked_again lpdu crc is =
-    (rw (← (is ∙ ap crc_of (sym body)), ← value, eq-eqb crc crc refl) refl) ∙ ap Frame body
+checked_again lpdu crc is = (rw (← (is ∙ ap crc_of (sym body)), ← value, eq-eqb crc crc refl) refl) ∙ ap Frame body
   where
     long : length (lpdu ++ crc / 256 ∷ crc % 256 ∷ []) ≡ length lpdu + 2
     long = tail_length lpdu (crc / 256) (crc % 256)

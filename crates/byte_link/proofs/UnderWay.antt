@@ -96,8 +96,7 @@ all_lost (b ∷ bytes) seen over =
 -- ---- how many bytes come before the last one
 
 short_of : (h m count : ℕ) (rest : List ℕ) → 256 * h + m ≡ count → 0 < count → count ≤ 30 → IsPartial (h ∷ m ∷ take (count + 1) rest)
-short_of h m count rest same low high =
-    (omega (arith, same, low), omega (arith, same, high), omega (arith, same, length-take (count + 1) rest))
+short_of h m count rest same low high = (omega (arith, same, low), omega (arith, same, high), omega (arith, same, length-take (count + 1) rest))
 
 pub before_last : (h m count : ℕ) (rest : List ℕ) → 256 * h + m ≡ count → 0 < count → count ≤ 30 → IsPartial (take (count + 3) (h ∷ m ∷ rest))
 before_last h m count rest same low high =

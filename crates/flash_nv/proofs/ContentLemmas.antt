@@ -199,8 +199,7 @@ pub spent_before : (old mid new : List ℕ) (at : ℕ) (bytes : List ℕ) (done 
 spent_before old mid new at bytes done s from place small more fits edge front last same = grind arith
 
 pub part-length : (xs : List ℕ) (from len : ℕ) → from + len ≤ length xs → length (slice_range xs from (from + len)) ≡ len
-part-length xs from len inside =
-    length-take (from + len - from) (drop from xs) ∙ ap (min (from + len - from)) (length-drop from xs) ∙ omega arith
+part-length xs from len inside = length-take (from + len - from) (drop from xs) ∙ ap (min (from + len - from)) (length-drop from xs) ∙ omega arith
 
 -- the header and the bytes of a page that was read whole
 pub image_header : (cells image : List ℕ) (p : ℕ) → image ≡ slice_range cells (512 * p) (512 * p + 274) → take 18 image ≡ header_at cells p

@@ -39,8 +39,7 @@ pub found_older : (cells : List ℕ) (n : ℕ) (header : List ℕ) (pages : List
     → sector_of header < 256 → version ≡ version_of header
     → beats (slice_index_or pages (sector_of header) None) (slice_index versions (sector_of header)) version ≡ false
     → ArePagesFound cells n pages versions → ArePagesFound cells (n + 1) pages versions
-found_older cells n header pages versions version is inside v older found =
-    pass cells n pages versions found (λ s small. (grind arith))
+found_older cells n header pages versions version is inside v older found = pass cells n pages versions found (λ s small. (grind arith))
   where
     at : ℕ
     at = sector_of header

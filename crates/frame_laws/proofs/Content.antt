@@ -26,8 +26,7 @@ bytes_with (x ∷ lpdu) high low h a b = (h.0, bytes_with lpdu high low h.1 a b)
 
 -- the bytes of an LPDU with its CRC are judged to be this LPDU
 right_bytes : (lpdu : List ℕ) (crc : ℕ) → crc ≡ crc_of lpdu → judged_bytes (lpdu ++ crc / 256 ∷ crc % 256 ∷ []) ≡ Frame lpdu
-right_bytes lpdu crc is =
-    sym (crc_is_right (lpdu ++ crc / 256 ∷ crc % 256 ∷ []) crc crc (is ∙ ap crc_of (sym body)) value refl) ∙ ap Frame body
+right_bytes lpdu crc is = sym (crc_is_right (lpdu ++ crc / 256 ∷ crc % 256 ∷ []) crc crc (is ∙ ap crc_of (sym body)) value refl) ∙ ap Frame body
   where
     long : length (lpdu ++ crc / 256 ∷ crc % 256 ∷ []) ≡ length lpdu + 2
     long = length-append lpdu (crc / 256 ∷ crc % 256 ∷ [])

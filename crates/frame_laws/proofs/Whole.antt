@@ -92,8 +92,7 @@ front_few (true ∷ bits) more ones h = (h.0, front_few bits more (ones + 1) h.1
 
 spelled_few : (spelling content : List Bool) → Spells spelling content → NoSixOnes 0 spelling
 spelled_few spelling content (inl same) = subst (NoSixOnes 0) (sym same) (stuffed_few content 0 (omega arith))
-spelled_few spelling content (inr ends) =
-    front_few spelling (false ∷ []) 0 (subst (NoSixOnes 0) ends.2 (stuffed_few content 0 (omega arith)))
+spelled_few spelling content (inr ends) = front_few spelling (false ∷ []) 0 (subst (NoSixOnes 0) ends.2 (stuffed_few content 0 (omega arith)))
 
 -- behind a start of frame, bits that spell a content and an end of frame give the verdict on this content
 pub spelled_is_judged : (seen : List Symbol) (spelling content : List Bool) (later : List Symbol) → Spells spelling content

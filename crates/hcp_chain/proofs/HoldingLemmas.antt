@@ -72,7 +72,7 @@ none_open : (pool : PoolState) (pipe : ℕ) (xs : List Open) → AllByRecursion 
 none_open pool pipe [] all = (refl, refl, refl)
 none_open pool pipe (x ∷ xs) all =
     let no = ne_eqb x.pipe pipe all.0 in
-    let rest = none_open pool pipe xs all.1 in (grind arith)
+    let rest = none_open pool pipe xs all.1 in grind arith
 
 -- the chain at a place has the pipe
 pub one_open : (pool : PoolState) (pipe : ℕ) (d : Open) (xs : List Open) (i : ℕ) → ArePairwiseApart xs → i < length xs → (get_or xs i d).pipe ≡ pipe
@@ -81,11 +81,11 @@ pub one_open : (pool : PoolState) (pipe : ℕ) (d : Open) (xs : List Open) (i : 
 one_open pool pipe d [] i apart low at = absurd (omega arith)
 one_open pool pipe d (x ∷ xs) zero apart low at =
     let yes = eq-eqb x.pipe pipe at in
-    let rest = none_open pool pipe xs (all_map (AreApart x) (λ y. y.pipe ≢ pipe) xs (λ y a e. a.pipes (at ∙ sym e)) apart.0) in (grind arith)
+    let rest = none_open pool pipe xs (all_map (AreApart x) (λ y. y.pipe ≢ pipe) xs (λ y a e. a.pipes (at ∙ sym e)) apart.0) in grind arith
 one_open pool pipe d (x ∷ xs) (suc i) apart low at =
     let differs : x.pipe ≢ pipe = λ e. (all_at (AreApart x) d xs i apart.0 (omega arith)).pipes (e ∙ sym at) in
     let no = ne_eqb x.pipe pipe differs in
-    let rest = one_open pool pipe d xs i apart.1 (omega arith) at in (grind arith)
+    let rest = one_open pool pipe d xs i apart.1 (omega arith) at in grind arith
 
 -- a search for the pipe that finds none
 none_far : (pipe : ℕ) (xs : List Open) → length xs ≤ prefix_len (λ x. not (eqb x.pipe pipe)) xs → AllByRecursion (λ x. x.pipe ≢ pipe) xs

@@ -40,15 +40,12 @@ eqb_self n = grind (arith, common_steps)
 
 -- a part that isn't the last
 pub parts_of-more : (pipe n : ℕ) (left : List ℕ) → parts_of pipe (suc (suc n)) left ≡ packet false pipe (take 28 left) ∷ parts_of pipe (suc n) (drop 28 left)
-parts_of-more pipe n left =
-    let more : eqb (suc n) 0 ≡ false = grind (arith, common_steps) in
-    ap (λ b. packet b pipe (take 28 left) ∷ parts_of pipe (suc n) (drop 28 left)) more
+parts_of-more pipe n left = ap (λ b. packet b pipe (take 28 left) ∷ parts_of pipe (suc n) (drop 28 left)) (grind (arith, common_steps))
 
 -- The last parts of a message end it: it is what was under way on the pipe and what was left.
 parts_joined : (pipe n : ℕ) (left : List ℕ) (before : List Packet) → length left ≤ 28 * suc n
     → messages_after before (parts_of pipe (suc n) left) ≡ (pipe, under_way pipe before ++ left) ∷ []
-parts_joined pipe zero left before fits =
-    ap (λ bytes. (pipe, under_way pipe before ++ bytes) ∷ []) (take_all 28 left (omega arith))
+parts_joined pipe zero left before fits = ap (λ bytes. (pipe, under_way pipe before ++ bytes) ∷ []) (take_all 28 left (omega arith))
 parts_joined pipe (suc n) left before fits =
     ap (messages_after before) (parts_of-more pipe n left)
     ∙ (parts_joined pipe n (drop 28 left) (before ++ packet false pipe (take 28 left) ∷ []) (omega (arith, length-drop 28 left))
@@ -62,8 +59,7 @@ parts_joined pipe (suc n) left before fits =
 -- Behind the last part of a message nothing is under way on its pipe, nor on others where nothing was.
 parts_end : (pipe n : ℕ) (left : List ℕ) (before : List Packet) (q : ℕ) → (eqb pipe q ≡ false → under_way q before ≡ [])
     → under_way q (before ++ parts_of pipe (suc n) left) ≡ []
-parts_end pipe zero left before q idle =
-    under_way-push q before (packet true pipe (take 28 left)) ∙ ended (eqb pipe q) (under_way q before) idle
+parts_end pipe zero left before q idle = under_way-push q before (packet true pipe (take 28 left)) ∙ ended (eqb pipe q) (under_way q before) idle
   where
     ended : (b : Bool) (bytes : List ℕ) → (b ≡ false → bytes ≡ []) → cond b [] bytes ≡ []
     ended true bytes idle = refl
@@ -88,8 +84,7 @@ joined_behind : (sent : List (ℕ × List ℕ)) → AreSendable sent → (before
 joined_behind [] sendable before idle = refl
 joined_behind (m ∷ sent) sendable before idle =
     let count = packet_count-suc (length m.1) sendable.0.1 in
-    let parts : packets_of m.0 m.1 ≡ parts_of m.0 (suc count.0) m.1 = ap (λ n. parts_of m.0 n m.1) count.1 in
-    ap (λ ps. messages_after before (ps ++ packets_of_all sent)) parts
+    ap (λ ps. messages_after before (ps ++ packets_of_all sent)) (ap (λ n. parts_of m.0 n m.1) count.1)
     ∙ (messages_after-append before (parts_of m.0 (suc count.0) m.1) (packets_of_all sent)
     ∙ (ap (λ ms. ms ++ messages_after (before ++ parts_of m.0 (suc count.0) m.1) (packets_of_all sent))
     (parts_joined m.0 count.0 m.1 before count.2 ∙ ap (λ bytes. (m.0, bytes ++ m.1) ∷ []) (idle m.0))
@@ -108,8 +103,7 @@ packet_of-bytes_of p low = by_mark p.last p.pipe p.bytes.items low
 pub packets_in-parts : (pipe n : ℕ) (left : List ℕ) → pipe < 112 → packets_in (map packet_bytes (parts_of pipe n left)) ≡ parts_of pipe n left
 packets_in-parts pipe zero left low = refl
 packets_in-parts pipe (suc n) left low =
-    let this = packet (eqb n 0) pipe (take 28 left) in
-    let read = packet_of-bytes_of this low in
+    let read = packet_of-bytes_of (packet (eqb n 0) pipe (take 28 left)) low in
     let rest = packets_in-parts pipe n (drop 28 left) low in
     cc
 
@@ -154,8 +148,7 @@ only_part (suc m) len low high =
 part_at : (pipe n : ℕ) (left : List ℕ) (k : ℕ) → 28 * k < length left → length left ≤ 28 * n → 28 * n < length left + 28
     → slice_get (parts_of pipe n left) k ≡ Some (packet_at pipe left (28 * k))
 part_at pipe zero left k in_left fits all = absurd (omega arith)
-part_at pipe (suc m) left zero in_left fits all =
-    ap (λ b. Some (packet b pipe (take 28 left))) (only_part m (length left) (omega arith) fits)
+part_at pipe (suc m) left zero in_left fits all = ap (λ b. Some (packet b pipe (take 28 left))) (only_part m (length left) (omega arith) fits)
 part_at pipe (suc m) left (suc k) in_left fits all =
     let behind =
     part_at pipe m (drop 28 left) k (omega (arith, length-drop 28 left)) (omega (arith, length-drop 28 left)) (omega (arith, length-drop 28 left)) in
@@ -166,5 +159,4 @@ part_at pipe (suc m) left (suc k) in_left fits all =
 
 pub packets_stand_in_place : (pipe : ℕ) (message : List ℕ) (k : ℕ) → 28 * k < length message
     → slice_get (packets_of pipe message) k ≡ Some (packet_at pipe message (28 * k))
-packets_stand_in_place pipe message k in_message =
-    part_at pipe (packet_count (length message)) message k in_message (omega arith) (omega arith)
+packets_stand_in_place pipe message k in_message = part_at pipe (packet_count (length message)) message k in_message (omega arith) (omega arith)

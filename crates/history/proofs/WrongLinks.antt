@@ -1,7 +1,7 @@
 -- Small wrong histories of one bare link aren't legal: one for each fact, and each is refused by that fact alone.
 use Rattle.std.proofs.Common.{true≢false}
-use Rattle.history.proofs.Words.{Bool, Cause, Caused, Entry, Event, Given, History, IsReadQuiet, IsReadSettled, Legal, List, None, Taken, WasReset, []}
-use Rattle.history.proofs.Words.{all_entries, ap, arith, entries_of, false, is_some, opening_of, refl, sym, true, ℕ, ◌++◌, ◌∷◌, ◌≡◌, ◌≤◌}
+use Rattle.history.proofs.Words.{Bool, Cause, Caused, Entry, Event, Given, History, IsReadSettled, Legal, List, None, Taken, WasReset, [], all_entries, ap}
+use Rattle.history.proofs.Words.{arith, false, is_some, opening_of, refl, sym, true, ℕ, ◌∷◌, ◌≡◌, ◌≤◌}
 use Rattle.swp_base.specs.declared.link_terms.Cause.TheVariants as cause
 use Rattle.trace_model.specs.declared.entry.Entry.TheVariants.{Down, Emit, Took, Sent, Got, Acked}
 use Rattle.history.proofs.Examples.{end_c, end_h}
@@ -58,13 +58,11 @@ abbrev early_acked : History
 early_acked = told (sends ∷ event (Taken (end_h 2)) (Acked (end_h 2) 0 1 ∷ []) ∷ [])
 
 acknowledged_before_it_is_got : Legal early_acked → ⊥
-acknowledged_before_it_is_got l =
-    true≢false (sym (ap is_empty ((l.in_order (all_entries early_acked) [] refl).acknowledged (end_h 2) 0).1))
+acknowledged_before_it_is_got l = true≢false (sym (ap is_empty ((l.in_order (all_entries early_acked) [] refl).acknowledged (end_h 2) 0).1))
 
 -- two messages are acknowledged where one was sent
 abbrev two_acked : History
-two_acked =
-    told (sends ∷ takes (took ∷ Got (end_c 2) 0 1 (3 ∷ []) ∷ answers ∷ []) ∷ event (Taken (end_h 2)) (Acked (end_h 2) 0 2 ∷ []) ∷ [])
+two_acked = told (sends ∷ takes (took ∷ Got (end_c 2) 0 1 (3 ∷ []) ∷ answers ∷ []) ∷ event (Taken (end_h 2)) (Acked (end_h 2) 0 2 ∷ []) ∷ [])
 
 more_acknowledged_than_sent : Legal two_acked → ⊥
 more_acknowledged_than_sent l =
@@ -77,18 +75,14 @@ abbrev frameless : List Event
 frameless = event (Given (end_h 2) (1, 3 ∷ [])) (Sent (end_h 2) 0 1 (3 ∷ []) ∷ []) ∷ []
 
 quiet_and_not_delivered : Legal (told frameless) → ⊥
-quiet_and_not_delivered l = true≢false (ap is_empty (l.complete frameless [] refl (end_h 2) 0 quiet).got) where
-  quiet : IsReadQuiet (opening_of 2 ++ entries_of frameless) (end_h 2) 0
-  quiet = record { here = refl; there = refl; lossless = refl; ready = refl; to_here = refl; to_there = refl }
+quiet_and_not_delivered l = true≢false (ap is_empty (l.complete frameless [] refl (end_h 2) 0 (grind arith)).got)
 
 -- a message is got, and its sender is never told
 abbrev untold : List Event
 untold = sends ∷ takes (took ∷ Got (end_c 2) 0 1 (3 ∷ []) ∷ []) ∷ []
 
 quiet_and_not_acknowledged : Legal (told untold) → ⊥
-quiet_and_not_acknowledged l = let same : 0 ≡ 1 = (l.complete untold [] refl (end_h 2) 0 quiet).acked in omega (arith, same) where
-  quiet : IsReadQuiet (opening_of 2 ++ entries_of untold) (end_h 2) 0
-  quiet = record { here = refl; there = refl; lossless = refl; ready = refl; to_here = refl; to_there = refl }
+quiet_and_not_acknowledged l = let same : 0 ≡ 1 = (l.complete untold [] refl (end_h 2) 0 (grind arith)).acked in omega (arith, same)
 
 -- ## Settled
 

@@ -184,8 +184,7 @@ bank_in_use o some = grind arith
 
 -- what it says with one more record
 abbrev pub one_more : Journal → List ℕ → Journal
-one_more j body =
-    record j { found = record { bodies = j.found.bodies ++ body ∷ []; size = j.found.size + (4 + length body); is_bad = false } }
+one_more j body = record j { found = record { bodies = j.found.bodies ++ body ∷ []; size = j.found.size + (4 + length body); is_bad = false } }
 
 module _ (c body : List ℕ) (started : IsStarted c) (h : HasRoomForBody (state_of c) body) (side : Side) (is : current c ≡ Some side) where
   abbrev body_bytes : Journal → List ℕ

@@ -46,8 +46,7 @@ length-bank c Second long = omega (arith, length-take 32768 (drop 32768 c), leng
 -- the bank that is written
 pub bank_here : (c : List ℕ) (side : Side) (i : ℕ) (bytes : List ℕ) → 65536 ≤ length c → i + length bytes ≤ 32768
     → bank (overwritten c (bank_place side + i) bytes) side ≡ overwritten (bank c side) i bytes
-bank_here c First i bytes long fits =
-    ap (λ m. take 32768 (overwritten c m bytes)) (zero-add i) ∙ take-overwritten c 32768 i bytes fits (omega arith)
+bank_here c First i bytes long fits = ap (λ m. take 32768 (overwritten c m bytes)) (zero-add i) ∙ take-overwritten c 32768 i bytes fits (omega arith)
 bank_here c Second i bytes long fits =
     ap (λ l. take 32768 (drop 32768 l)) (overwritten-split c 32768 i bytes (omega arith))
     ∙ ap (take 32768) (drop_at (take 32768 c) (overwritten (drop 32768 c) i bytes) 32768 (omega (arith, length-take 32768 c)))

@@ -12,8 +12,7 @@ use Rattle.line_capture.proofs.Shapes.{if_false}
 use Rattle.line_capture.proofs.Runs.{some_due, Runs, Ends, ends_at_first, ends_behind_high, ends_behind_bit, rise_below}
 
 abbrev line : ℕ → ℕ → Bool → Bool → Option Bool → ℕ → ℕ → ℕ → Line
-line unit at s1 s2 held rise until due =
-    record { unit = unit; at = at; s1 = s1; s2 = s2; held = held; rise = rise; until = until; due = due }
+line unit at s1 s2 held rise until due = record { unit = unit; at = at; s1 = s1; s2 = s2; held = held; rise = rise; until = until; due = due }
 
 abbrev high_byte : Bool → ℕ
 high_byte s2 = byte_of_shape Whole s2

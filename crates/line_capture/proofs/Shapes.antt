@@ -48,8 +48,7 @@ lone unit high whole short least most =
     both _ _ (both _ _ (le-leb high (16 * unit) short) (lt-ltb (11 * unit) whole least)) (lt-ltb whole (21 * unit) most)
 
 pub high_for_long : (unit high whole : ℕ) → 16 * unit < high → is_lone unit high whole ≡ false
-high_for_long unit high whole long =
-    not_first _ _ (not_first (nat_le high (16 * unit)) (nat_lt (11 * unit) whole) (lt-leb high (16 * unit) long))
+high_for_long unit high whole long = not_first _ _ (not_first (nat_le high (16 * unit)) (nat_lt (11 * unit) whole) (lt-leb high (16 * unit) long))
 
 pub whole_is_long : (unit high whole : ℕ) → 21 * unit ≤ whole → is_lone unit high whole ≡ false
 whole_is_long unit high whole long =

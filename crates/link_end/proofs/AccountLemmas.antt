@@ -46,12 +46,11 @@ untouched_stands : (old new : PoolState) (k : End) (m : Machine) → EndStandsFo
 untouched_stands old new k m h u =
     let before = h.halfway in
     let box = k.inbox in
-    let o = k.outbox.owner in
     let i = box.joiner.owner in
     let kept = before.sends.lies.kept in
     let lies = before.receives.lies in
     let len = u.lengths in
-    let sent = kept_each Queued chain_in old new o k.outbox.queue.items kept.own u.queued in
+    let sent = kept_each Queued chain_in old new k.outbox.owner k.outbox.queue.items kept.own u.queued in
     let same : queued_messages new k.outbox ≡ queued_messages old k.outbox = messages_same old new k.outbox.queue.items sent.bytes in
     let waits : waiting_in new k.outbox ≡ waiting_in old k.outbox = ap (λ l. drop k.outbox.cut (fragments_of l)) same in
     let out_used = ap (λ (x : Owner). x.used) u.sender in
@@ -185,7 +184,7 @@ rests_may_take k pool r =
     let got = r.fetched in
     let chains : chains_in k.inbox ≡ k.inbox.joiner.open.items = ap (λ g. k.inbox.joiner.open.items ++ got_chains g) got
     ∙ append-nil k.inbox.joiner.open.items in
-    record { fetched = got; free = inl (omega (arith, r.accounts.used, (ap (held_blocks pool) chains))) }
+    record { fetched = got; free = inl (omega (arith, r.accounts.used, ap (held_blocks pool) chains)) }
 
 pub rests : (k : End) (pool : PoolState) (m : Machine) → EndStandsFor k pool m → Accounts k pool None → m.got ≡ [] → Rests k pool
 rests k pool m h a none = record { state = m; stands = h; fetched = fetched_all pool k m h none; accounts = a }
@@ -220,7 +219,7 @@ fetched_counted {pool} {k} {inbox} {x = Some y} h a f =
     let apart = all_map (λ x. AreApart x one) (λ x. IsApart y.1 x.chain) xs (λ x d first p q. d.chains first q p) (apart_front xs one holds.apart).1 in
     subst P (ap (λ j. record { joiner = j; got = None }) (sym f.joiner) ∙ ap (λ g. record { joiner = inbox.joiner; got = g }) (sym f.fetched)) (record {
       fetched = record { live = own.1.live; owned = own.1.owned; apart = subst (λ l. IsApartFrom l y.1) (sym (append-nil xs)) apart };
-      used = omega (arith, a.used, (ap (held_blocks pool) chains), (held_both pool xs (one ∷ [])), (ap (held_blocks pool) (append-nil xs)));
+      used = omega (arith, a.used, ap (held_blocks pool) chains, held_both pool xs (one ∷ []), ap (held_blocks pool) (append-nil xs));
     })
 
 -- ---- a message that was fetched goes away
@@ -391,7 +390,7 @@ passed_taker {old} {new} {to = to} {theirs = theirs} after a differ g b inbox l 
     let moved = fetched_stays old new to theirs stay b.fetched in
     let used = ap (λ (x : Owner). x.used) (l.counts i (λ e. g.halfway.differ (sym e)) (λ e. differ.receivers (sym t.owned ∙ sym e))) in
     let P : Inbox → Type 0 = λ box. used_of new box.joiner.owner ≡ held_blocks new (chains_in box) + blocks_of new theirs in
-    record { fetched = (grind arith); used = subst P (sym inbox) (omega (arith, used, b.used, all.blocks, moved.1)) }
+    record { fetched = grind arith; used = subst P (sym inbox) (omega (arith, used, b.used, all.blocks, moved.1)) }
 
 -- ---- a new pool
 

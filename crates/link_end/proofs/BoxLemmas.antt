@@ -175,4 +175,4 @@ inbox_passed {old} {new} {k} {chain = chain} h may leaves =
     let stays : (quota_of new o ≡ 512) × (held_blocks new (chains_in box) ≤ used_of new o) = elim (cases_eq chain.owner o) [
       | inl same ↦ (grind arith)
       | inr apart_owner ↦ (grind arith)
-    ] in (grind arith)
+    ] in grind arith

@@ -168,14 +168,12 @@ cut_enough {k} {pool} {m} {c} {t = t} h going =
     ∙ length-append next.offered (waiting_in pool k.outbox) in
     let len_old : length (fragments_of m.sent) ≡ length link.offered + length (waiting_in pool k.outbox) = ap length (sym sends.out ∙ link.out)
     ∙ length-append link.offered (waiting_in pool k.outbox) in
-    let some = next.kept.sender.offered in
-    let some_old = link.kept.sender.offered in
     let waits : length (waiting_in pool k.outbox) ≡ length (fragments_of (queued_messages pool k.outbox)) - k.outbox.cut =
     length-drop k.outbox.cut (fragments_of (queued_messages pool k.outbox)) in
-    let whole = whole-length m.sent m.shdlc.session.acked (omega (arith, len_old, some_old)) in
+    let whole = whole-length m.sent m.shdlc.session.acked (omega (arith, len_old, link.kept.sender.offered)) in
     let left : length (fragments_of (queued_messages pool k.outbox)) ≡ length
     (fragments_of (drop (whole_among m.sent m.shdlc.session.acked) m.sent)) = grind arith in
-    omega (arith, acked, len_now, some, waits, whole.0, whole.1, left, sends.lies.cut, sends.acked)
+    omega (arith, acked, len_now, next.kept.sender.offered, waits, whole.0, whole.1, left, sends.lies.cut, sends.acked)
 
 -- ---- a session that goes on
 

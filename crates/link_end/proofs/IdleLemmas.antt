@@ -11,7 +11,7 @@ stands_whole k waiting e h full empty =
     elim full [
       | inl none ↦
           subst (λ (o : List Fragment). ShdlcStandsFor k (with_out e o)) (sym (h.out ∙ (ap (λ w. h.offered ++ w) none ∙ append-nil h.offered))) h.kept
-      | inr four ↦ absurd (omega (arith, four, h.kept.sender.offered, (ap length empty)))
+      | inr four ↦ absurd (omega (arith, four, h.kept.sender.offered, ap length empty))
     ]
 
 pub idle_end : (k : End) (pool : PoolState) (m : Machine) → EndStandsFor k pool m → is_open m.role ≡ true → k.acts.items ≡ []

@@ -1,6 +1,6 @@
 -- A new end of a link.
-use Rattle.link_end.proofs.Words.{End, EndStandsFor, HoldsChains, IsFree, List, Open, Outbox, PoolState, ShdlcStandsFor, [], arith, chains_in, got_chains}
-use Rattle.link_end.proofs.Words.{new_link_end, new_role, refl, role_of, subst, ℕ, ◌++◌, ◌∷◌, ◌≡◌}
+use Rattle.link_end.proofs.Words.{End, EndStandsFor, HoldsChains, IsFree, List, Open, PoolState, ShdlcStandsFor, [], arith, chains_in, got_chains, new_link_end}
+use Rattle.link_end.proofs.Words.{new_role, refl, role_of, subst, ℕ, ◌++◌, ◌∷◌, ◌≡◌}
 use Rattle.circular_buffer.specs.Buffer.{buffer}
 use Rattle.swp_base.specs.declared.link_terms.Role.{Role as Named}
 
@@ -39,6 +39,4 @@ pub made : {role : Named} {sender receiver : ℕ} {k : End} → IsMadeOf role se
     → EndStandsFor k pool (new_link_end (new_role role))
 made {role} {sender} {receiver} {k} n pool free =
     let box = k.outbox in
-    let same : record { owner = sender; queue = buffer [] 128; acked = 0; cut = 0; left = 0 } ≡ box = grind arith in
-    let P : Outbox → Type 0 = λ b. EndStandsFor (record k { outbox = b }) pool (new_link_end (new_role role)) in
-    subst P same (new_stands n free)
+    subst (λ b. EndStandsFor (record k { outbox = b }) pool (new_link_end (new_role role))) (grind arith) (new_stands n free)

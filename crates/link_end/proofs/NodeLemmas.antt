@@ -77,8 +77,7 @@ pub reset_begins : {k : End} {pool : PoolState} {m : Machine} {s : KeptEnd} {win
 reset_begins {k} {pool} {m} {s} {window} h down =
     let link = h.before.halfway.link in
     let e = reset_with m.shdlc (window_of m window) in
-    let idle : m.shdlc.session ≡ no_session = grind arith in
-    let same : e.session ≡ m.shdlc.session = (reset_empty Down m.shdlc (window_of m window) (λ x. cc) down) ∙ sym idle in
+    let same : e.session ≡ m.shdlc.session = (reset_empty Down m.shdlc (window_of m window) (λ x. cc) down) ∙ sym (grind arith) in
     same_session h.before.halfway (subst (λ l. StandsBefore s l e) (sym (grind arith)) (reset_link Down h (λ x. cc) down))
     (ap (λ (x : Session). x.out) same) (ap (λ (x : Session). x.acked) same) (ap (λ (x : Session). x.acc) same)
 
@@ -91,7 +90,7 @@ fetched_lies pool old new lies same none =
       holds = subst (HoldsChains pool old.joiner.owner) (sym (append-nil xs)) (front_holds pool old.joiner.owner xs old.got lies.holds);
       has_quota = lies.has_quota;
       quota = lies.quota;
-      used = (let n = ap (held_blocks pool) (append-nil xs) in omega (arith, n, (held_both pool xs (got_chains old.got)), lies.used));
+      used = (let n = ap (held_blocks pool) (append-nil xs) in omega (arith, n, held_both pool xs (got_chains old.got), lies.used));
     })
 
 pub message_fetched : (pool : PoolState) (k : End) (inbox : Inbox) (m : Machine) → inbox.joiner ≡ k.inbox.joiner → inbox.got ≡ None → EndStandsFor k pool m
@@ -140,9 +139,8 @@ pub act_sent : (pool : PoolState) (k : End) (acts : ArrayVec ActDue) (m : Machin
     → Some act ≡ front_act k.acts.items → acts.items ≡ behind_front k.acts.items
     → (Some (ActFrame act false) ≡ next_frame m) × EndStandsFor (record k { acts = acts }) pool (frame_fetched m)
 act_sent pool k acts m act h front rest =
-    let before = h.halfway in
     let n = act_next m k.acts.items act front in
-    let is : record m { acts = map due_of k.acts.items } ≡ m = ap (λ a. record m { acts = a }) before.acts in
+    let is : record m { acts = map due_of k.acts.items } ≡ m = ap (λ a. record m { acts = a }) h.halfway.acts in
     let P : Machine → Type 0 = λ x. EndStandsFor (record k { acts = acts }) pool x in (
       sym (sym (ap next_frame is) ∙ n.0),
       subst P (sym n.1 ∙ ap frame_fetched is) (record {

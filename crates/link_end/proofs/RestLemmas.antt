@@ -22,7 +22,7 @@ is_all : (k : End) (pool : PoolState) (m : Machine) → EndStandsFor k pool m �
     → b ≡ (whole_acked m == length m.sent)
 is_all k pool m h true e =
     let few = whole_few m.sent m.shdlc.session.acked in
-    sym (eq-eqb (whole_acked m) (length m.sent) (omega (arith, (ap length (e.0 refl)), few, kept_count k pool m h)))
+    sym (eq-eqb (whole_acked m) (length m.sent) (omega (arith, ap length (e.0 refl), few, kept_count k pool m h)))
 is_all k pool m h false e =
     sym (ne_eqb (whole_acked m) (length m.sent) (λ q. absurd (both (e.1 (none_of k.outbox.queue.items (omega (arith, q, kept_count k pool m h)))))))
   where

@@ -16,8 +16,7 @@ use Rattle.link_end.proofs.EndLemmas.{session_ended, carries}
 pub passed : (pool : PoolState) (k : End) (p : ℕ) (m : Machine) → p ≡ min (k.passed_over + 1) 4294967295 → EndStandsFor k pool m
     → EndStandsFor (record k { passed_over = p }) pool (record m { passed_over = m.passed_over + 1 })
 passed pool k p m is h =
-    let before = h.halfway in
-    let was = before.passed_over in
+    let was = h.halfway.passed_over in
     record {
       halfway = grind arith;
       full = h.full;

@@ -74,9 +74,7 @@ same_is (a ∷ first) [] = refl
 same_is (a ∷ first) (b ∷ second) = same_pair (eqb a b) (pointwise eqb first second) (same_bytes first second) (same_is first second)
 
 pub told_where_same : (read lpdu : List ℕ) → pointwise eqb read lpdu ≡ true → told.Same ≡ told_as (read_as lpdu read)
-told_where_same read lpdu h =
-    ap (λ (t : Bool). told_as (if t then Same else Undetected read)) (sym h ∙ same_is read lpdu)
+told_where_same read lpdu h = ap (λ (t : Bool). told_as (if t then Same else Undetected read)) (sym h ∙ same_is read lpdu)
 
 pub told_where_other : (read lpdu : List ℕ) → pointwise eqb read lpdu ≡ false → told.Undetected read ≡ told_as (read_as lpdu read)
-told_where_other read lpdu h =
-    ap (λ (t : Bool). told_as (if t then Same else Undetected read)) (sym h ∙ same_is read lpdu)
+told_where_other read lpdu h = ap (λ (t : Bool). told_as (if t then Same else Undetected read)) (sym h ∙ same_is read lpdu)

@@ -117,7 +117,7 @@ each_few pool [] [] g = tt
 each_few pool [] (p ∷ ports) g = absurd g
 each_few pool (s ∷ seats) [] g = absurd g
 each_few pool (s ∷ seats) (p ∷ ports) g =
-    (omega (arith, (ap (λ (ms : List Message). length ms) g.0.holds.waits), (waiting_few pool s.waiting)), each_few pool seats ports g.1)
+    (omega (arith, (ap (λ (ms : List Message). length ms) g.0.holds.waits), waiting_few pool s.waiting), each_few pool seats ports g.1)
 
 got_few : (ends : KeptEnds) (ports : List Port) (h : ℕ) (p : Port) → EndsStandFor ends ports → port_at ports h ≡ Some p → length p.side.got ≤ 1
 got_few ends ports h p e is =

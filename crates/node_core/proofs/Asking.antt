@@ -69,7 +69,7 @@ sending_order h pipe message w free order = by (pipe == 1 && is_command_message 
     by true q =
         let none : is_some w.core.command ≡ false = sym (ap (λ b. b && is_some w.core.command) q) ∙ free in
         subst P (given_order h pipe message w q)
-        (one_order h (Orders message) w refl ((grind arith), order.task.1) order)
+        (one_order h (Orders message) w refl (grind arith, order.task.1) order)
     by false q = subst P (given_other h pipe message w q) (one_order h (Sends h (pipe, message)) w refl order.task order)
 
 -- so does one that begins an init
@@ -139,8 +139,7 @@ pub has_sent_so : {N : Type 0} {n n1 n2 : Node N} {noted noted2 start : List Ent
     → HasStepped n2 noted2 short2 start (all_done n.number (sending n.number (pipe, message)) w)
 has_sent_so {N} {n} {n1} {n2} {w = w} pipe message a some taken u kept ended store number tasks =
     let node = a.runs.node in
-    let o = own_port w.core w.ports (λ none. some (sym node ∙ none)) a.runs.order in
-    let at = ap (port_at w.ports) (sym node) ∙ o.at in
+    let at = ap (port_at w.ports) (sym node) ∙ (own_port w.core w.ports (λ none. some (sym node ∙ none)) a.runs.order).at in
     let v : Work = all_done n.number (sending n.number (pipe, message)) w in
     has_given u (ap (λ (s : Stored N). s.journal.live) kept ∙ a.runs.live) (ended v.ports u.ends) store number tasks (usable_with (store ∙ kept) a.runs.usable)
     (sending_order n.number pipe message w (grind arith) a.runs.order) (given_rests n.number (sending n.number (pipe, message)) a)

@@ -17,7 +17,7 @@ pub record BeginsAs {N : Type 0} (number : ℕ) (role : Named) (hosts : List ℕ
 
 new_few : (role : Named) (hosts : List ℕ) → AreAtMostDue 5 (map (new_port role) hosts)
 new_few role [] = tt
-new_few role (h ∷ hosts) = ((grind arith), new_few role hosts)
+new_few role (h ∷ hosts) = (grind arith, new_few role hosts)
 
 new_in_time : (role : Named) (hosts : List ℕ) → AreInTime (map (new_port role) hosts)
 new_in_time role [] = tt

@@ -37,24 +37,22 @@ seats_kept : (pool : PoolState) (seats : List Seat) (ports : List Port) → Seat
 seats_kept pool [] [] g = tt
 seats_kept pool [] (p ∷ ports) g = absurd g
 seats_kept pool (s ∷ seats) [] g = absurd g
-seats_kept pool (s ∷ seats) (p ∷ ports) g = ((grind arith), seats_kept pool seats ports g.1)
+seats_kept pool (s ∷ seats) (p ∷ ports) g = (grind arith, seats_kept pool seats ports g.1)
 
 seats_back : (pool : PoolState) (seats : List Seat) (ports : List Port) → SeatsStandFor pool seats (map between ports) → HasNoneEnded ports
     → SeatsStandFor pool seats ports
 seats_back pool [] [] g none = tt
 seats_back pool [] (p ∷ ports) g none = absurd g
 seats_back pool (s ∷ seats) [] g none = absurd g
-seats_back pool (s ∷ seats) (p ∷ ports) g none = ((grind arith), seats_back pool seats ports g.1 none.1)
+seats_back pool (s ∷ seats) (p ∷ ports) g none = (grind arith, seats_back pool seats ports g.1 none.1)
 
 -- what is kept of ends as a step begins
 pub ends_kept : (ends : KeptEnds) (ports : List Port) → EndsStandFor ends (map begun ports) → EndsStandFor ends (map between ports)
-ends_kept ends ports e =
-    record { each = seats_kept ends.pool ends.seats ports e.each; owners = e.owners; hosts = e.hosts; few = e.few }
+ends_kept ends ports e = record { each = seats_kept ends.pool ends.seats ports e.each; owners = e.owners; hosts = e.hosts; few = e.few }
 
 -- and of ends in which nothing ended
 pub ends_back : (ends : KeptEnds) (ports : List Port) → EndsStandFor ends (map between ports) → HasNoneEnded ports → EndsStandFor ends ports
-ends_back ends ports e none =
-    record { each = seats_back ends.pool ends.seats ports e.each none; owners = e.owners; hosts = e.hosts; few = e.few }
+ends_back ends ports e none = record { each = seats_back ends.pool ends.seats ports e.each none; owners = e.owners; hosts = e.hosts; few = e.few }
 
 -- what is kept is kept again
 pub kept_twice : (ports : List Port) → map between (map between ports) ≡ map between ports
@@ -155,8 +153,7 @@ kept_reached [] all = tt
 kept_reached (p ∷ ports) all = (all.0, kept_reached ports all.1)
 
 pub runs_reached : {N : Type 0} {n : Node N} {core : Core} {ports : List Port} → RunsAs n core ports → AllByRecursion (λ (p : Port). IsReached p.side) ports
-runs_reached {n = n} {ports = ports} r =
-    kept_reached ports (reached_each n.ends.pool n.ends.seats (map between ports) r.ends.each)
+runs_reached {n = n} {ports = ports} r = kept_reached ports (reached_each n.ends.pool n.ends.seats (map between ports) r.ends.each)
 
 pub few_wait : {N : Type 0} {n : Node N} {core : Core} {ports : List Port} → RunsAs n core ports
     → AllByRecursion (λ (p : Port). length p.side.acts + left p.side.shdlc ≤ 9) ports
@@ -166,7 +163,7 @@ few_wait {n = n} r = go n.ends.seats _ r.ends.each r.few
         → AllByRecursion (λ (p : Port). length p.side.acts + left p.side.shdlc ≤ 9) ports
     go seats [] g few = tt
     go [] (p ∷ ports) g few = absurd g
-    go (s ∷ seats) (p ∷ ports) g few = ((grind arith), go seats ports g.1 few.1)
+    go (s ∷ seats) (p ∷ ports) g few = (grind arith, go seats ports g.1 few.1)
 
 one_by_one : (e : Machine) → IsReached e → length e.acts + length e.shdlc.due ≤ 5 → length e.acts + left e.shdlc ≤ 9 → SendsOneByOne e
 one_by_one e reached few wait =
@@ -190,8 +187,7 @@ runs_ready r sent = go _ (runs_reached r) r.few r.in_time sent
         → IsAllSent ports → OfAll (Ready 0) ports
     go [] reached few time sent = tt
     go (p ∷ ports) reached few time sent =
-        let none = none_due p.side reached.0 (omega (arith, few.0)) sent.0 in
-        ((omega (arith, none), time.0), go ports reached.1 few.1 time.1 sent.1)
+        ((omega (arith, (none_due p.side reached.0 (omega (arith, few.0)) sent.0)), time.0), go ports reached.1 few.1 time.1 sent.1)
 
 sent_due : (e : Machine) → (due_count (frame_fetched e) ≤ due_count e) × ((frame_fetched e).shdlc.ready ≡ e.shdlc.ready)
 sent_due e = go e.acts refl e.shdlc.due refl (fragment_due e.shdlc.session) refl
@@ -212,7 +208,7 @@ sent_due e = go e.acts refl e.shdlc.due refl (fragment_due e.shdlc.session) refl
         by false z =
             let f = fetched_less in
             let less = f.0 in
-            rw (p, z) (omega (arith, less, (length-map (a ∷ acts) nearer)), f.1)
+            rw (p, z) (omega (arith, less, length-map (a ∷ acts) nearer), f.1)
 
 pub sent_rests : (k : ℕ) (p : Port) → Of (Rests k) p → Of (Rests k) (has_sent p)
 sent_rests k p is =

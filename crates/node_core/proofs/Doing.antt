@@ -140,14 +140,13 @@ kept_brings {N} {writes} {n} {s} {now = now} {start = start} {short = short} {w 
     let ws : List Write = commit_writes w.core.journal w.core.tables (body_of c) in
     let after : Work = keeps c ws (noting (entry.Command w.core.node c ∷ []) w) in
     let P : List Write → Type 0 = λ l. AreMade writes l n.store.journal.nv true s.journal.nv in
-    let Q : Bool → Type 0 = λ t. WereMade writes ws [] n.store.journal.nv t s.journal.nv in
     record {
       after = after;
       stands = grind arith;
       sure = ws;
       torn = [];
       written = ap (λ l. w.writes ++ l) (sym (append-nil ws));
-      made = subst Q (sym power) (refl, subst P (grind arith) h.made);
+      made = subst (λ t. WereMade writes ws [] n.store.journal.nv t s.journal.nv) (sym power) (refl, subst P (grind arith) h.made);
       is = grind arith;
     }
 
@@ -160,13 +159,12 @@ lost_brings {N} {writes} {n} {s} {now = now} {start = start} {short = short} {w 
     let k = u.core power in
     let ws : List Write = commit_writes w.core.journal w.core.tables (body_of c) in
     let after : Work = loses_power ws (noting (entry.Command w.core.node c ∷ []) w) in
-    let P : List Write → Type 0 = λ l. AreMade writes l n.store.journal.nv false s.journal.nv in
     record {
       after = after;
       stands = grind arith;
       sure = [];
       torn = ws;
       written = refl;
-      made = (n.store.journal.nv, (refl, refl), subst P (grind arith) h.made);
+      made = (n.store.journal.nv, (refl, refl), subst (λ l. AreMade writes l n.store.journal.nv false s.journal.nv) (grind arith) h.made);
       is = λ plan foretold. rw foretold.1 refl;
     }

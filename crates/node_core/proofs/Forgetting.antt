@@ -18,8 +18,7 @@ over_same : (f : Port → Port) → ((p : Port) → over_of (f p) ≡ over_of p)
 over_same f same zero [] h = refl
 over_same f same (suc i) [] h = refl
 over_same f same zero (p ∷ ports) h = refl
-over_same f same (suc i) (p ∷ ports) h =
-    ap₂ (λ (o : Over) b. ((o.0 == h) && o.1) || b) (same p) (over_same f same i ports h)
+over_same f same (suc i) (p ∷ ports) h = ap₂ (λ (o : Over) b. ((o.0 == h) && o.1) || b) (same p) (over_same f same i ports h)
 
 forgets_same : (a b : List Port) → ((h : ℕ) → is_over_at a h ≡ is_over_at b h) → (p : Port) → forgets a p ≡ forgets b p
 forgets_same a b same p = grind arith

@@ -33,7 +33,7 @@ module _ (h : ℕ) (m : Message) (w : Work) (on : IsOnTask w.core) (own : w.core
   -- ## Commands
 
   ordered_fine : (errors pipe n : ℕ) (body : List ℕ) → Fine (ordered_deeds (own_view w.core) errors pipe n body)
-  ordered_fine errors pipe n body = ordered_holds (λ deeds. Fine deeds) w.core errors pipe n body ((grind arith))
+  ordered_fine errors pipe n body = ordered_holds (λ deeds. Fine deeds) w.core errors pipe n body (grind arith)
 
   -- ## Responses
 

@@ -195,7 +195,7 @@ held_due e r = go e.ready r refl
         by false x = rw (q, x) (omega arith)
 
 hold_ready : (n : ℕ) (b : Bool) (p : Port) → Of (Ready n) p → Of (Ready (n + 1)) (after_turn (Hold b) p)
-hold_ready n b p is = (omega (arith, is.0, (held_due p.side.shdlc (not b))), is.1)
+hold_ready n b p is = (omega (arith, is.0, held_due p.side.shdlc (not b)), is.1)
 
 hold_rests : (n : ℕ) (ms : List Message) (p : Port) → Of (Waits n ms) p → Of (Rests n) (after_turn (Hold true) p)
 hold_rests n ms p is = (hold_ready n true p is.0, λ some. ap not (held_ready p.side.shdlc false))
@@ -328,7 +328,7 @@ turn_begins n h hosts (p ∷ ports) differ all = by (turn_begins n h hosts ports
     by later true q =
         let N : ℕ → Type 0 = λ m. AllByRecursion (λ (g : ℕ). g ≢ m) (map host_at ports) in
         let P : Bool → Type 0 = λ t. pick t (Of (Waits n (got_at (p ∷ ports) h)) p) (Of (Mixed n hosts) p) in (
-          subst P (sym q) ((grind arith), sym (here_got q)),
+          subst P (sym q) (grind arith, sym (here_got q)),
           others (got_at (p ∷ ports) h) ports (subst N (eqb-true p.desk.host h q) differ.0) all.1,
         )
     by later false q =
@@ -382,5 +382,4 @@ all_mixed n hosts (p ∷ ports) sub all =
 -- What a pass leaves at the ends, where no write fails.
 pub passes_rest : (n : ℕ) (w : Work) → AreAllDifferent (map host_at w.ports) → OfAll (Ready n) w.ports → (passes w).cut ≡ false
     → OfAll (Rests n) (passes w).ports
-passes_rest n w differ all live =
-    goes_rests n (map host_at w.ports) w differ differ (all_mixed n (map host_at w.ports) w.ports (λ g q. q) all) live
+passes_rest n w differ all live = goes_rests n (map host_at w.ports) w differ differ (all_mixed n (map host_at w.ports) w.ports (λ g q. q) all) live

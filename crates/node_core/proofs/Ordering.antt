@@ -40,7 +40,7 @@ pub record IsFine (w : Work) : Type 0 where
   pub order : IsNodeInOrder w.core w.ports
 
 pub done_sure : (h : ℕ) (d : Deed) (w : Work) → IsSure w → IsSure (done h d w)
-done_sure h d w s = record { power = (grind arith) ∙ s.power; plan = (grind arith) }
+done_sure h d w s = record { power = (grind arith) ∙ s.power; plan = grind arith }
 
 -- what deeds that may be done leave of a node
 pub record Leaves (h : ℕ) (deeds : List Deed) (w : Work) : Type 0 where
@@ -51,9 +51,7 @@ pub record Leaves (h : ℕ) (deeds : List Deed) (w : Work) : Type 0 where
 pub granted_leave : (h : ℕ) (init : Option Init) (deeds : List Deed) (w : Work) → IsSure w → AreGranted h init deeds w → Leaves h deeds w
 granted_leave h init [] w s granted = record { sure = s; node = refl; task = granted }
 granted_leave h init (d ∷ deeds) w s granted =
-    let next : Work = done h d w in
-    let power = done_sure h d w s in
-    let l = granted_leave h init deeds next power (subst (λ v. AreGranted h init deeds (done h d v)) (grind arith) granted.1) in
+    let l = granted_leave h init deeds (done h d w) (done_sure h d w s) (subst (λ v. AreGranted h init deeds (done h d v)) (grind arith) granted.1) in
     grind arith
 
 -- ## Turns
@@ -64,9 +62,7 @@ as_host core ports h m q = rw q refl
 
 at_node : (h : ℕ) (m : Message) (w : Work) → IsOnTask w.core → (b : Bool) → (w.core.node == 0) ≡ b
     → AreGranted h w.core.init (deeds_of w.core w.ports h m) (has_turn h m w)
-at_node h m w on true q =
-    let P : List Deed → Type 0 = λ deeds. AreGranted h w.core.init deeds (has_turn h m w) in
-    subst P (sym (rw q refl)) (controller_allowed h m w.core.init w on)
+at_node h m w on true q = subst (λ deeds. AreGranted h w.core.init deeds (has_turn h m w)) (sym (rw q refl)) (controller_allowed h m w.core.init w on)
 at_node h m w on false q =
     subst (λ deeds. AreGranted h w.core.init deeds (has_turn h m w)) (sym (as_host w.core w.ports h m q)) (by (port_at w.ports h))
   where

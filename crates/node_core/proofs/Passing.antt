@@ -70,8 +70,7 @@ pass_begins writes {n} {w = w} u order few = record {
 pub next_is : {N : Type 0} {writes : N → ℕ → List ℕ → Bool → N → Type 0} {first n : Node N} {noted start : List Entry} {short : Bool} {i : ℕ} {w : Work}
     (k : PassesOn writes first n noted short start i w) (h : ℕ) → Some h ≡ option_map host_at (slice_get k.now.ports i)
     → drop i (map host_at w.ports) ≡ h ∷ drop (suc i) (map host_at w.ports)
-next_is {i = i} k h is =
-    ap (drop i) (sym k.hosts) ∙ (next_host i k.now.ports h is ∙ ap (λ hosts. h ∷ drop (suc i) hosts) k.hosts)
+next_is {i = i} k h is = ap (drop i) (sym k.hosts) ∙ (next_host i k.now.ports h is ∙ ap (λ hosts. h ∷ drop (suc i) hosts) k.hosts)
 
 -- few control frames wait there
 pub next_few : {N : Type 0} {writes : N → ℕ → List ℕ → Bool → N → Type 0} {first n : Node N} {noted start : List Entry} {short : Bool} {i : ℕ} {w : Work}
@@ -170,4 +169,4 @@ pub pass_full : {N : Type 0} {writes : N → ℕ → List ℕ → Bool → N →
 pass_full {n = n} {i = i} {w = w} k past =
     let same = ap (λ (hosts : List ℕ). length hosts) k.hosts in
     let few = k.under.ends.few in
-    drop_all i (map host_at w.ports) (omega (arith, (as_many_hosts n.ends.pool n.ends.seats k.now.ports k.under.ends.each), same, few, past))
+    drop_all i (map host_at w.ports) (omega (arith, as_many_hosts n.ends.pool n.ends.seats k.now.ports k.under.ends.each, same, few, past))

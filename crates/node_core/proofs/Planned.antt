@@ -52,5 +52,4 @@ planned_step {f = f} {w = w} {m = m} {n = n} b same =
 
 pub planned_writes : {S : Work → Type 0} {f : Work → Work} {w : Work} {m n : Memory} (b : Brings WritesAsPlanned m n S f w)
     → n ≡ after_planned (b.sure ++ b.torn) m
-planned_writes {m = m} {n = n} b =
-    planned_memory (b.sure ++ b.torn) m (not b.after.cut) n (all_made b.after.cut b.sure b.torn m n b.made)
+planned_writes {m = m} {n = n} b = planned_memory (b.sure ++ b.torn) m (not b.after.cut) n (all_made b.after.cut b.sure b.torn m n b.made)

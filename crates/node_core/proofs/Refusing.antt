@@ -74,5 +74,5 @@ late_few (p ∷ ports) few = (one (is_late (with_older (has_come p (Some Tick)))
     one true z =
         let f = few.0 in
         let t = tick_few p.side in
-        rw z (omega (arith, f, t, (reset_few_due (after_input p.side Tick) None)))
+        rw z (omega (arith, f, t, reset_few_due (after_input p.side Tick) None))
     one false z = let f = few.0 in let t = tick_few p.side in rw z (omega (arith, f, t))

@@ -51,7 +51,7 @@ reset_one p has = by (is_late (with_older p)) refl
     by true q =
         let few = has.few in
         let one = reset_few_due p.side None in
-        rw q ((grind arith))
+        rw q (grind arith)
       where
         is_over_late : (p.ended || true) ≡ false → ⊥
         is_over_late over = go p.ended over
@@ -128,8 +128,7 @@ out_hosts TimePasses w = late_hosts w.ports
 -- message waits there.
 pub step_rests : (input : NodeInput) → MakeOneMore input → (w : Work) → AreAllDifferent (map host_at w.ports) → OfAll (Ready 0) w.ports
     → (steps input w).cut ≡ false → OfAll (Rests 2) (steps input w).ports
-step_rests input more w differ all live =
-    by settled.cut refl
+step_rests input more w differ all live = by settled.cut refl
   where
     came : Work
     came = times_out input (all_come input w)

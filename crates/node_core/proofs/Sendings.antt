@@ -18,8 +18,7 @@ down_refuses p m waits down = grind arith
 
 -- why an end that is up refuses a message, by its length
 abbrev sized : Machine → Message → Option Refused
-sized e m =
-    cond (nat_lt 4096 (length m.1)) (Some (TooLong (length m.1))) (cond (nat_lt (spare e) (need m.1)) (Some (Full (need m.1) (spare e))) None)
+sized e m = cond (nat_lt 4096 (length m.1)) (Some (TooLong (length m.1))) (cond (nat_lt (spare e) (need m.1)) (Some (Full (need m.1) (spare e))) None)
 
 -- one that has to wait
 pub waiting_refuses : (p : Port) (m : Message) → is_up p.side.shdlc.phase ≡ true → if_waiting true (give_refusal p.side m) ≡ Some no.Waiting

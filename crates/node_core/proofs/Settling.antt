@@ -66,8 +66,7 @@ map_quiet f same [] = refl
 map_quiet f same (p ∷ ports) = ap₂ (λ (q : Quiet) qs. q ∷ qs) (same p) (map_quiet f same ports)
 
 pub quiet_left : (w : Work) → map quiet_at (left_over w).ports ≡ map quiet_at w.ports
-quiet_left w =
-    map_quiet without_notice quiet_without (map (forgets w.ports) w.ports) ∙ map_quiet (forgets w.ports) (quiet_forgets w.ports) w.ports
+quiet_left w = map_quiet without_notice quiet_without (map (forgets w.ports) w.ports) ∙ map_quiet (forgets w.ports) (quiet_forgets w.ports) w.ports
 
 quiet_unless : (deeds : List Deed) (w : Work) → map quiet_at (unless_cut (all_done 0 deeds) w).ports ≡ map quiet_at w.ports
 quiet_unless deeds w = by w.cut refl

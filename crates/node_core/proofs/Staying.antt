@@ -85,6 +85,6 @@ late_order TimePasses w order =
 pub steps_fine : (input : NodeInput) (w : Work) → IsFine w → IsFine (steps input w)
 steps_fine input w f =
     let came : Work = times_out input (all_come input w) in
-    let fine : IsFine came = record { sure = (grind arith); order = late_order input (all_come input w) (come_order input w f.order) } in
+    let fine : IsFine came = record { sure = grind arith; order = late_order input (all_come input w) (come_order input w f.order) } in
     let syncs : List Deed = flat_map (synced w.core input) w.ports in
     then_fine passes (settles syncs came) passes_fine (settled_fine syncs (synced_mild w.core input w.ports) came fine)

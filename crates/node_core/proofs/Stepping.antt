@@ -66,14 +66,13 @@ silent_at : (core : Core) (h : ℕ) (i : LinkInput) → ((e : Machine) → (repo
 silent_at core h i none p = grind arith
 
 pub reset_synced : (core : Core) (h : ℕ) (window : Option ℕ) (ports : List Port) → flat_map (synced core (AtEnd h (Reset window))) ports ≡ []
-reset_synced core h window ports =
-    silent_synced core (AtEnd h (Reset window)) (silent_at core h (Reset window) (λ e. refl)) ports
+reset_synced core h window ports = silent_synced core (AtEnd h (Reset window)) (silent_at core h (Reset window) (λ e. refl)) ports
 
 pub start_synced : (core : Core) (h value : ℕ) (ports : List Port) → flat_map (synced core (AtEnd h (Start value))) ports ≡ []
-start_synced core h value ports = silent_synced core (AtEnd h (Start value)) (silent_at core h (Start value) (λ e. (grind arith))) ports
+start_synced core h value ports = silent_synced core (AtEnd h (Start value)) (silent_at core h (Start value) (λ e. grind arith)) ports
 
 pub stop_synced : (core : Core) (h : ℕ) (ports : List Port) → flat_map (synced core (AtEnd h Stop)) ports ≡ []
-stop_synced core h ports = silent_synced core (AtEnd h Stop) (silent_at core h Stop (λ e. (grind arith))) ports
+stop_synced core h ports = silent_synced core (AtEnd h Stop) (silent_at core h Stop (λ e. grind arith)) ports
 
 -- ## Hosts
 

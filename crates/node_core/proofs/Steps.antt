@@ -78,7 +78,7 @@ of_deed h a deed d is b = grind arith
 deeds_anyway : (h : ℕ) (a : Handling) (deeds : List Deed) (w : Work) (plan : Option Plan) → AreDoableInTurn h a deeds (record w { plan = plan })
     → AreDoableInTurn h a deeds w
 deeds_anyway h a [] w plan all = tt
-deeds_anyway h a (d ∷ deeds) w plan all = ((grind arith), all.1)
+deeds_anyway h a (d ∷ deeds) w plan all = (grind arith, all.1)
 
 -- those behind one that went through may be done
 pub doable_then : {N : Type 0} {writes : N → ℕ → List ℕ → Bool → N → Type 0} {old new : N} {S : Work → Type 0} {w : Work} (h : ℕ) (a : Handling) (d : Deed)

@@ -130,4 +130,4 @@ either_there o is some none = grind arith
 
 -- there are at most seven ends
 pub many_ports : (ends : KeptEnds) (ports : List Port) → EndsStandFor ends ports → length ports ≤ 7
-many_ports ends ports e = omega (arith, (as_many ends.pool ends.seats ports e.each), e.few)
+many_ports ends ports e = omega (arith, as_many ends.pool ends.seats ports e.each, e.few)

@@ -71,9 +71,8 @@ handled h m deeds w (inl none) live down =
     let P : List Deed → Type 0 = λ ds. IsUnwritten (handles h m ds w) w in subst P (sym none) (turned h m w live down)
 handled h m deeds w (inr drops) live down =
     let t = turned h m w live down in
-    let P : List Deed → Type 0 = λ ds. IsUnwritten (handles h m ds w) w in
     let Q : Work → Type 0 = λ v. IsUnwritten v w in
-    subst P (sym drops) (grind arith)
+    subst (λ ds. IsUnwritten (handles h m ds w) w) (sym drops) (grind arith)
 
 no_lack : (h : ℕ) (m : Message) (deeds : List Deed) (ports : List Port) → (deeds ≡ []) ⊎ (deeds ≡ Drops m.0 ∷ []) → lack ports (needs h deeds) ≡ None
 no_lack h m deeds ports a = grind arith
@@ -262,12 +261,9 @@ module _ {N : Type 0} (writes : N → ℕ → List ℕ → Bool → N → Type 0
       by false live =
           let F : Option Plan → Bool → Type 0 = λ plan c. Foretells plan b.sure b.torn c in
           let still = b.is None (subst (F None) (sym live) refl) in
-          let written : w.writes ≡ w.writes ++ (b.sure ++ b.torn) = grind arith in
-          let sure : b.sure ≡ [] = front_empty b.sure b.torn (nothing_more w.writes (b.sure ++ b.torn) written) in
-          let M : Bool → Type 0 = λ t. WereMade writes b.sure b.torn old t new in
-          let made = subst M live b.made in
-          let A : List Write → Type 0 = λ ws. AreMade writes ws old true new in
-          let none = subst A sure made.1 in
+          let sure : b.sure ≡ [] = front_empty b.sure b.torn (nothing_more w.writes (b.sure ++ b.torn) (grind arith)) in
+          let made = subst (λ t. WereMade writes b.sure b.torn old t new) live b.made in
+          let none = subst (λ ws. AreMade writes ws old true new) sure made.1 in
           let foretold : fails_within (length b.sure) w.plan ≡ false = ap (λ (ws : List Write). fails_within (length ws) w.plan) sure ∙ fewer_fail 0 w.plan in
           let same = b.is w.plan (subst (F w.plan) (sym live) foretold) in
           (none.1, subst S (sym same) (any b.after (plan_left b.after.cut b.sure w.plan) b.stands))

@@ -56,8 +56,7 @@ learned_creation core order value row is named =
 
 -- what is learned goes by what was ordered
 learned_by_order : (core : Core) (order value : List ℕ) → learned_of core (ordered_by order) value ≡ learned (own_view core) order value
-learned_by_order core order value =
-    by (eqb (instruction_in order) 16) (eqb (instruction_in order) 17) (eqb (instruction_in order) 20)
+learned_by_order core order value = by (eqb (instruction_in order) 16) (eqb (instruction_in order) 17) (eqb (instruction_in order) 20)
   where
     deleted : (body : List ℕ) → learned_of core (deletion_in body) value ≡ deleted_by (own_view core) body
     deleted [] = refl
@@ -138,8 +137,7 @@ module _ (core : Core) (p : Port) (m : Message) where
       rw (up, is)
       (ap₂ (λ gate posts. cond (is_gate 4 gate && posts) (Sends core.node m ∷ []) []) (gate_same (pipe_at core.tables.rows m.0) refl)
       (sym (ap is_post_data is)))
-  kind_bare (Ok (IsResponse, code)) is up =
-      rw (up, is) (ap (λ ds. cond (eqb m.0 1) ds []) (heard_bare code (body_in m.1) core.command refl))
+  kind_bare (Ok (IsResponse, code)) is up = rw (up, is) (ap (λ ds. cond (eqb m.0 1) ds []) (heard_bare code (body_in m.1) core.command refl))
   kind_bare (Err fault) is up = rw (up, is) refl
 
   pub host_of_core : {N : Type 0} (s : Stored N) (d : KeptDesk) (tasks : Tasks) → IsHostAt s d true tasks core p

@@ -79,8 +79,7 @@ view_made a b c d e a' b' c' d' e' w w' p q r s t u = cc
 module _ (one other : List Port) (alike : map seen_at one ≡ map seen_at other) where
   test_alike : {X : Type 0} (f : Seen → X) (x : X) (h : ℕ)
       → option_map_or (λ p. f (seen_at p)) (port_at one h) x ≡ option_map_or (λ p. f (seen_at p)) (port_at other h) x
-  test_alike f x h =
-      test_seen f x one h ∙ (ap (λ seen. option_map_or f (seen_of seen h) x) alike ∙ sym (test_seen f x other h))
+  test_alike f x h = test_seen f x one h ∙ (ap (λ seen. option_map_or f (seen_of seen h) x) alike ∙ sym (test_seen f x other h))
 
   pub link_alike : (h : ℕ) → has_link one h ≡ has_link other h
   link_alike h = test_alike (λ s. s.1) false h

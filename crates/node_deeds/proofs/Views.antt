@@ -118,8 +118,7 @@ mask_grows test host mask next place false from so_far passed is grown =
 mask_all : (test other : ℕ → Bool) (host mask : ℕ) → host ≡ 8 → IsMaskBelow test host mask → ((h : ℕ) → test h ≡ other h)
     → mask ≡ mask_of (hosts_where other)
 unfolding hosts_where
-mask_all test other host mask last m same =
-    m.is ∙ (ap (λ h. mask_of (hosts_below test h)) last ∙ ap mask_of (hosts_same test other same))
+mask_all test other host mask last m same = m.is ∙ (ap (λ h. mask_of (hosts_below test h)) last ∙ ap mask_of (hosts_same test other same))
 
 asked_shown : (up : ℕ) (d : KeptDesk) → asked_in d.notice ≡ is_asked_at (port_shown up d)
 asked_shown up d = by d.notice d.host d.holds d.errors where

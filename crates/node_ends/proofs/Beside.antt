@@ -70,7 +70,7 @@ begun pool s = grind arith
 
 pub notice_dropped : (pool : PoolState) (s t : Seat)
     → t ≡ record s { desk = record s.desk { notice = kept_notice (s.ended || s.late) s.desk.notice } } → SeatBecomes pool pool s t without_notice
-notice_dropped pool s t is = subst (λ x. SeatBecomes pool pool s x without_notice) (sym is) (sets ((grind arith)))
+notice_dropped pool s t is = subst (λ x. SeatBecomes pool pool s x without_notice) (sym is) (sets (grind arith))
 
 pub creation_forgotten : (pool : PoolState) (s t : Seat) → t ≡ record s { desk = record s.desk { notice = as_forgotten s.desk.notice } }
     → SeatBecomes pool pool s t forgotten_at

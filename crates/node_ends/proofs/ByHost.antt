@@ -74,7 +74,7 @@ module _ {X : Type 0} (read : Port → X) (d : X) where
   goes_by ports xs ys i k s p g is host high same far =
       let M : ℕ → Type 0 = λ m. StandSoFar xs m ports in
       let L : List X → Type 0 = λ l. StandSoFar l (i + 1) ports in
-      subst L (sym same) (subst M (sym (add-one i)) (skip_so_far xs i ports p far (omega (arith, (host ∙ host_is g), high)) is))
+      subst L (sym same) (subst M (sym (add-one i)) (skip_so_far xs i ports p far (omega (arith, host ∙ host_is g, high)) is))
 
   -- behind the last end all stand there
   pub all_so_far : (xs : List X) (i : ℕ) (ports : List Port) → StandSoFar xs i ports → length ports ≤ i

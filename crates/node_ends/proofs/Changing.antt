@@ -175,7 +175,7 @@ placed pool h i (s ∷ seats) (p ∷ ports) is g = by (λ j r. placed pool h j s
         let l = later j r in
         let other : (p.desk.host == h) ≡ false = ap (λ n. n == h) (sym (host_is g.0)) ∙ q in
         let P : ℕ → Type 0 = λ n. IsPlaced pool (s ∷ seats) (p ∷ ports) n h in
-        subst P suc_is ((grind arith))
+        subst P suc_is (grind arith)
 
 -- ## The end of this host is changed
 
@@ -215,7 +215,7 @@ pub owner_at_place : {pool : PoolState} {seats : List Seat} {ports : List Port} 
     → (placed_in h i place e).seat.side.outbox.owner ≡ 2 * i
 owner_at_place {pool} {seats} h i place e =
     let p = placed_in h i place e in
-    omega (arith, ((owners_at 0 i seats p.seat p.seat_is e.owners).0))
+    omega (arith, (owners_at 0 i seats p.seat p.seat_is e.owners).0)
 
 -- a call on an end does to it what its node does to the port
 pub record Turned (old new : PoolState) (s t : Seat) (x : Turn) : Type 0 where

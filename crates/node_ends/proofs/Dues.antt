@@ -135,7 +135,7 @@ act_few (Some act) e =
 activated_few : (e : Machine) (event : ActEvent) → due_count (activated e event) ≤ due_count e + 1
 activated_few e event =
     let out = act_answer e.role event in
-    omega (arith, (act_few out.send (record (put_down out.ended_link e) { role = role_after e.role event })), (down_few out.ended_link e))
+    omega (arith, act_few out.send (record (put_down out.ended_link e) { role = role_after e.role event }), down_few out.ended_link e)
 
 either_few : (b : Bool) (e f : Machine) (n : ℕ) → due_count e ≤ n → due_count f ≤ n → due_count (cond b e f) ≤ n
 either_few b e f n one other = grind arith

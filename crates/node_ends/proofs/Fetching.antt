@@ -35,8 +35,7 @@ is_oldest l o one is = grind arith
 short_in : (pool : PoolState) (owner : ℕ) (opens : List Open) (g : Option Got) → AllByRecursion (IsOwnOpen pool owner) (opens ++ got_chains g)
     → AllByRecursion (λ (x : Message). length x.1 ≤ 4096) (messages_of pool (got_chains g))
 short_in pool owner opens None all = tt
-short_in pool owner opens (Some g) all =
-    ((all_front (IsOwnOpen pool owner) opens (record { pipe = g.pipe; chain = g.chain }) all).1.short, tt)
+short_in pool owner opens (Some g) all = ((all_front (IsOwnOpen pool owner) opens (record { pipe = g.pipe; chain = g.chain }) all).1.short, tt)
 
 waits_of : (pool : PoolState) (o : Option (ℕ × Chain))
     → option_to_list (option_map (λ (x : ℕ × Chain). (x.0, chain_bytes pool x.1)) o) ≡ messages_waiting pool (option_map as_waiting o)

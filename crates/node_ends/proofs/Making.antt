@@ -79,8 +79,7 @@ others : (role : Named) (k h : ℕ) (hosts : List ℕ) (seats : List Seat) → A
 others role k h [] [] n d = tt
 others role k h [] (s ∷ seats) n d = absurd n
 others role k h (g ∷ hosts) [] n d = absurd n
-others role k h (g ∷ hosts) (s ∷ seats) n d =
-    (λ e. d.0 (ap (λ (x : Desk). x.host) (sym n.0.desk) ∙ e), others role (k + 1) h hosts seats n.1 d.1)
+others role k h (g ∷ hosts) (s ∷ seats) n d = (λ e. d.0 (ap (λ (x : Desk). x.host) (sym n.0.desk) ∙ e), others role (k + 1) h hosts seats n.1 d.1)
 
 own_hosts : (role : Named) (k : ℕ) (hosts : List ℕ) (seats : List Seat) → AreNewFrom role k hosts seats → AreAllDifferent hosts → HaveOwnHosts seats
 own_hosts role k [] [] n d = tt

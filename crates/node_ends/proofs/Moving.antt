@@ -103,4 +103,4 @@ pub few_controls : (pool : PoolState) (k : End) (m : Machine) → EndStandsFor k
     → controls_in k ≤ 6
 few_controls pool k m h few =
     let due = ap (λ (l : List ShdlcDue). length l) h.halfway.link.kept.due in
-    omega (arith, (ap (λ (l : List Due). length l) h.halfway.acts), (length-map k.acts.items due_of), due, few)
+    omega (arith, (ap (λ (l : List Due). length l) h.halfway.acts), length-map k.acts.items due_of, due, few)

@@ -50,8 +50,7 @@ notices_are pool =
 
 pub ended_are : (pool : PoolState) (seats : List Seat) (ports : List Port) → SeatsStandFor pool seats ports
     → list_any (λ (s : Seat). s.ended || s.late) seats ≡ list_any is_over ports
-ended_are pool =
-    any_is pool (λ (s : Seat). s.ended || s.late) is_over (λ s p g. ap₂ (λ (a b : Bool). a || b) g.ended g.late)
+ended_are pool = any_is pool (λ (s : Seat). s.ended || s.late) is_over (λ s p g. ap₂ (λ (a b : Bool). a || b) g.ended g.late)
 
 -- nothing is left to do at an end of which this is kept
 pub idle_is : {pool : PoolState} {s : Seat} {p : Port} (answer : Bool) → SeatStandsFor pool s p

@@ -82,8 +82,7 @@ module _ {pool : PoolState} {seats : List Seat} {ports : List Port} {m : Message
         subst P same (get_or-set_same seats i t d (slice_get_within seats i first.seat first.seat_is))
 
     pub then_read_other : (t d : Seat) → i ≢ j → slice_index_or (slice_set seats i t) j d ≡ second.seat
-    then_read_other t d differ =
-        get_or-set_other seats i j t d (λ q. differ (sym q)) ∙ read_at seats j second.seat d second.seat_is
+    then_read_other t d differ = get_or-set_other seats i j t d (λ q. differ (sym q)) ∙ read_at seats j second.seat d second.seat_is
 
     pub then_side : (t d : Seat) → t.side ≡ first.seat.side → (slice_index_or (slice_set seats i t) j d).side ≡ second.seat.side
     then_side t d side = by (i == j) refl

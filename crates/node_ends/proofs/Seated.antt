@@ -123,7 +123,7 @@ pub owner_here : {pool : PoolState} {seats : List Seat} {ports : List Port} (i :
     → AreEnds pool seats ports → s.side.outbox.owner ≡ 2 * i
 owner_here {pool} {seats} {ports} i s inside is e =
     let p = seated pool i seats ports inside e.each in
-    let owner : p.seat.side.outbox.owner ≡ 2 * i = omega (arith, ((owners_at 0 i seats p.seat p.seat_is e.owners).0)) in
+    let owner : p.seat.side.outbox.owner ≡ 2 * i = omega (arith, (owners_at 0 i seats p.seat p.seat_is e.owners).0) in
     ap (λ (x : Seat). x.side.outbox.owner) (is ∙ read_at seats i p.seat s p.seat_is) ∙ owner
 
 -- what becomes of it becomes of its port

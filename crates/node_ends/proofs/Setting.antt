@@ -19,8 +19,7 @@ pub record Counts (old new : PoolState) (o used aside : ℕ) : Type 0 where
 
 module _ {old new : PoolState} {o used aside : ℕ} (c : Counts old new o used aside) where
   same_length : length new.owners ≡ length old.owners
-  same_length =
-      ap length c.owners ∙ length-set old.owners o (record { quota = (owner_at old.owners o).quota; used = used; aside = aside })
+  same_length = ap length c.owners ∙ length-set old.owners o (record { quota = (owner_at old.owners o).quota; used = used; aside = aside })
 
   here : o < length old.owners → owner_at new.owners o ≡ record { quota = (owner_at old.owners o).quota; used = used; aside = aside }
   here low =
@@ -133,14 +132,14 @@ set_holds old new k waiting m h some c =
     let o = k.outbox.owner in
     let next = counted_stands old new k (without_got m) (used_of old o + 1) (aside_of old o + 1) h.stands c (omega arith)
     (omega (arith, some, h.stands.halfway.sends.lies.kept.quota, h.stands.halfway.sends.lies.kept.within)) in
-    let room : nat_lt 0 (spare m) ≡ true = lt-ltb 0 (spare m) (omega (arith, some, (spare_is old k (without_got m) h.stands))) in
+    let room : nat_lt 0 (spare m) ≡ true = lt-ltb 0 (spare m) (omega (arith, some, spare_is old k (without_got m) h.stands)) in
     let P : ℕ → Type 0 = λ a. EndStandsFor k new (record (without_got m) { aside = a + 1 }) in
     subst (λ n. HoldsEnd new k waiting n) (sym (rw room refl)) (call_holds old new k k waiting m (record m { aside = m.aside + 1 }) h
     (counted_leaves old new k (without_got m) (used_of old o + 1) (aside_of old o + 1) h.stands c) (subst P h.stands.halfway.aside next) refl)
 
 pub set_counts : (pool : PoolState) (k : End) (m : Machine) → EndStandsFor k pool (without_got m) → 0 < spare_of pool k.outbox.owner
     → (turn m SetAside).aside ≡ m.aside + 1
-set_counts pool k m h some = rw (lt-ltb 0 (spare m) (omega (arith, some, (spare_is pool k (without_got m) h)))) refl
+set_counts pool k m h some = rw (lt-ltb 0 (spare m) (omega (arith, some, spare_is pool k (without_got m) h))) refl
 
 -- at most 128 blocks are set aside
 pub few_aside : (pool : PoolState) (k : End) (m : Machine) → EndStandsFor k pool (without_got m) → m.aside ≤ 128
@@ -153,8 +152,7 @@ none_released pool k waiting m none h = grind arith
 
 pub set_refused : (pool : PoolState) (k : End) (m : Machine) → EndStandsFor k pool (without_got m) → (0 < spare_of pool k.outbox.owner → ⊥)
     → turn m SetAside ≡ m
-set_refused pool k m h none =
-    by (nat_lt 0 (spare m)) refl (λ some. none (omega (arith, some, (spare_is pool k (without_got m) h))))
+set_refused pool k m h none = by (nat_lt 0 (spare m)) refl (λ some. none (omega (arith, some, spare_is pool k (without_got m) h)))
   where
     by : (b : Bool) → nat_lt 0 (spare m) ≡ b → (0 < spare m → ⊥) → turn m SetAside ≡ m
     by b q no_spare = grind arith

@@ -35,5 +35,4 @@ where_refused r f a = grind arith
 -- an end that is written back as it was
 pub none_written : {old new : PoolState} {seats : List Seat} {shown : KeptEnds} (i : ℕ) (s t : Seat) → s ≡ slice_index_or seats i s → new ≡ old → t ≡ s
     → kept_ends old seats ≡ shown → kept_ends new (slice_set seats i t) ≡ shown
-none_written {old} {new} {seats} i s t is pool same shown =
-    ap₂ kept_ends pool (ap (slice_set seats i) (same ∙ is) ∙ set-get_or seats i s) ∙ shown
+none_written {old} {new} {seats} i s t is pool same shown = ap₂ kept_ends pool (ap (slice_set seats i) (same ∙ is) ∙ set-get_or seats i s) ∙ shown

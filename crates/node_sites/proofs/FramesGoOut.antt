@@ -201,8 +201,7 @@ pub sending_next : {Runs Again : List Port → Type 0} {wires new : Wires} {at :
     → next_frame s.e ≡ Some c → Again (with_port at.link has_sent (with_port at.link (with_side s.e) ports))
     → WiresStandFor new (seen_from at (put s.link c)) × AreNoted at mid now (put_entries (side_of at) s.link c)
     → Sending Again new at ports p l before now (n - (i + 1))
-sending_next before n i zero c q s whole next runs r =
-    absurd (let z : Some c ≡ None = sym next ∙ (ap next_frame s.end_is ∙ whole.none) in cc)
+sending_next before n i zero c q s whole next runs r = absurd (let z : Some c ≡ None = sym next ∙ (ap next_frame s.end_is ∙ whole.none) in cc)
 sending_next {Again = Again} {new = new} {at = at} {ports} {p} {l} {now = now} before n i (suc left) c q s whole next runs r =
     let less : left ≡ n - (i + 1) = omega (arith, q) in
     rw (← less) (sending_goes_on before c s next runs r)

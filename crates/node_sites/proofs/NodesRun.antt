@@ -149,13 +149,11 @@ steps_regardless TimePasses w =
 -- behind what was noted before
 pub begins_so : {n : Node Memory} {noted : Noted} {sessions : List ℕ} {start : List Entry} {w : Work} → BeginsOver n w
     → IsNotedSo noted sessions start w.entries → BeginsStep n (as_told noted.sessions noted.entries.items) noted.short (as_told sessions start) w
-begins_so b noted =
-    record { runs = b.runs; sent = b.sent; none_ended = b.fresh; power = b.power; noted_are = as_watched noted }
+begins_so b noted = record { runs = b.runs; sent = b.sent; none_ended = b.fresh; power = b.power; noted_are = as_watched noted }
 
 -- or without that
 pub begins_bare : {n : Node Memory} (noted : List Entry) (short : Bool) {w : Work} → BeginsOver n w → BeginsStep n noted short noted (bare w)
-begins_bare noted short b =
-    record { runs = b.runs; sent = b.sent; none_ended = b.fresh; power = b.power; noted_are = λ kept. sym (append-nil noted) }
+begins_bare noted short b = record { runs = b.runs; sent = b.sent; none_ended = b.fresh; power = b.power; noted_are = λ kept. sym (append-nil noted) }
 
 -- ## Behind it
 
@@ -183,8 +181,7 @@ goes_so {n} {n2} {w = w} {f = f} live regardless begins b is =
 pub noted_so : {m m2 : Memory} {n2 : Node Memory} (noted : Noted) {sessions : List ℕ} {start : List Entry} {w : Work} {f : Work → Work} → w.plan ≡ m.plan
     → Brings WritesAsPlanned m m2 (HasStepped n2 (as_told noted.sessions noted.entries.items) noted.short (as_told sessions start)) f w
     → IsNotedSo noted sessions start (f w).entries
-noted_so noted {sessions} {start} plan b =
-    rw (planned_step b plan) (as_noted noted sessions start b.after.entries b.stands.noted_are)
+noted_so noted {sessions} {start} plan b = rw (planned_step b plan) (as_noted noted sessions start b.after.entries b.stands.noted_are)
 
 -- A host that sends a message by itself, or begins an init, does what the world asks for.
 
@@ -196,8 +193,7 @@ asked_so b noted = record { runs = b.runs; none_ended = b.fresh; power = b.power
 
 pub asked_bare : {n : Node Memory} (noted : List Entry) (short : Bool) {w : Work} → BeginsOver n w
     → IsAsked n noted short noted (bare w)
-asked_bare noted short b =
-    record { runs = b.runs; none_ended = b.fresh; power = b.power; noted_are = λ kept. sym (append-nil noted) }
+asked_bare noted short b = record { runs = b.runs; none_ended = b.fresh; power = b.power; noted_are = λ kept. sym (append-nil noted) }
 
 -- ## Without a write
 

@@ -135,8 +135,7 @@ module _ (session : ℕ → ℕ) where
 
   with_one : (k : ℕ) (f : Port → Port) → ((p : Port) → IsOf p → IsOf (f p)) → (ports : List Port) → AllByRecursion IsOf ports
       → AllByRecursion IsOf (with_port k f ports)
-  with_one k f keeps ports a =
-      all_of (λ (p : Port). changed_if (p.desk.host == k) f p) (λ p q. if_changed (p.desk.host == k) f keeps p q) ports a
+  with_one k f keeps ports a = all_of (λ (p : Port). changed_if (p.desk.host == k) f p) (λ p q. if_changed (p.desk.host == k) f keeps p q) ports a
 
   -- ## What is done
 

@@ -22,8 +22,7 @@ pub record PlaceIsOn (m : Memory) (node : Option Running) (near : ℕ → Number
 
 pub place_is_on : (k : Power) (m : Memory) (node : Option Running) (near : ℕ → NumberedEnd) (n : Node Memory) → k ≡ On n
     → IsNodePlace k m node near → PlaceIsOn m node near n
-place_is_on k m node near n q place =
-    go node refl (rw q at place)
+place_is_on k m node near n q place = go node refl (rw q at place)
   where
     go : (o : Option Running) → node ≡ o → IsNodePlace (On n) m o near → PlaceIsOn m node near n
     go (Some r) runs p = record { running = r; runs = runs; place = p }
@@ -120,8 +119,7 @@ stays_there i h ks sites s new p is a now =
 -- what is kept of the host at a place
 pub site_read : (i h : ℕ) (ks : List HostSite) (sites : List Site) (s : Site) (k : HostSite) (p : StandsAt i h sites) → p.site ≡ s
     → SitesAre ks sites → k ≡ get_or ks i k → SiteIs k s
-site_read i h ks sites s k p is a read =
-    subst (SiteIs k) is (read_there ks p.front p.site p.back i k p.place (subst (SitesAre ks) p.is a) read)
+site_read i h ks sites s k p is a read = subst (SiteIs k) is (read_there ks p.front p.site p.back i k p.place (subst (SitesAre ks) p.is a) read)
 
 -- what comes leaves the far end of a link
 pub come_far : (l : Link) (comes : Comes) → (as_it_comes l comes).host ≡ l.host
@@ -130,8 +128,7 @@ come_far l comes = grind arith
 -- it has these wires now
 pub site_with : (k : HostSite) (wires : Wires) (s : Site) (l : Link) → l.host ≡ s.link.host → WiresStandFor wires l → SiteIs k s
     → SiteIs (record k { wires = wires }) (record s { link = l })
-site_with k wires s l same w a =
-    record { host = a.host; wires = w; place = rw (← same) at a.place }
+site_with k wires s l same w a = record { host = a.host; wires = w; place = rw (← same) at a.place }
 
 -- where all links have as many RSETs, there is as much room
 pub room_kept : (ks news : List HostSite) (sites after : List Site) → SitesAre ks sites → SitesAre news after
@@ -154,8 +151,7 @@ come_resets l comes = grind arith
 pub resets_as_it_comes : (h : ℕ) (comes : Comes) (sites : List Site)
     → map (λ (s : Site). s.link.resets) (as_it_comes_to h comes sites) ≡ map (λ (s : Site). s.link.resets) sites
 resets_as_it_comes h comes [] = refl
-resets_as_it_comes h comes (s ∷ sites) =
-    ap₂ (λ n ns. n ∷ ns) (come_resets s.link (comes_to h comes s.host)) (resets_as_it_comes h comes sites)
+resets_as_it_comes h comes (s ∷ sites) = ap₂ (λ n ns. n ∷ ns) (come_resets s.link (comes_to h comes s.host)) (resets_as_it_comes h comes sites)
 
 -- ## Where it comes
 

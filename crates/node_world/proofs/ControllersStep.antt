@@ -112,8 +112,7 @@ module _ (v : Work) (starts out : Site → Link) (so : Site → Ending → Link)
 
   pub each_one : (sites : List Site) → EachSteps sites → AreDifferent (hosts_of_ends v.ports) → AllByRecursion (HasOneEnd v.ports) (hosts_in sites)
   each_one [] a d = tt
-  each_one (s ∷ sites) a d =
-      (record { port = a.0.port; here = a.0.here; only = the_only s.host a.0.port v.ports d a.0.here }, each_one sites a.1 d)
+  each_one (s ∷ sites) a d = (record { port = a.0.port; here = a.0.here; only = the_only s.host a.0.port v.ports d a.0.here }, each_one sites a.1 d)
 
   -- what was noted of all frames
   pub told_alike : (sites : List Site) (a : EachSteps sites) → v.cut ≡ false
@@ -144,8 +143,7 @@ module _ (v : Work) (starts out : Site → Link) (so : Site → Ending → Link)
   Near k s l = SiteIs k (record s { link = l })
 
   placed : (k : HostSite) (s : Site) (l m : Link) → m.host ≡ l.host → WiresStandFor k.wires m → Near k s l → Near k s m
-  placed k s l m q wires a =
-      record { host = a.host; wires = wires; place = rw (← q) at a.place }
+  placed k s l m q wires a = record { host = a.host; wires = wires; place = rw (← q) at a.place }
 
   pub midway_stands : (ks : List HostSite) (sites : List Site) (a : EachSteps sites) → SitesAre ks (map starts_so sites) → SitesAre ks (midway sites a)
   midway_stands [] [] a b = tt
@@ -296,8 +294,7 @@ pub ends_sent : (near far : ℕ → NumberedEnd) (desks : List Desk) → ((h : �
     → AllByRecursion (λ (d : Desk). next_frame (near d.host).side ≡ None) desks
     → AllByRecursion (λ (p : Port). next_frame p.side ≡ None) (map (λ (d : Desk). port_for (far d.host) d) desks)
 ends_sent near far [] q a = tt
-ends_sent near far (d ∷ desks) q a =
-    (rw (q d.host) at a.0, ends_sent near far desks q a.1)
+ends_sent near far (d ∷ desks) q a = (rw (q d.host) at a.0, ends_sent near far desks q a.1)
 
 pub ends_fresh : (near : ℕ → NumberedEnd) (desks : List Desk)
     → AllByRecursion (λ (p : Port). (p.late ≡ false) × (p.ended ≡ false)) (map (λ (d : Desk). port_for (near d.host) d) desks)
@@ -425,8 +422,7 @@ module _ (w : NodeWorld) (r : Running) (h : ℕ) (comes : Comes) (i : LinkInput)
   }
 
   pub sends_all : {Runs : Type 0} (ks : List HostSite) → Runs → SitesAre ks (as_it_comes_to h comes w.sites) → SendsTo Runs Then.ports ks mid_sites
-  sends_all ks runs a =
-      sends_them w Then starts out so may.orderly.different hosts_then each ks runs a
+  sends_all ks runs a = sends_them w Then starts out so may.orderly.different hosts_then each ks runs a
 
   pub step_midway : (old n : Node Memory) (ks : List HostSite) (live : Bool) → HasGone old n Then live → SitesAre ks (as_it_comes_to h comes w.sites)
       → EndsStep (On n) ks n live Then mid_sites

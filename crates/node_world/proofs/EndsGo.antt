@@ -200,8 +200,7 @@ out_behind {k} {l} g w =
 pub each_found : {X : Type 0} (key : X → ℕ) (xs : List X) → AreDifferent (map key xs)
     → AllByRecursion (λ (x : X). find (λ y. key y == key x) xs ≡ Some x) xs
 each_found key [] d = tt
-each_found {X} key (x ∷ xs) d =
-    (let same : (key x == key x) ≡ true = same_number (key x) in rw same refl, later xs d.0 (each_found key xs d.1))
+each_found {X} key (x ∷ xs) d = (let same : (key x == key x) ≡ true = same_number (key x) in rw same refl, later xs d.0 (each_found key xs d.1))
   where
     later : (ys : List X) → AllByRecursion (λ k. (k == key x) ≡ false) (map key ys) → AllByRecursion (λ (y : X). find (λ z. key z == key y) xs ≡ Some y) ys
         → AllByRecursion (λ (y : X). find (λ z. key z == key y) (x ∷ xs) ≡ Some y) ys

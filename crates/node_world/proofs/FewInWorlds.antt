@@ -267,8 +267,7 @@ changed m n b f q one s a = grind arith
 
 one_of : (m n h : ℕ) (f : Site → Site) → m ≤ n → ((s : Site) → FewOn m s.link → FewOn n (f s).link) → (sites : List Site) → FewOnEach m sites
     → FewOnEach n (with_site h f sites)
-one_of m n h f q one sites a =
-    each m n (λ (s : Site). changed_if (s.host == h) f s) (λ s b. changed m n (s.host == h) f q one s b) sites a
+one_of m n h f q one sites a = each m n (λ (s : Site). changed_if (s.host == h) f s) (λ s b. changed m n (s.host == h) f q one s b) sites a
 
 pub longer : (m n : ℕ) (w : NodeWorld) → m ≤ n → FewBehind m w → FewBehind n w
 longer m n w q a = go w.sites a
@@ -312,12 +311,10 @@ same_sites : (n node : ℕ) (f : Site → Site) → ((s : Site) → FewOn n s.li
 same_sites n node f one w a = one_of n n node f (omega arith) one w.sites a
 
 few_with_memory : (n node : ℕ) (m : Memory) (w : NodeWorld) → FewBehind n w → FewBehind n (with_memory node m w)
-few_with_memory n node m w a =
-    by_memory (FewBehind n) node w m (λ q. a) (λ q. same_sites n node (λ s. record s { memory = m }) (λ s b. b) w a)
+few_with_memory n node m w a = by_memory (FewBehind n) node w m (λ q. a) (λ q. same_sites n node (λ s. record s { memory = m }) (λ s b. b) w a)
 
 few_with_node : (n node : ℕ) (r : Running) (w : NodeWorld) → FewBehind n w → FewBehind n (with_node node r w)
-few_with_node n node r w a =
-    by_running (FewBehind n) node w r (λ q. a) (λ q. same_sites n node (λ s. record s { node = Some r }) (λ s b. b) w a)
+few_with_node n node r w a = by_running (FewBehind n) node w r (λ q. a) (λ q. same_sites n node (λ s. record s { node = Some r }) (λ s b. b) w a)
 
 pub few_behind_boot : (n : ℕ) (w : NodeWorld) (node : ℕ) → FewBehind n w → FewBehind (n + 1) (boots w node).0
 few_behind_boot n w node a =
@@ -390,8 +387,7 @@ few_behind_step n w (Arms node plan) a =
 
 pub few_behind_all : (causes : List Happening) (n : ℕ) (w : NodeWorld) → FewBehind n w → FewBehind (n + 2 * length causes) (all_happen w causes).0
 few_behind_all [] n w a = longer n (n + 2 * length {A = Happening} []) w (omega arith) a
-few_behind_all (c ∷ causes) n w a =
-    go (can_happen w c) (few_behind_all causes (n + 2) (world_step w c).0 (few_behind_step n w c a))
+few_behind_all (c ∷ causes) n w a = go (can_happen w c) (few_behind_all causes (n + 2) (world_step w c).0 (few_behind_step n w c a))
   where
     by : Bool → NodeWorld × List Occurrence
     by true = (

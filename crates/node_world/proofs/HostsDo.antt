@@ -191,8 +191,7 @@ module _ (new : HostSite) (s : Site) (to : End) (why : Loss) (host : new.host �
     (wires : WiresStandFor new.wires (happens s.link (at to (Lose why)))) where
   -- on its way to the controller
   pub lost_near : IsNodePlace new.power s.memory s.node (λ h. s.link.host) → SiteIs new (record s { link = happens s.link (at to (Lose why)) })
-  lost_near place =
-      record { host = host; wires = wires; place = rw (← same_host to s.link why) at place }
+  lost_near place = record { host = host; wires = wires; place = rw (← same_host to s.link why) at place }
 
   -- or to the host, for whose REC_ERROR it may count
   pub lost_far : to.at_host ≡ true → IsNodePlace new.power s.memory (counts why s.host s.node) (λ h. s.link.host) → SiteIs new (site_loses to why s)

@@ -69,8 +69,7 @@ host_begins_so k s n r comes entries is on runs =
 -- something has come to its end
 pub begins_at_end : (k : HostSite) (s : Site) (n : Node Memory) (r : Running) (comes : Comes) → SiteIs k s → k.power ≡ On n → s.node ≡ Some r
     → BeginsOver n (work_of r s.memory.plan (λ j. near_end_in (exchanged s.link) comes) (entries_for s.host (arrival Host (exchanged s.link) comes)))
-begins_at_end k s n r comes is on runs =
-    host_begins_so k s n r comes (entries_for s.host (arrival Host (exchanged s.link) comes)) is on runs
+begins_at_end k s n r comes is on runs = host_begins_so k s n r comes (entries_for s.host (arrival Host (exchanged s.link) comes)) is on runs
 
 -- it runs
 pub has_end : {n : Node Memory} {w : Work} → BeginsOver n w → (core : Core) × (ports : List Port) × RunsAs n core ports
@@ -321,8 +320,7 @@ pub record IsOn (k : HostSite) (s : Site) (n : Node Memory) : Type 0 where
   pub memory : node_memory n ≡ s.memory
 
 pub is_on : {k : HostSite} {s : Site} {n : Node Memory} → SiteIs k s → k.power ≡ On n → IsOn k s n
-is_on {k} {s} {n} is on =
-    go s.node refl (rw on at is.place)
+is_on {k} {s} {n} is on = go s.node refl (rw on at is.place)
   where
     go : (o : Option Running) → s.node ≡ o → IsNodePlace (On n) s.memory o (λ h. s.link.host) → IsOn k s n
     go (Some r) runs place = record { running = r; runs = runs; memory = place.0 }
@@ -338,8 +336,7 @@ unchanged entries is = record { site = is; noted = sym (append-nil entries) }
 
 pub unchanged_as : {k : HostSite} {s : Site} {after : Site × List Entry} (entries : List Entry) → SiteIs k s → after ≡ (s, [])
     → HasBecome k entries entries after
-unchanged_as {k} entries is q =
-    rw q (unchanged entries is)
+unchanged_as {k} entries is q = rw q (unchanged entries is)
 
 -- ## What happens
 
@@ -484,8 +481,7 @@ pub is_done : {mid : HostSite} {live : Bool} {now : List Entry}
     (d : HasDone mid live now still before s after)
     → OnOk result (HasBecome new before noted (host_behind s d.step d.w, d.w.entries ++ frames_noted Host s.host d.l d.w))
     → OnOk result (HasBecome new before noted after)
-is_done {before = before} result new noted d r =
-    rw d.is r
+is_done {before = before} result new noted d r = rw d.is r
 
 module _ (k mid : HostSite) (s : Site) (was n : Node Memory) (live : Bool) (before : List Entry) (begun now : Noted) (sessions : List ℕ)
     (numbers : sessions ≡ replicate 8 (max mid.wires.host.emitted mid.wires.host.took)) (is : SiteIs k s)
@@ -501,8 +497,7 @@ module _ (k mid : HostSite) (s : Site) (was n : Node Memory) (live : Bool) (befo
 
   middle : {step : List Turn → Ending → Link} {bare l : Link} {w : Work} → HostDoes s step bare l w → HasGone was n w live
       → WiresStandFor mid.wires (exchanged bare) → IsNotedSo now sessions before w.entries → IsToSend mid live now.entries.items now.short before s step l w
-  middle d gone wires noted =
-      midway mid was n live s d here.memory gone mid_on (mid_host ∙ is.host) wires numbers noted
+  middle d gone wires noted = midway mid was n live s d here.memory gone mid_on (mid_host ∙ is.host) wires numbers noted
 
   -- something came to its end
   pub heard : (comes : Comes) (i : LinkInput) → CountsComing s comes → input_of (exchanged s.link) comes ≡ Some i

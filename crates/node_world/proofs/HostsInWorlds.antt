@@ -107,8 +107,7 @@ module _ (w : NodeWorld) (h : ℕ) (s : Site) (found : site_at w.sites h ≡ Som
 
   -- its power is cut
   pub cut_in_world : ChangesSite w h s (host_cut s, entry.Cut s.host ∷ []) (loses_power_at h w, entry.Cut h ∷ [])
-  cut_in_world =
-      record { change = host_cut; world = rw number refl; site = refl; entries = ap (λ n. entry.Cut n ∷ []) (sym its_host) }
+  cut_in_world = record { change = host_cut; world = rw number refl; site = refl; entries = ap (λ n. entry.Cut n ∷ []) (sym its_host) }
 
   -- a write to its memory will fail
   pub armed_in_world : (plan : Plan)

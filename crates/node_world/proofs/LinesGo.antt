@@ -52,24 +52,20 @@ goes_is w said e = rw e refl
 module _ (w : NodeWorld) (said : Line) (k : Power) (ks : List HostSite) where
   pub world_refused : (cause : NoCause) (now : List Entry) → refusal_in w said ≡ Some cause → WorldIs k ks w
       → now ≡ note.No cause ∷ [] → LinePlayed k ks now (line_step w said)
-  world_refused cause now e world noted =
-      rw (refused_is w said cause e) (record { world = world; told = noted })
+  world_refused cause now e world noted = rw (refused_is w said cause e) (record { world = world; told = noted })
 
   pub world_goes : (c : Happening) (now : List Entry) → goes_on w said ≡ one_step w c → refusal_in w said ≡ None → WorldBecomes k ks [] now (world_step w c)
       → LinePlayed k ks now (line_step w said)
-  world_goes c now one e b =
-      rw (goes_is w said e ∙ one) (record { world = b.world; told = b.noted ∙ sym (append-nil (world_step w c).1) })
+  world_goes c now one e b = rw (goes_is w said e ∙ one) (record { world = b.world; told = b.noted ∙ sym (append-nil (world_step w c).1) })
 
 module _ (w : NodeWorld) (said : Line) (ks : List HostSite) where
   pub hosts_refused : (cause : NoCause) (now : List Entry) → refusal_in w said ≡ Some cause → SitesAre ks w.sites
       → now ≡ note.No cause ∷ [] → HostsPlayed ks now (line_step w said)
-  hosts_refused cause now e sites noted =
-      rw (refused_is w said cause e) (record { sites = sites; told = noted })
+  hosts_refused cause now e sites noted = rw (refused_is w said cause e) (record { sites = sites; told = noted })
 
   pub hosts_go : (c : Happening) (now : List Entry) → goes_on w said ≡ one_step w c → refusal_in w said ≡ None
       → SitesBecome ks [] now (world_step w c) → HostsPlayed ks now (line_step w said)
-  hosts_go c now one e b =
-      rw (goes_is w said e ∙ one) (record { sites = b.sites; told = b.noted ∙ sym (append-nil (world_step w c).1) })
+  hosts_go c now one e b = rw (goes_is w said e ∙ one) (record { sites = b.sites; told = b.noted ∙ sym (append-nil (world_step w c).1) })
 
 -- What becomes of a line where what was noted before is nothing, and what its refusal says of the nodes.
 
@@ -116,8 +112,7 @@ module _ (w : NodeWorld) (said : Line) (k : Power) (ks : List HostSite) (before 
 
   pub line_goes : (c : Happening) → goes_on w said ≡ one_step w c → refusal_in w said ≡ None → WorldBecomes k ks before now (world_step w c)
       → LinePlayed k ks now (line_step w said)
-  line_goes c one e b =
-      world_goes w said k ks c now one e (rw none at b)
+  line_goes c one e b = world_goes w said k ks c now one e (rw none at b)
 
 -- ## A node of the header
 

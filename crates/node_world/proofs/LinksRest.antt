@@ -63,8 +63,7 @@ module _ (w : NodeWorld) (may : MayGoOn w) where
   by_links : (sites : List Site) → AllByRecursion (λ (s : Site). site_at w.sites s.host ≡ Some s) sites
       → list_all (λ (h : ℕ). end_rests (link_to w.sites h).controller.side) (hosts_in sites) ≡ list_all near_rests sites
   by_links [] a = refl
-  by_links (s ∷ sites) a =
-      ap₂ (λ b c. b && c) (ap (λ l. end_rests l.controller.side) (link_is w.sites s.host s a.0)) (by_links sites a.1)
+  by_links (s ∷ sites) a = ap₂ (λ b c. b && c) (ap (λ l. end_rests l.controller.side) (link_is w.sites s.host s a.0)) (by_links sites a.1)
 
   pub controller_ends_rest : (r : Running) → w.controller ≡ Some r
       → are_at_rest (map (λ (d : Desk). port_for (link_to w.sites d.host).controller d) r.desks) ≡ list_all near_rests w.sites
@@ -98,8 +97,7 @@ IsSaid n b = (core : Core) (ports : List Port) → RunsAs n core ports → b ≡
 
 pub host_says : (k : HostSite) (s : Site) (n : Node Memory) (b : Bool) → SiteIs k s → k.power ≡ On n → IsToLookAt s → IsSaid n b
     → b ≡ end_rests s.link.host.side
-host_says k s n b is on may says =
-    go s.node refl (subst (λ (p : Power). IsNodePlace p s.memory s.node (λ h. s.link.host)) on is.place)
+host_says k s n b is on may says = go s.node refl (subst (λ (p : Power). IsNodePlace p s.memory s.node (λ h. s.link.host)) on is.place)
   where
     go : (o : Option Running) → s.node ≡ o → IsNodePlace (On n) s.memory o (λ h. s.link.host) → b ≡ end_rests s.link.host.side
     go (Some r) q place = says r.core (map (λ (d : Desk). port_for s.link.host d) r.desks) place.1 ∙ host_end_rests s r q may
@@ -114,8 +112,7 @@ module _ (w : NodeWorld) (may : MayGoOn w) (k : Power)
   near h = (link_to w.sites h).controller
 
   pub controller_says : (n : Node Memory) (b : Bool) → k ≡ On n → IsSaid n b → b ≡ list_all near_rests w.sites
-  controller_says n b on says =
-      go w.controller refl (subst (λ (p : Power). IsNodePlace p w.memory w.controller near) on is)
+  controller_says n b on says = go w.controller refl (subst (λ (p : Power). IsNodePlace p w.memory w.controller near) on is)
     where
       go : (o : Option Running) → w.controller ≡ o → IsNodePlace (On n) w.memory o near → b ≡ list_all near_rests w.sites
       go (Some r) q place =
@@ -123,8 +120,7 @@ module _ (w : NodeWorld) (may : MayGoOn w) (k : Power)
       go None q place = absurd place
 
   pub controller_is_new : (m : Memory) → AreTimely w → k ≡ Off m → true ≡ list_all near_rests w.sites
-  controller_is_new m timely off =
-      go w.controller refl (subst (λ (p : Power). IsNodePlace p w.memory w.controller near) off is)
+  controller_is_new m timely off = go w.controller refl (subst (λ (p : Power). IsNodePlace p w.memory w.controller near) off is)
     where
       go : (o : Option Running) → w.controller ≡ o → IsNodePlace (Off m) w.memory o near → true ≡ list_all near_rests w.sites
       go None q place = new_ends_rest w may timely q
@@ -207,8 +203,7 @@ pub near_moves : (sites : List Site) → false ≡ list_all near_rests sites →
 near_moves sites q = sym (links_rest sites ∙ ap (λ b. b && list_all far_rests sites) (sym q))
 
 pub far_moves : (sites : List Site) → list_all far_rests sites ≡ false → false ≡ sites_rest sites
-far_moves sites q =
-    sym (links_rest sites ∙ (ap (λ b. list_all near_rests sites && b) q ∙ and_false (list_all near_rests sites)))
+far_moves sites q = sym (links_rest sites ∙ (ap (λ b. list_all near_rests sites && b) q ∙ and_false (list_all near_rests sites)))
 
 pub all_still : (sites : List Site) → true ≡ list_all near_rests sites → list_all far_rests sites ≡ true → true ≡ sites_rest sites
 all_still sites p q = sym (links_rest sites ∙ ap₂ (λ b c. b && c) (sym p) q)

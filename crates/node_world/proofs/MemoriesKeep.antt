@@ -448,8 +448,7 @@ module _ (hosts : List ℕ) (are : AreHosts hosts) where
 
   keeps_behind_all : (causes : List Happening) (w : NodeWorld) → MayAllHappen w causes → KeepsSome hosts w → KeepsSome hosts (all_happen w causes).0
   keeps_behind_all [] w may k = k
-  keeps_behind_all (c ∷ causes) w may k =
-      go (can_happen w c) (keeps_behind_all causes (world_step w c).0 may.1 (keeps_behind_step w c may.0 k))
+  keeps_behind_all (c ∷ causes) w may k = go (can_happen w c) (keeps_behind_all causes (world_step w c).0 may.1 (keeps_behind_step w c may.0 k))
     where
       by : Bool → NodeWorld × List Occurrence
       by true = (

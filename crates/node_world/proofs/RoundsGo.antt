@@ -176,8 +176,7 @@ module _ (w : NodeWorld) (c : Happening) (most : ℕ) where
   -- what is kept stands for the world behind so many
   pub again_goes : (k : Power) (ks : List HostSite) (before noted : List Entry) (i n : ℕ) (a : IsSo k ks before noted i)
       → all_happen w (replicate n c) ≡ (a.behind, a.events) → WorldHasGone k ks before noted (all_happen w (replicate n c))
-  again_goes k ks before noted i n a same =
-      rw same (record { world = a.world; noted = a.told })
+  again_goes k ks before noted i n a same = rw same (record { world = a.world; noted = a.told })
 
   -- the line at which they happen is played behind them
   pub again_plays : (said : Line) (k : Power) (ks : List HostSite) (before noted : List Entry) (i n : ℕ)
@@ -239,8 +238,7 @@ pub found_among : (h : ℕ) (front back : List ℕ) (sites : List Site) → host
 found_among h [] back [] q = let z : [] ≡ h ∷ back = q in absurd (cc z)
 found_among h [] back (s ∷ sites) q = (s, rw (eq-eqb s.host h cc) refl)
 found_among h (x ∷ front) back [] q = let z : [] ≡ x ∷ (front ++ h ∷ back) = q in absurd (cc z)
-found_among h (x ∷ front) back (s ∷ sites) q =
-    go (s.host == h) refl (found_among h front back sites cc)
+found_among h (x ∷ front) back (s ∷ sites) q = go (s.host == h) refl (found_among h front back sites cc)
   where
     go : (b : Bool) → (s.host == h) ≡ b → (t : Site) × (site_at sites h ≡ Some t) → (t : Site) × (site_at (s ∷ sites) h ≡ Some t)
     go true e later = (s, rw e refl)

@@ -301,8 +301,7 @@ pub there : (i : ℕ) (ks : List HostSite) (front back : List Site) (k : HostSit
     → length front ≡ i → i < length ks → k ≡ get_or ks i k → There i ks front back k
 there i ks front [] k a place lt read =
     absurd (let over : length ks ≡ i = (as_many ks (front ++ []) a) ∙ (ap length (append-nil front) ∙ place) in omega (arith, over, lt))
-there i ks front (s ∷ rest) k a place lt read =
-    record { site = s; rest = rest; is = refl; here = read_there ks front s rest i k place a read }
+there i ks front (s ∷ rest) k a place lt read = record { site = s; rest = rest; is = refl; here = read_there ks front s rest i k place a read }
 
 -- it is the host with this number
 pub place_found : (i h : ℕ) (ks : List HostSite) (sites : List Site) (k : HostSite) → SitesAre ks sites → PassedBy i h sites

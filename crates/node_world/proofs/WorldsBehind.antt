@@ -75,8 +75,7 @@ module _ (header : Header) (is : IsNodeHeader header) (lines : List Line) (play 
       (all_so_behind header lines told follows (are_hosts header is) play)
 
   pub timely_behind : AreTimely (nodes_behind header lines)
-  timely_behind h s found =
-      timely (nodes_behind header lines) _ (watches of_none (occurrences_in told) h) h s so.up found (so.each h s found)
+  timely_behind h s found = timely (nodes_behind header lines) _ (watches of_none (occurrences_in told) h) h s so.up found (so.each h s found)
 
   pub hosts_behind : hosts_in (nodes_behind header lines).sites ≡ hosts
   hosts_behind = so.hosts_are
@@ -177,8 +176,7 @@ all_above x (y ∷ xs) a = (let more = above x y a.0 in omega (arith, more), all
 
 rising : (a : ℕ) (xs : List ℕ) → AllByRecursion (λ x. a ≤ x) xs → IsStrictlySortedBy nat_cmp xs → IsRisingFrom a xs
 rising a [] low sorted = tt
-rising a (x ∷ xs) low sorted =
-    (low.0, rising (x + 1) xs (all_above x xs (sorted_head nat_cmp x xs sorted)) (sorted_tail nat_cmp x xs sorted))
+rising a (x ∷ xs) low sorted = (low.0, rising (x + 1) xs (all_above x xs (sorted_head nat_cmp x xs sorted)) (sorted_tail nat_cmp x xs sorted))
 
 none_below : (a x : ℕ) (xs : List ℕ) → x < a → IsRisingFrom a xs → list_any (λ k. k == x) xs ≡ false
 none_below a x [] low r = refl

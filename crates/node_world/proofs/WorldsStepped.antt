@@ -423,8 +423,7 @@ module _ {E : Type 0} (result : Result (Option Misread) E) (old new : NodeWorld)
 module _ {T E : Type 0} (result : Result T E) (old new : NodeWorld) (header : Header) (plays : List Play) (s : IsNodeWorldBehind old header plays)
     (before : List Entry) where
   abbrev HasGone : Type 0
-  HasGone =
-      WorldHasGone new.controller new.sites.items before new.noted.entries.items (world_round (nodes_behind header (lines_played header plays)))
+  HasGone = WorldHasGone new.controller new.sites.items before new.noted.entries.items (world_round (nodes_behind header (lines_played header plays)))
 
   pub round_answered : rounds_played plays < 400000000 → OnOk result HasGone → OnOk result (new.noted.short ≡ false) → new.mask ≡ old.mask
       → new.stepped ≡ old.stepped → new.rounds ≡ old.rounds + 1 → OnOk result (IsNodeWorldBehind new header (plays ++ Round ∷ []))
@@ -480,8 +479,7 @@ controller_kept k header plays n s off m kept = grind arith
 -- a host at its place
 pub stands_there : (k : NodeWorld) (header : Header) (plays : List Play) (i n : ℕ) → IsNodeWorldBehind k header plays
     → (a : StandsAt i n (nodes_behind header (lines_played header plays)).sites) → (site : HostSite) → site ≡ get_or k.sites.items i site → SiteIs site a.site
-stands_there k header plays i n s a site read =
-    read_there k.sites.items a.front a.site a.back i site a.place (rw a.is at s.stands.sites) read
+stands_there k header plays i n s a site read = read_there k.sites.items a.front a.site a.back i site a.place (rw a.is at s.stands.sites) read
 
 -- the memory of a host
 pub host_kept : (k : NodeWorld) (header : Header) (plays : List Play) (n i : ℕ) → IsNodeWorldBehind k header plays → IsNodeOf header.hosts.items n

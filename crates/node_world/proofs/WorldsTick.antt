@@ -239,8 +239,7 @@ older_few w few = go w.controller few
         subst (λ near. CountsFew TimePasses (map (λ (d : Desk). port_for (near d.host) d) r.desks)) (sym (all_near w.sites)) a
 
 pub older_is : (k : Power) (ks news : List HostSite) (w : NodeWorld) → WorldIs k ks w → SitesAre news (map older w.sites) → WorldIs k news (older_world w)
-older_is k ks news w world sites =
-    record { controller = rw (← all_near w.sites) at world.controller; sites = sites }
+older_is k ks news w world sites = record { controller = rw (← all_near w.sites) at world.controller; sites = sites }
 
 pub then_ticks : (k : Power) (ks : List HostSite) (w : NodeWorld) (before mid now : List Entry) → mid ≡ before ++ (all_aged w).1
     → WorldBecomes k ks mid now (controller_ticks (older_world w)) → WorldBecomes k ks before now (near_ticks w)
@@ -298,8 +297,7 @@ near_ready w a =
 
 to_tick : (sites : List Site) → AllByRecursion IsReady sites → FewOnEach 300000001 sites → AreToTick sites
 to_tick [] a f = tt
-to_tick (s ∷ sites) a f =
-    (record { host = a.0.host; may = a.0.may; room = let r = f.0.resets in omega (arith, r) }, to_tick sites a.1 f.1)
+to_tick (s ∷ sites) a f = (record { host = a.0.host; may = a.0.may; room = let r = f.0.resets in omega (arith, r) }, to_tick sites a.1 f.1)
 
 counts_tick : (k : HostSite) (s : Site) → SiteIs k s → IsHostOf s → FewOn 300000000 s.link → (r : Running) → s.node ≡ Some r → CountsOn s.link.host.side Tick
 counts_tick k s is host few r runs =

@@ -193,8 +193,7 @@ module _ (c : List ℕ) (side : Side) (state : State) (ahead : List ℕ) (p : Is
     f = found_then (behind (b ∷ []) g later) (found_good state.version most state.many bytes opened good)
 
     pub record_there : slice_get (records c) state.many ≡ Some b
-    record_there =
-        ap₂ (λ l n. slice_get l n) (ap (λ (x : Found). x.bodies) f) (sym p.many) ∙ get_at_end p.passed b later.bodies
+    record_there = ap₂ (λ l n. slice_get l n) (ap (λ (x : Found). x.bodies) f) (sym p.many) ∙ get_at_end p.passed b later.bodies
 
     pub body_len : length b ≡ slice_index bytes 1
     body_len =

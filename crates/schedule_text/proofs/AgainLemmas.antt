@@ -5,11 +5,11 @@ use Rattle.std.proofs.lemmas.Fmt.{decimal_nonempty, first_decimal, digits_decima
 use Rattle.std.proofs.lemmas.Str.Parse.{IsNumeralModel, numerals_by_value}
 use Rattle.std.proofs.lemmas.List.Splits.{slice_split_none, slice_split_at}
 use Rattle.std.proofs.Math.ListN.{get_or-eq_default}
-use Rattle.schedule_text.proofs.Names.{All, AllByRecursion, AllPass-from_list_all, Bool, End, List, Ok, Some, [], all_ascii_digits, ap, arith, byte_text}
+use Rattle.schedule_text.proofs.Names.{All, AllByRecursion, AllPass-from_list_all, Bool, End, List, Some, [], all_ascii_digits, ap, arith, byte_text}
 use Rattle.schedule_text.proofs.Names.{byte_value, bytes_value, cond, decimal, decode_sized-twice, encode_upper, end_text, end_value, false, filter, get_or}
 use Rattle.schedule_text.proofs.Names.{length, length-encode_with, list_all, nat_lt, nat_tests, number_value, refl, rules, side_value, slice_index, slice_split}
-use Rattle.schedule_text.proofs.Names.{spaced, subst, suc, sym, true, upper_digits, words, zero, ℕ, ◌%◌, ◌&&◌, ◌*◌, ◌++◌, ◌/◌, ◌<◌, ◌^◌, ◌∙◌, ◌∷◌, ◌≡◌, ◌≤◌}
-use Rattle.hex.specs.Hex.{IsBytes, decode_sized, encode_with}
+use Rattle.schedule_text.proofs.Names.{spaced, subst, suc, sym, true, upper_digits, words, zero, ℕ, ◌%◌, ◌*◌, ◌++◌, ◌/◌, ◌<◌, ◌^◌, ◌∙◌, ◌∷◌, ◌≡◌, ◌≤◌}
+use Rattle.hex.specs.Hex.{IsBytes, encode_with}
 use Rattle.hex.proofs.HexLemmas.{decode_of-encode_upper}
 use Rattle.schedule_text.specs.Values.{is_bad_front}
 use Rattle.schedule_text.proofs.WordsLemmas.{is_space, is_letter, kept}
@@ -56,8 +56,7 @@ one_byte b h (suc i) = omega arith
 pub byte_again : (b : ℕ) → b < 256 → byte_value (byte_text b) ≡ Some b
 byte_again b h =
     let sized : length (byte_text b) ≡ 2 * 1 = length-hex (b ∷ []) in
-    let read : decode_sized (byte_text b) 1 ≡ Ok (b ∷ []) = decode_sized-twice (byte_text b) 1 sized ∙ decode_of-encode_upper (b ∷ []) (one_byte b h) in
-    rw read refl
+    rw (decode_sized-twice (byte_text b) 1 sized ∙ decode_of-encode_upper (b ∷ []) (one_byte b h)) refl
 
 byte_digits : (b : ℕ) → byte_text b ≡ slice_index upper_digits (b / 16) ∷ slice_index upper_digits (b % 16) ∷ []
 unfolding encode_with

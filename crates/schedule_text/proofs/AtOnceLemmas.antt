@@ -103,8 +103,7 @@ pub end_alone : (rest : List ℕ) (at : End) → 1 ≤ length rest → get_or re
     → words rest ≡ take (length rest - 1) (drop 1 rest) ∷ []
 end_alone (a ∷ word) at some space is =
     let all : take (length (a ∷ word) - 1) word ≡ word = take_all _ word (omega arith) in
-    let read : end_value word ≡ Some at = ap end_value (sym all) ∙ is in
-    ap (λ x. words (x ∷ word)) space ∙ words-spaced (word ∷ []) (end_is_word word at read, tt) ∙ ap (λ w. w ∷ []) (sym all)
+    ap (λ x. words (x ∷ word)) space ∙ words-spaced (word ∷ []) (end_is_word word at (ap end_value (sym all) ∙ is), tt) ∙ ap (λ w. w ∷ []) (sym all)
 end_alone [] at some space is = absurd (omega (arith, some))
 
 -- a byte is one word

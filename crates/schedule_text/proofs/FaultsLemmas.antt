@@ -71,8 +71,7 @@ allowed : (header : Option Header) (row : FormRow) (ws : List (List ℕ)) → ma
 allowed header row ws stands h = let not = not_standing header row ws h in cc
 
 first_order : (first : List ℕ) (ws : List (List ℕ)) → first ≢ codes "swp" → by_row None (row_for first ws) ws ≡ Err fault.Order
-first_order first ws other =
-    row_cases (λ o. by_row None o ws ≡ Err fault.Order) rows first ws (grind arith) (λ e. refl)
+first_order first ws other = row_cases (λ o. by_row None o ws ≡ Err fault.Order) rows first ws (grind arith) (λ e. refl)
 
 bare_forbidden : (header : Header) (row : FormRow) (ws : List (List ℕ)) → may_stand row.place (Some header) ≡ not header.hci
     → by_row (Some header) (Some row) ws ≡ Err fault.Order → IsTrue header.hci
@@ -140,8 +139,7 @@ first_header ws true h = allowed None nodes_row ws refl h
 first_header ws false h = allowed None header_row ws refl h
 
 header_stands : (first : List ℕ) (ws : List (List ℕ)) → by_row None (row_for first ws) ws ≡ Err fault.Order → first ≡ codes "swp" → ⊥
-header_stands first ws h e =
-    first_header ws (has_third (codes "hci") ws) (subst (λ w. by_row None (row_for w ws) ws ≡ Err fault.Order) e h)
+header_stands first ws h e = first_header ws (has_third (codes "hci") ws) (subst (λ w. by_row None (row_for w ws) ws ≡ Err fault.Order) e h)
 
 -- out of order
 pub order_iff : (header : Option Header) (first : List ℕ) (ws : List (List ℕ)) → is_comment first ≡ false

@@ -123,16 +123,14 @@ front_digits front more =
 
 -- a number of two digits
 pub two_decimals : (n : ℕ) → 10 ≤ n → n < 100 → decimal n ≡ (48 + n / 10) ∷ (48 + n % 10) ∷ []
-two_decimals n large small =
-    decimal_step n large (omega arith) ∙ ap (λ ds. ds ++ (48 + n % 10) ∷ []) (decimal_digit (n / 10) (omega arith))
+two_decimals n large small = decimal_step n large (omega arith) ∙ ap (λ ds. ds ++ (48 + n % 10) ∷ []) (decimal_digit (n / 10) (omega arith))
 
 -- the last two digits of a number
 last_decimals : (n : ℕ) → 100 ≤ n → n < 2 ^ 64 → decimal n ≡ decimal (n / 100) ++ (48 + n / 10 % 10) ∷ (48 + n % 10) ∷ []
 last_decimals n large fits =
-    let hundreds : n / 10 / 10 ≡ n / 100 = omega arith in
     decimal_step n (omega arith) fits ∙ ap (λ ds. ds ++ (48 + n % 10) ∷ []) (decimal_step (n / 10) (omega arith) (omega arith))
     ∙ append_assoc (decimal (n / 10 / 10)) ((48 + n / 10 % 10) ∷ []) ((48 + n % 10) ∷ [])
-    ∙ ap (λ m. decimal m ++ (48 + n / 10 % 10) ∷ (48 + n % 10) ∷ []) hundreds
+    ∙ ap (λ m. decimal m ++ (48 + n / 10 % 10) ∷ (48 + n % 10) ∷ []) (omega arith)
 
 -- a number of three digits
 pub three_decimals : (n : ℕ) → 100 ≤ n → n < 1000 → decimal n ≡ (48 + n / 100) ∷ (48 + n / 10 % 10) ∷ (48 + n % 10) ∷ []
@@ -143,10 +141,9 @@ three_decimals n large small =
 -- a number of four digits
 pub four_decimals : (n : ℕ) → 1000 ≤ n → n < 10000 → decimal n ≡ (48 + n / 1000) ∷ (48 + n / 100 % 10) ∷ (48 + n / 10 % 10) ∷ (48 + n % 10) ∷ []
 four_decimals n large small =
-    let thousands : n / 100 / 10 ≡ n / 1000 = omega arith in
     last_decimals n (omega (arith, large)) (omega (arith, small))
     ∙ ap (λ ds. ds ++ (48 + n / 10 % 10) ∷ (48 + n % 10) ∷ []) (two_decimals (n / 100) (omega (arith, large)) (omega (arith, small)))
-    ∙ ap (λ a. (48 + a) ∷ (48 + n / 100 % 10) ∷ (48 + n / 10 % 10) ∷ (48 + n % 10) ∷ []) thousands
+    ∙ ap (λ a. (48 + a) ∷ (48 + n / 100 % 10) ∷ (48 + n / 10 % 10) ∷ (48 + n % 10) ∷ []) (omega arith)
 
 pub holds_decimals : (start : Start) (text : List ℕ) (n : ℕ) (t : Text) → 100 ≤ n → n < 2 ^ 64
     → HoldsText start ((text ++ decimal (n / 100)) ++ ((48 + n / 10 % 10) ∷ (48 + n % 10) ∷ [])) t → HoldsText start (text ++ decimal n) t
@@ -157,17 +154,15 @@ holds_decimals start text n t large fits h =
 -- a line and what stands behind its LF
 pub holds_line : (start : Start) (text behind more : List ℕ) (t : Text) → behind ≡ more → HoldsText start ((text ++ (10 ∷ [])) ++ behind) t
     → HoldsText start (text ++ (10 ∷ more)) t
-holds_line start text behind more t e h =
-    subst (λ x. HoldsText start x t) (append_assoc text (10 ∷ []) behind ∙ ap (λ b. text ++ (10 ∷ b)) e) h
+holds_line start text behind more t e h = subst (λ x. HoldsText start x t) (append_assoc text (10 ∷ []) behind ∙ ap (λ b. text ++ (10 ∷ b)) e) h
 
 -- entries and one more
 pub one_entry_more : (start : Start) (before : List ℕ) (entries : List Entry) (entry : Entry) (i : ℕ) (t : Text) → i < length entries
     → entry ≡ get_or entries i entry
     → HoldsText start ((before ++ entry_lines (take i entries)) ++ entry_line entry) t → HoldsText start (before ++ entry_lines (take (i + 1) entries)) t
 one_entry_more start before entries entry i t within is h =
-    let next : take (i + 1) entries ≡ take i entries ++ entry ∷ [] = take_more entries i entry within ∙ ap (λ e. take i entries ++ e ∷ []) (sym is) in
     let lines : entry_lines (take (i + 1) entries) ≡ entry_lines (take i entries) ++ entry_line entry =
-    ap entry_lines next
+    ap entry_lines (take_more entries i entry within ∙ ap (λ e. take i entries ++ e ∷ []) (sym is))
     ∙ (flat_map-append entry_line (take i entries) (entry ∷ []) ∙ ap (λ l. entry_lines (take i entries) ++ l) (append-nil (entry_line entry))) in
     subst (λ x. HoldsText start x t) (append_assoc before (entry_lines (take i entries)) (entry_line entry) ∙ ap (λ l. before ++ l) (sym lines)) h
 

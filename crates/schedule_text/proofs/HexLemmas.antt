@@ -10,9 +10,7 @@ pub bytes_of_digits : (word : List ℕ) → length word % 2 ≡ 0 → list_all i
     → option_map length (bytes_value word) ≡ Some (length word / 2)
 bytes_of_digits word even digits =
     let read = decode_of-digits word even (AllPass-from_list_all is_hex_digit word digits) in
-    let long = (decode_of-ok word read.0 read.1).2 in
-    let half : length read.0 ≡ length word / 2 = omega (arith, long) in
-    rw read.1 (ap Some half)
+    rw read.1 (ap Some (omega (arith, (decode_of-ok word read.0 read.1).2)))
 
 -- other words stand for none
 no_bytes : (word : List ℕ) (r : Result (List ℕ) FromHexError) → decode_of word ≡ r → (length word % 2 ≡ 0 → list_all is_hex_digit word ≡ true → ⊥)
@@ -32,8 +30,7 @@ both_read high low x y = (digit_or_error high 0 x >>= (λ h. digit_or_error low 
 byte_of_two : (high low : ℕ) (x y : Option ℕ) → hex_digit_value high ≡ x → hex_digit_value low ≡ y
     → byte_value (high ∷ low ∷ []) ≡ option_and_then (λ h. option_map (λ l. h * 16 + l) y) x
 unfolding decode_pairs
-byte_of_two high low x y ex ey =
-    (grind arith) ∙ ap₂ (λ x y. option_and_then (λ h. option_map (λ l. h * 16 + l) y) x) ex ey
+byte_of_two high low x y ex ey = (grind arith) ∙ ap₂ (λ x y. option_and_then (λ h. option_map (λ l. h * 16 + l) y) x) ex ey
 
 pub no_high : (high low : ℕ) → hex_digit_value high ≡ None → None ≡ byte_value (high ∷ low ∷ [])
 no_high high low e = sym (byte_of_two high low None (hex_digit_value low) e refl)

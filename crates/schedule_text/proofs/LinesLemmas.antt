@@ -34,8 +34,7 @@ ok_of r bytes h = grind arith
 -- what digits stand for are bytes
 are_bytes : (word bytes : List ℕ) → bytes_value word ≡ Some bytes → All (λ b. b < 256) bytes
 are_bytes word bytes h =
-    let small = (decode_of-ok word bytes (ok_of (decode_of word) bytes h)).3 in
-    λ k d within. subst (λ b. b < 256) (get_or_default bytes k 0 d within) (small k)
+    λ k d within. subst (λ b. b < 256) (get_or_default bytes k 0 d within) (((decode_of-ok word bytes (ok_of (decode_of word) bytes h)).3) k)
 
 -- a number that may be absent is in its range
 number_ranges : (high : ℕ) (o : Option (List ℕ)) → IfSome (o >>= number_in 1 high) (λ n. (1 ≤ n) × (n ≤ high))
@@ -127,8 +126,7 @@ says_tables header (a ∷ ws) nodes right = let node = right.words.0 in (line.Ta
 pub sized_read : (n : ℕ) (word bytes : List ℕ) → bytes_value word ≡ Some bytes → length bytes ≡ n → sized_value n word ≡ Some bytes
 sized_read n word bytes h long =
     let is = ok_of (decode_of word) bytes h in
-    let twice = (decode_of-ok word bytes is).2 in
-    ap result_ok (decode_sized-twice word n (omega (arith, twice, long)) ∙ is)
+    ap result_ok (decode_sized-twice word n (omega (arith, (decode_of-ok word bytes is).2, long)) ∙ is)
 
 bytes_below : (bytes : List ℕ) (k : ℕ) → All (λ b. b < 256) bytes → k < length bytes → slice_index bytes k < 256
 bytes_below bytes k small within = small k 0 within
@@ -139,17 +137,15 @@ says_activate header (a ∷ b ∷ c ∷ ws) nodes right =
     let sync = right.words.1.0 in
     let power = right.words.1.1.0 in
     let low = sync.2 in
-    let high = sync.3 in
     let small = are_bytes b sync.0 sync.1 in
-    let first = bytes_below sync.0 0 small (omega (arith, low)) in
     let second = bytes_below sync.0 1 small (omega (arith, low)) in (
       line.Activate host.0 (two_bytes sync.0) power.0,
-      rw (host.1, sized_read 2 b sync.0 sync.1 (omega (arith, low, high)), power.1) refl,
+      rw (host.1, sized_read 2 b sync.0 sync.1 (omega (arith, low, sync.3)), power.1) refl,
       (
         nodes,
         record {
           known = contains_found header.hosts.items host.0 host.2;
-          identifier = omega (arith, first, second);
+          identifier = omega (arith, (bytes_below sync.0 0 small (omega (arith, low))), second);
           code = let below = power.2 in omega (arith, below);
         },
       ),
@@ -191,9 +187,7 @@ pipes_read : (hci : Bool) (hosts : List ℕ) (from : ℕ) (ws : List (List ℕ))
 pipes_read hci hosts from [] h = ([], refl, refl, λ k d within. absurd (omega arith))
 pipes_read hci hosts from (w ∷ ws) h =
     let pipe = h.0 in
-    let low = pipe.2 in
-    let high = pipe.3 in
-    let long : length pipe.0 ≡ 3 = omega (arith, low, high) in
+    let long : length pipe.0 ≡ 3 = omega (arith, pipe.2, pipe.3) in
     let more = pipes_read hci hosts from ws h.1 in (
       pipe.0 ∷ more.0,
       rw (sized_read 3 w pipe.0 pipe.1 long, more.1) refl,
@@ -205,9 +199,7 @@ pub says_init : (header : Header) (ws : List (List ℕ)) → header.hci ≡ true
 says_init header (a ∷ b ∷ ws) nodes right =
     let at = right.words.0 in
     let identity = right.words.1.0 in
-    let low = identity.2 in
-    let high = identity.3 in
-    let long : length identity.0 ≡ 8 = omega (arith, low, high) in
+    let long : length identity.0 ≡ 8 = omega (arith, identity.2, identity.3) in
     let pipes = pipes_read header.hci header.hosts.items 0 ws right.words.1.1 in
     let most = right.most in
     let count = pipes.2 in (
@@ -275,19 +267,11 @@ hosts_rise from (p ∷ q ∷ ps) h (suc k) within =
 
 few_from : (from : ℕ) (hosts : List ℕ) → 1 ≤ from → from ≤ 8 → HostsFrom from hosts → length hosts + from ≤ 8
 few_from from [] some most h = omega (arith, most)
-few_from from (x ∷ xs) some most h =
-    let high : x ≤ 7 = h.2 in
-    let up : from ≤ x = h.1 in
-    let more = few_from (x + 1) xs (omega arith) (omega (arith, high)) h.3 in
-    omega (arith, more, up)
+few_from from (x ∷ xs) some most h = omega (arith, (few_from (x + 1) xs (omega arith) (omega (arith, h.2)) h.3), h.1)
 
 pub hosts_few : (hosts : List ℕ) → HostsFrom 0 hosts → length hosts ≤ 7
 hosts_few [] h = omega arith
-hosts_few (x ∷ xs) h =
-    let low : 1 ≤ x = h.0 in
-    let high : x ≤ 7 = h.2 in
-    let more = few_from (x + 1) xs (omega arith) (omega (arith, high)) h.3 in
-    omega (arith, more, low)
+hosts_few (x ∷ xs) h = omega (arith, (few_from (x + 1) xs (omega arith) (omega (arith, h.2)) h.3), h.0)
 
 pub says_nodes : (ws : List (List ℕ)) → Right false [] nodes_row ws
     → (said : Header) × (read_of name.NodesHeader ws ≡ Some (read.Header said)) × IsNodeHeader said × (length ws ≤ 9)
@@ -478,9 +462,7 @@ ready_nodes hci hosts [] right = omega arith
 ready_nodes hci hosts (a ∷ []) right = omega arith
 ready_nodes hci hosts (a ∷ b ∷ ws) right =
     let found = hosts_read 0 ws (hosts_known hci hosts 0 ws right.words.1.1) in
-    let long = found.2 in
-    let few = hosts_few found.0 found.3 in
-    omega (arith, few, long)
+    omega (arith, hosts_few found.0 found.3, found.2)
 
 ready : (hci : Bool) (hosts : List ℕ) (first : List ℕ) (ws : List (List ℕ)) → Ready hci hosts ws (row_for first ws)
 ready hci hosts first ws =

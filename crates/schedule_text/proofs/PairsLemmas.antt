@@ -2,7 +2,7 @@
 use Rattle.schedule_text.proofs.Names.{IsPair, IsPairs, List, None, Ok, Option, Some, [], ap, append-nil, append_assoc, arith, byte_value, bytes_value, drop}
 use Rattle.schedule_text.proofs.Names.{get_or, hex_digit_value, length, refl, result_ok, slice_index, subst, sym, take, take_all, take_more, unwrap_or, ℕ, ◌*◌}
 use Rattle.schedule_text.proofs.Names.{◌++◌, ◌+◌, ◌-◌, ◌<◌, ◌∙◌, ◌∷◌, ◌≡◌, ◌≤◌}
-use Rattle.hex.specs.Hex.{decode_pairs, pair_value}
+use Rattle.hex.specs.Hex.{decode_pairs}
 use Rattle.hex.proofs.Pairs.{cons_byte, decode_pairs-ok_pair}
 use Rattle.hex.proofs.HexLemmas.{decode_of-even}
 use Rattle.schedule_text.proofs.HexLemmas.{no_high, no_low, two_digits}
@@ -33,15 +33,12 @@ pairs_decode : (i : ℕ) (digits bytes : List ℕ) → IsPairs digits bytes → 
 unfolding decode_pairs
 pairs_decode i [] [] h = refl
 pairs_decode i (c ∷ d ∷ digits) (v ∷ bytes) h =
-    let pair : pair_value c d i ≡ Ok (h.0.0 * 16 + h.0.2.0) = rw (h.0.1, h.0.2.1) refl in
-    decode_pairs-ok_pair i c d _ digits pair ∙ ap (cons_byte (h.0.0 * 16 + h.0.2.0)) (pairs_decode (i + 2) digits bytes h.1)
+    decode_pairs-ok_pair i c d _ digits (rw (h.0.1, h.0.2.1) refl) ∙ ap (cons_byte (h.0.0 * 16 + h.0.2.0)) (pairs_decode (i + 2) digits bytes h.1)
     ∙ ap (λ (b : ℕ). Ok (b ∷ bytes)) h.0.2.2
 pairs_decode i digits bytes h = absurd h
 
 pub pairs_read : (digits bytes : List ℕ) → IsPairs digits bytes → bytes_value digits ≡ Some bytes
-pairs_read digits bytes h =
-    let twice = pairs_twice digits bytes h in
-    ap result_ok (decode_of-even digits (omega (arith, twice)) ∙ pairs_decode 0 digits bytes h)
+pairs_read digits bytes h = ap result_ok (decode_of-even digits (omega (arith, pairs_twice digits bytes h)) ∙ pairs_decode 0 digits bytes h)
 
 -- two digits more
 pub pairs_more : (digits bytes : List ℕ) (i : ℕ) (byte : ℕ) → 2 * i + 1 < length digits

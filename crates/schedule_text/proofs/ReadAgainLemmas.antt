@@ -95,8 +95,7 @@ places_are_words from (p ∷ ps) h = let high : p ≤ 399 = h.1 in (number_word 
 
 places_come_back : (from : ℕ) (ps : List ℕ) → RiseFrom from ps → bit_places (map decimal ps) ≡ Some ps
 places_come_back from [] h = refl
-places_come_back from (p ∷ ps) h =
-    rw (number_back 0 399 p (omega arith) h.1 (omega arith), places_come_back (p + 1) ps h.2) refl
+places_come_back from (p ∷ ps) h = rw (number_back 0 399 p (omega arith) h.1 (omega arith), places_come_back (p + 1) ps h.2) refl
 
 below : (p : ℕ) (ps : List ℕ) → All (λ q. q < 400) (p ∷ ps) → p ≤ 399
 below p ps h = let small : p < 400 = h 0 0 (omega arith) in omega arith
@@ -139,10 +138,8 @@ again_bare header row ws r bare right reads =
 -- a message of a line is no longer than half of it
 message_fits : (e : End) (pid : ℕ) (message : List ℕ) → length (line_text (line.Send e pid message)) ≤ 9000 → length message ≤ 4500
 message_fits e pid message h =
-    let front = length-append (end_text e) (32 ∷ (byte_text pid ++ 32 ∷ encode_upper message)) in
     let back = length-append (byte_text pid) (32 ∷ encode_upper message) in
-    let hex = length-hex message in
-    omega (arith, h, front, back, hex)
+    omega (arith, h, length-append (end_text e) (32 ∷ (byte_text pid ++ 32 ∷ encode_upper message)), back, length-hex message)
 
 with_number : (a : List ℕ) (ws : List (List ℕ)) (e : End) (high : ℕ) (o : Option ℕ) (make : End → Option ℕ → Line) → end_value a ≡ Some e
     → (slice_get ws 0 >>= number_in 1 high) ≡ o
@@ -170,9 +167,7 @@ two_small a b low high (suc (suc k)) d within = absurd (omega arith)
 two_again : (n : ℕ) → n < 65536 → (bytes_value (two_bytes_text n) ≡ Some (n / 256 ∷ n % 256 ∷ [])) × (two_bytes_value (two_bytes_text n) ≡ Some n)
 two_again n small =
     let bytes = bytes_again (n / 256 ∷ n % 256 ∷ []) (two_small (n / 256) (n % 256) (omega (arith, small)) (omega arith)) in
-    let sized = sized_read 2 (two_bytes_text n) (n / 256 ∷ n % 256 ∷ []) bytes refl in
-    let whole : n / 256 * 256 + n % 256 ≡ n = omega arith in
-    (bytes, ap (option_map two_bytes) sized ∙ ap Some whole)
+    (bytes, ap (option_map two_bytes) (sized_read 2 (two_bytes_text n) (n / 256 ∷ n % 256 ∷ []) bytes refl) ∙ ap Some (omega arith))
 
 -- pipes
 abbrev IsPipe : List ℕ → Type 0
@@ -286,8 +281,7 @@ line_again header (line.Cut node) world fits short =
     (record { least = omega arith; most = omega arith; words = ((node, node_again header node world fits.1, fits.1), tt) })
     (rw (node_again header node world fits.1) refl))
 line_again header (line.Activate host sync power) world fits short =
-    let low = host_fits header.hosts.items host (header_hosts header world) fits.1.known in
-    let byte = byte_again host (omega (arith, low)) in
+    let byte = byte_again host (omega (arith, host_fits header.hosts.items host (header_hosts header world) fits.1.known)) in
     let two = two_again sync fits.1.identifier in
     let code = fits.1.code in
     let last = byte_again power (omega (arith, code)) in
@@ -318,21 +312,19 @@ line_again header (line.Init e identity pipes) world fits short =
     let end = end_again e (link_fits header e world fits.1.known) in
     let long = fits.1.long in
     let bytes = bytes_again identity fits.1.bytes in
-    let sized = sized_read 8 (encode_upper identity) identity bytes long in
     let few = fits.1.few in
-    let count = length-map pipes.items encode_upper in
     by_its_words (Some header) (line_words (line.Init e identity pipes)) _ short
     ((omega arith, refl), (end_word e, (hex_word identity (omega (arith, long)), pipes_are_words pipes.items fits.1.each)))
     (again_nodes header init_row (end_text e ∷ encode_upper identity ∷ map encode_upper pipes.items) _ fits.0
     (record {
       least = omega arith;
-      most = omega (arith, few, count);
+      most = omega (arith, few, length-map pipes.items encode_upper);
       words = (
         (e, end, found_in header.hosts.items e.link fits.1.known, grind arith),
         ((identity, bytes, omega (arith, long), omega (arith, long)), pipes_fit header.hci header.hosts.items 0 pipes.items fits.1.each),
       );
     })
-    (rw (end, sized, pipes_come_back pipes.items fits.1.each) refl))
+    (rw (end, (sized_read 8 (encode_upper identity) identity bytes long), pipes_come_back pipes.items fits.1.each) refl))
 line_again header (line.Tables node) world fits short =
     by_its_words (Some header) (line_words (line.Tables node)) _ short ((omega arith, refl), (hex_word (node ∷ []) (omega arith), tt))
     (again_nodes header tables_row (byte_text node ∷ []) _ fits.0
@@ -363,9 +355,7 @@ rise_host : (p : ℕ) (ps : List ℕ) → IsStrictlyIncreasing (p ∷ ps) → Al
 rise_host p [] up all = tt
 rise_host p (q ∷ ps) up all =
     let host : IsHost q = all 1 q (omega arith) in
-    let tail : All IsHost (q ∷ ps) = λ k d within. all (suc k) d (omega arith) in
-    let more : p < q = rises p q ps up in
-    (host.0, omega (arith, more), host.1, rise_host q ps (behind_rises p (q ∷ ps) up) tail)
+    (host.0, omega (arith, rises p q ps up), host.1, rise_host q ps (behind_rises p (q ∷ ps) up) (λ k d within. all (suc k) d (omega arith)))
 
 rise_hosts : (hosts : List ℕ) → IsStrictlyIncreasing hosts → All IsHost hosts → HostsFrom 0 hosts
 rise_hosts [] up all = tt
@@ -374,8 +364,7 @@ rise_hosts (p ∷ ps) up all = let host : IsHost p = all 0 p (omega arith) in (h
 hosts_fit : (from : ℕ) (hosts : List ℕ) → HostsFrom from hosts → AllFit false [] from (slots (kind.NewHost ∷ []) (map byte_text hosts))
 hosts_fit from [] h = tt
 hosts_fit from (x ∷ xs) h =
-    let high : x ≤ 7 = h.2 in
-    let byte = byte_again x (omega (arith, high)) in
+    let byte = byte_again x (omega (arith, h.2)) in
     let next : option_map_or (λ n. n + 1) (byte_value (byte_text x)) from ≡ x + 1 = ap (λ o. option_map_or (λ n. n + 1) o from) byte in (
       (x, byte, h.0, h.1, h.2),
       subst (λ n. AllFit false [] n (slots (kind.NewHost ∷ []) (map byte_text xs))) (sym next) (hosts_fit (x + 1) xs h.3),
@@ -387,27 +376,21 @@ hosts_are_words (x ∷ xs) = (hex_word (x ∷ []) (omega arith), hosts_are_words
 
 hosts_come_back : (from : ℕ) (hosts : List ℕ) → HostsFrom from hosts → each_word byte_value (map byte_text hosts) ≡ Some hosts
 hosts_come_back from [] h = refl
-hosts_come_back from (x ∷ xs) h =
-    let high : x ≤ 7 = h.2 in
-    rw (byte_again x (omega (arith, high)), hosts_come_back (x + 1) xs h.3) refl
+hosts_come_back from (x ∷ xs) h = rw (byte_again x (omega (arith, h.2)), hosts_come_back (x + 1) xs h.3) refl
 
 -- a word and hosts behind it
 hosts_long : (w hosts : List ℕ) → length (spaced (w ∷ map byte_text hosts)) ≡ length w + 3 * length hosts
 hosts_long w [] = omega arith
 hosts_long w (x ∷ xs) =
-    let more = hosts_long (byte_text x) xs in
-    let whole = length-append w (32 ∷ spaced (byte_text x ∷ map byte_text xs)) in
-    let hex = length-hex (x ∷ []) in
-    omega (arith, more, whole, hex)
+    omega (arith, hosts_long (byte_text x) xs, length-append w (32 ∷ spaced (byte_text x ∷ map byte_text xs)), length-hex (x ∷ []))
 
 nodes_again : (hosts : List ℕ) → 0 < length hosts → HostsFrom 0 hosts
     → line_of None (spaced (codes "swp" ∷ codes "1" ∷ codes "hci" ∷ map byte_text hosts))
     ≡ Ok (read.Header (record { hci = true; hosts = record { items = hosts } }))
 nodes_again hosts some rise =
     let few = hosts_few hosts rise in
-    let long = hosts_long (codes "hci") hosts in
     let count = length-map hosts byte_text in
-    by_its_words None (codes "swp" ∷ codes "1" ∷ codes "hci" ∷ map byte_text hosts) _ (omega (arith, few, long))
+    by_its_words None (codes "swp" ∷ codes "1" ∷ codes "hci" ∷ map byte_text hosts) _ (omega (arith, few, hosts_long (codes "hci") hosts))
     ((omega arith, refl), ((omega arith, refl), ((omega arith, refl), hosts_are_words hosts)))
     (again false [] nodes_row (codes "1" ∷ codes "hci" ∷ map byte_text hosts) _
     (record { least = omega (arith, some, count); most = omega (arith, few, count); words = (refl, (refl, hosts_fit 0 hosts rise)) })

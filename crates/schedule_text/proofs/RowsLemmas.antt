@@ -60,17 +60,16 @@ all_fit : (hci : Bool) (hosts : List ℕ) (at from : ℕ) (ss : List Slot) → l
     → first_host_fault hosts from ss ≡ None → AllFit hci hosts from ss
 all_fit hci hosts at from [] shapes digits host = tt
 all_fit hci hosts at from (s ∷ ss) shapes digits host =
-    let shape = and_parts _ _ shapes in
     let digit = or_none (digits_fault at from s.kind s.word) (first_digits_fault (at + 1) (rising from s.kind s.word) ss) digits in
     let known = or_none (host_fault hosts from s.kind s.word) (first_host_fault hosts (rising from s.kind s.word) ss) host in
-    ((grind arith), all_fit hci hosts (at + 1) (rising from s.kind s.word) ss shape.1 digit.1 known.1)
+    (grind arith, all_fit hci hosts (at + 1) (rising from s.kind s.word) ss (and_parts _ _ shapes).1 digit.1 known.1)
 
 all_right : (hci : Bool) (hosts : List ℕ) (at from : ℕ) (ss : List Slot) → AllFit hci hosts from ss
     → (list_all (λ s. has_shape hci s.kind s.word) ss ≡ true) × (first_digits_fault at from ss ≡ None) × (first_host_fault hosts from ss ≡ None)
 all_right hci hosts at from [] h = (refl, refl, refl)
 all_right hci hosts at from (s ∷ ss) h =
     let word = word_is_right hci hosts at from s.kind s.word h.0 in
-    let more = all_right hci hosts (at + 1) (rising from s.kind s.word) ss h.1 in (grind arith)
+    let more = all_right hci hosts (at + 1) (rising from s.kind s.word) ss h.1 in grind arith
 
 -- words of a row without fault
 pub record Right (hci : Bool) (hosts : List ℕ) (row : FormRow) (ws : List (List ℕ)) : Type 0 where
@@ -99,8 +98,7 @@ right_words hci hosts row ws h =
 pub row_cases : (P : Option FormRow → Type 0) (table : List FormRow) (first : List ℕ) (ws : List (List ℕ))
     → AllByRecursion (λ row. first ≡ row.first → P (Some row)) table → (row_in table first ws ≡ None → P None) → P (row_in table first ws)
 row_cases P [] first ws each none = none refl
-row_cases P (row ∷ table) first ws each none =
-    go (bytes_eq row.first first && has_third row.third ws) refl (row_cases P table first ws each.1) none
+row_cases P (row ∷ table) first ws each none = go (bytes_eq row.first first && has_third row.third ws) refl (row_cases P table first ws each.1) none
   where
     go : (t : Bool) → (bytes_eq row.first first && has_third row.third ws) ≡ t → ((row_in table first ws ≡ None → P None) → P (row_in table first ws))
         → (cond t (Some row) (row_in table first ws) ≡ None → P None) → P (cond t (Some row) (row_in table first ws))

@@ -45,8 +45,7 @@ none_test t a h = grind arith
 -- a line without a letter has no word
 pub no_word : (line : List ℕ) → position is_letter line ≡ None → words line ≡ []
 no_word line h =
-    let far = ltb-false _ _ (none_test _ _ h) in
-    sym (spaces_first (length line) line (omega arith) (λ k lt. before_letter line k (omega (arith, far))))
+    sym (spaces_first (length line) line (omega arith) (λ k lt. before_letter line k (omega (arith, ltb-false _ _ (none_test _ _ h)))))
     ∙ ap words (drop_all (length line) line (omega arith))
 
 pub kept : (word : List ℕ) (parts : List (List ℕ)) → 0 < length word
@@ -59,12 +58,11 @@ word_then_space : (rest : List ℕ) (end : ℕ) → end ≡ position_or_len is_s
 word_then_space rest end e some within =
     let parts : slice_split is_space rest ≡ take end rest ∷ slice_split is_space (drop (end + 1) rest) =
     rw e (slice_split_first is_space rest 0 (subst (λ n. n < length rest) e within)) in
-    let sized : 0 < length (take end rest) = grind (arith, common_steps) in
     let at_space : get_or rest end 0 ≡ 32 =
     eqb-true _ _ (subst (λ n. is_space (get_or rest n 0) ≡ true) (sym e) (passes_at_first is_space rest 0 (subst (λ n. n < length rest) e within))) in
     let behind : words (drop end rest) ≡ words (drop (end + 1) rest) =
     rw (add-one, drop-cons rest end 0 within) (space_first (get_or rest end 0) (drop (suc end) rest) at_space) in
-    ap (filter (λ w. nat_lt 0 (length w))) parts ∙ kept (take end rest) (slice_split is_space (drop (end + 1) rest)) sized
+    ap (filter (λ w. nat_lt 0 (length w))) parts ∙ kept (take end rest) (slice_split is_space (drop (end + 1) rest)) (grind (arith, common_steps))
     ∙ ap (λ ws. take end rest ∷ ws) (sym behind)
 
 -- a word that the line ends
@@ -80,12 +78,8 @@ by_end : (t : Bool) (rest : List ℕ) (end : ℕ) → nat_lt end (length rest) �
     → words rest ≡ take end rest ∷ words (drop end rest)
 by_end true rest end t e h = word_then_space rest end e h (grind (arith, nat_tests))
 by_end false rest end t e h =
-    let far : length rest ≤ end = ltb-false _ _ t in
-    let within = prefix_len-le-length (λ x. not (is_space x)) rest in
-    let full : end ≡ length rest = omega (arith, far, within, e) in
-    let some : 0 < length rest = omega (arith, full, h) in
-    let P : ℕ → Type 0 = λ n. words rest ≡ take n rest ∷ words (drop n rest) in
-    subst P (sym full) (word_then_end rest (sym e ∙ full) some)
+    let full : end ≡ length rest = omega (arith, ltb-false _ _ t, (prefix_len-le-length (λ x. not (is_space x)) rest), e) in
+    subst (λ n. words rest ≡ take n rest ∷ words (drop n rest)) (sym full) (word_then_end rest (sym e ∙ full) (omega (arith, full, h)))
 
 -- a word that begins a line
 pub word_first : (rest : List ℕ) (end : ℕ) → end ≡ position_or_len is_space rest → 0 < end
@@ -99,14 +93,12 @@ not_both b e f = grind arith
 letter_first : (line : List ℕ) (start : ℕ) → start ≡ position_or_len is_letter line → start < length line
     → position_or_len is_space (drop start line) ≡ 0 → ⊥
 letter_first line start e within h =
-    let long : 0 < length (drop start line) = simp length-drop (omega arith) in
     let spaced : is_space (get_or (drop start line) 0 0) ≡ true =
     subst (λ n. is_space (get_or (drop start line) n 0) ≡ true) h
-    (passes_at_first is_space (drop start line) 0 (subst (λ n. n < length (drop start line)) (sym h) long)) in
+    (passes_at_first is_space (drop start line) 0 (subst (λ n. n < length (drop start line)) (sym h) (simp length-drop (omega arith)))) in
     let letter : is_letter (get_or line start 0) ≡ true =
     subst (λ n. is_letter (get_or line n 0) ≡ true) (sym e) (passes_at_first is_letter line 0 (subst (λ n. n < length line) e within)) in
-    let same : get_or (drop start line) 0 0 ≡ get_or line start 0 = get_or-drop start line 0 0 ∙ ap (λ n. get_or line n 0) (add-zero start) in
-    not_both _ (subst (λ b. is_space b ≡ true) same spaced) letter
+    not_both _ (subst (λ b. is_space b ≡ true) (get_or-drop start line 0 0 ∙ ap (λ n. get_or line n 0) (add-zero start)) spaced) letter
 
 -- the first word of a line with a letter
 pub first_word : (line : List ℕ) (start end : ℕ) → position is_letter line ≡ Some start → end ≡ position_or_len is_space (drop start line)
@@ -123,8 +115,6 @@ pub cut_word : (line : List ℕ) {back word rest : List ℕ} {start end : ℕ} �
     → end ≡ unwrap_or (position is_space back) (length back) → word ≡ take end back → rest ≡ drop end back
     → (words line ≡ word ∷ words rest) × (length rest < length line)
 cut_word line {back} {start} {end} h b e w r =
-    let at : end ≡ position_or_len is_space (drop start line) = e ∙ place_or_len is_space back ∙ ap (position_or_len is_space) b in
-    let found = first_word line start end h at in
-    let within = (cond_some _ _ _ h).0 in
-    let inside : start < length line = subst (λ n. n < length line) (cond_some _ _ _ h).1 (ltb-true _ _ within) in
+    let found = first_word line start end h (e ∙ place_or_len is_space back ∙ ap (position_or_len is_space) b) in
+    let inside : start < length line = subst (λ n. n < length line) (cond_some _ _ _ h).1 (ltb-true _ _ ((cond_some _ _ _ h).0)) in
     (rw (w, r, b) found.0, rw (r, b) (simp (length-drop, length-drop) (omega (arith, found.1))))

@@ -85,8 +85,7 @@ record Moves (s t : Session) (x : ℕ) (more : List Fragment) : Type 0 where
   acc : t.acc ≡ s.acc ++ more
 
 abbrev moved_history : SessionHistory → Session → ℕ → List Fragment → SessionHistory
-moved_history h s x more =
-    record { accepted = h.accepted ++ more; offered = h.offered ++ []; acked = h.acked + (x - s.acked); sent = h.sent ++ [] }
+moved_history h s x more = record { accepted = h.accepted ++ more; offered = h.offered ++ []; acked = h.acked + (x - s.acked); sent = h.sent ++ [] }
 
 moved : (e f : EndState) (h : SessionHistory) (x : ℕ) (more : List Fragment) → Holds e h → f.phase ≡ Up →
     e.session.acked ≤ x → x ≤ e.session.reached → Moves e.session f.session x more → Holds f (moved_history h e.session x more)

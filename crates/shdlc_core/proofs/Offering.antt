@@ -19,8 +19,7 @@ use Rattle.shdlc_core.proofs.OfferedFrames.{alike_in, taken_alike}
 runs_alike : (s : Session) (o waiting : List Fragment) → s.out ≡ o ++ waiting → (waiting ≡ []) ⊎ (length o ≡ s.acked + 4) → s.acked ≤ s.next
     → runs_timer (record s { out = o }) ≡ runs_timer s
 runs_alike s o waiting out (inl none) l = ap (λ xs. runs_timer (record s { out = xs })) (sym (append-nil o) ∙ (ap (λ w. o ++ w) (sym none) ∙ sym out))
-runs_alike s o waiting out (inr four) l =
-    go (nat_lt s.acked s.next) (nat_lt s.next (length o)) (nat_lt s.next (length s.out)) refl refl refl
+runs_alike s o waiting out (inr four) l = go (nat_lt s.acked s.next) (nat_lt s.next (length o)) (nat_lt s.next (length s.out)) refl refl refl
   where
     len : length s.out ≡ length o + length waiting
     len = ap length out ∙ length-append o waiting

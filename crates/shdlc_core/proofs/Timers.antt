@@ -146,8 +146,7 @@ run-timed e h (i ∷ inputs) k t a =
 
 -- from a new end on
 pub new-timed : (w : ℕ) (inputs : List EndInput) → IsWindow w → AskForWindows inputs → IsTimed (shdlc_after_inputs (new_end w) inputs)
-new-timed w inputs i a =
-    run-timed (new_end w) no_history inputs (new-Holds w []) ((grind arith)) a
+new-timed w inputs i a = run-timed (new_end w) no_history inputs (new-Holds w []) ((grind arith)) a
 
 -- ## What follows for each law
 

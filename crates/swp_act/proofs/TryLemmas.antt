@@ -52,8 +52,7 @@ waits (suc n) t k low fits = waits_by_place n t k (leb 9 k) refl low fits (λ u 
 
 -- what the tick after n ticks since the t-th try answers
 answer_is : (last : Option Act) (t n : ℕ) → t ≤ 3 → n < ticks_from t → out_ticked (Awaiting (t + n / 10) (n % 10)) last ≡ answer_to_tick last t (n + 1)
-answer_is last t n small fits =
-    by_tenth (eqb ((n + 1) % 10) 0) refl (same_tenth (leb 10 (n % 10 + 1)) (eqb ((n + 1) % 10) 0) refl refl)
+answer_is last t n small fits = by_tenth (eqb ((n + 1) % 10) 0) refl (same_tenth (leb 10 (n % 10 + 1)) (eqb ((n + 1) % 10) 0) refl refl)
   where
     same_tenth : (a b : Bool) → leb 10 (n % 10 + 1) ≡ a → eqb ((n + 1) % 10) 0 ≡ b → a ≡ b
     same_tenth true true p q = refl

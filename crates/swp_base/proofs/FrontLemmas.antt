@@ -9,8 +9,7 @@ use Rattle.swp_base.specs.Outside.{overwritten}
 use Rattle.swp_base.proofs.WriteLemmas.{length-overwritten, overwritten-left}
 
 pub length-filled_up : (xs : List ℕ) (size : ℕ) → length xs ≤ size → length (xs ++ replicate (size - length xs) 255) ≡ size
-length-filled_up xs size few =
-    omega (arith, length-append xs (replicate (size - length xs) 255), length-replicate {A = ℕ} (size - length xs) 255)
+length-filled_up xs size few = omega (arith, length-append xs (replicate (size - length xs) 255), length-replicate {A = ℕ} (size - length xs) 255)
 
 -- held up to a place, they say the same
 lengthened : (xs : List ℕ) (n size : ℕ) → n ≤ size → length xs ≤ size

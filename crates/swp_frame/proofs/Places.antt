@@ -231,8 +231,7 @@ ones-push (suc n) = ap (λ xs. true ∷ xs) (ones-push n)
 
 reverse-ones : (n : ℕ) → reverse (replicate n true) ≡ replicate n true
 reverse-ones zero = refl
-reverse-ones (suc n) =
-    reverse-append (true ∷ []) (replicate n true) ∙ ap (λ xs. xs ++ true ∷ []) (reverse-ones n) ∙ ones-push n
+reverse-ones (suc n) = reverse-append (true ∷ []) (replicate n true) ∙ ap (λ xs. xs ++ true ∷ []) (reverse-ones n) ∙ ones-push n
 
 pub reverse-run : (counts : Bool) (n : ℕ) (bits : List Bool) → reverse (replicate n true ++ with_zero counts bits) ≡ reverse bits ++ run_bits counts n
 reverse-run true n bits =

@@ -127,8 +127,7 @@ module _ (header : Header) where
       happened_rounds r before
       ∙ ap (λ (es : List Entry). happened (lines_played header before) ++ es)
       (sym (happened-append rounds (entry.Settled r ∷ []) ∙ append-nil (what_happened rounds)))
-  happened_line before line =
-      ap happened (played_more header before (Said line)) ∙ happened_more (lines_played header before) line
+  happened_line before line = ap happened (played_more header before (Said line)) ∙ happened_more (lines_played header before) line
 
   happened_lines : (lines : List Line) (before : List Play) → happened (lines_played header (plays_behind header before lines))
       ≡ happened (lines_played header before) ++ what_happened (told_of_lines header before lines)

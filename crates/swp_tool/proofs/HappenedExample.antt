@@ -17,8 +17,7 @@ header = record { hci = true; hosts = record { items = 2 ∷ [] } }
 
 -- Both nodes boot, the link is activated and settles, and between that a reset is refused; then the tables are told.
 abbrev lines : List Line
-lines =
-    line.Boot 0 ∷ line.Reset (end_c 2) None ∷ line.Boot 2 ∷ line.Activate 2 6699 1 ∷ line.Settle 5 ∷ line.Tables 0 ∷ []
+lines = line.Boot 0 ∷ line.Reset (end_c 2) None ∷ line.Boot 2 ∷ line.Activate 2 6699 1 ∷ line.Settle 5 ∷ line.Tables 0 ∷ []
 
 -- nothing of what the schedule says is left, and all else is
 abbrev happened : List Entry

@@ -205,8 +205,7 @@ pub read_whole_line : {p q : Pieces} {bytes written : List ℕ} (line : List ℕ
     → LacksLineFeed line → q.partial.items ≡ []
     → ((s : Schedule) (w : List ℕ) → HasPlayed p.replay s w → HasPlayed q.replay (and_line s (strip_carriage_return line)) w)
     → HasRead q (bytes ++ ended_line line) written
-read_whole_line line h nothing lacks none played =
-    read_when line (ended_line line) h (ap (λ l. l ++ ended_line line) nothing) lacks none played
+read_whole_line line h nothing lacks none played = read_when line (ended_line line) h (ap (λ l. l ++ ended_line line) nothing) lacks none played
 
 -- With these bytes the line under way has ended, and it was not played: it has a fault, or there was no memory.
 pub halts_when : {p : Pieces} (why : Halt) {count : ℕ} {now bytes written : List ℕ} (line tail : List ℕ) → HasRead p bytes written → count ≡ p.replay.count

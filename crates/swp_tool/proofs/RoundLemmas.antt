@@ -30,8 +30,7 @@ any_err P r h = grind arith
 
 pub more_again : (old text new : List ℕ) → (more : List ℕ) × (text ≡ old ++ more) → (more : List ℕ) × (new ≡ text ++ more)
     → (more : List ℕ) × (new ≡ old ++ more)
-more_again old text new first later =
-    (first.0 ++ later.0, later.1 ∙ (ap (λ l. l ++ later.0) first.1 ∙ append_assoc old first.0 later.0))
+more_again old text new first later = (first.0 ++ later.0, later.1 ∙ (ap (λ l. l ++ later.0) first.1 ∙ append_assoc old first.0 later.0))
 
 -- ## What rounds tell
 

@@ -41,8 +41,7 @@ IsOneMoreIf old new is_one = new ≡ cond is_one (min (old + 1) (2 ^ 64 - 1)) ol
 
 more_of : (kind : Entry → Bool) (es : List Entry) (e : Entry) (old new : ℕ) → IsOneMoreIf old new (kind e) → old ≡ count_of_kind kind es
     → new ≡ count_of_kind kind (es ++ e ∷ [])
-more_of kind es e old new new_is old_is =
-    new_is ∙ ap (λ n. cond (kind e) (min (n + 1) (2 ^ 64 - 1)) n) old_is ∙ sym (kind_more kind es e)
+more_of kind es e old new new_is old_is = new_is ∙ ap (λ n. cond (kind e) (min (n + 1) (2 ^ 64 - 1)) n) old_is ∙ sym (kind_more kind es e)
 
 -- five counts, each one more where an entry is of its kind
 pub counts_more : (a b : Counts) (e : Entry) → IsOneMoreIf a.sent b.sent (is_noted_sent e) → IsOneMoreIf a.got b.got (is_noted_got e)

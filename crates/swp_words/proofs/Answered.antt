@@ -33,8 +33,7 @@ module _ {N : Type 0} (reads : N → Bool → N → Type 0) (writes : N → ℕ 
 
   ran : (s : Status) → BootedAndRan reads writes content tells given form is_clf old new s input left before after
       → AnsweredSo tells form is_clf (content old) (content new) s input left before after
-  ran status.Done b =
-      whole status.Done b.first b.booted false input [] (sym (append-nil input)) (λ q. refl) (λ q. refl) b.ran.2
+  ran status.Done b = whole status.Done b.first b.booted false input [] (sym (append-nil input)) (λ q. refl) (λ q. refl) b.ran.2
   ran status.ReadFault b =
       whole status.ReadFault b.first b.booted false b.ran.bytes left b.ran.input_is (λ q. absurd (cc q)) (λ q. absurd (cc q)) b.ran.run
   ran status.WriteFault b =

@@ -27,8 +27,7 @@ whole_taken bytes piece n h =
 -- text that was written behind text, by a sink that tells it
 pub behind : (tells : Bool) (before text items written after : List ℕ) → (IsTrue tells → written ≡ before ++ text)
     → (IsTrue tells → after ≡ written ++ items) → IsTrue tells → after ≡ before ++ (text ++ items)
-behind tells before text items written after was now told =
-    now told ∙ (ap (λ l. l ++ items) (was told) ∙ append_assoc before text items)
+behind tells before text items written after was now told = now told ∙ (ap (λ l. l ++ items) (was told) ∙ append_assoc before text items)
 
 -- a front of the first one is a front of both
 pub front_of_first : (n : ℕ) (xs ys : List ℕ) → (k : ℕ) × (take k (xs ++ ys) ≡ take n xs)

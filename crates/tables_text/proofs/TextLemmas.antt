@@ -35,8 +35,7 @@ six_are (a ∷ b ∷ c ∷ d ∷ e ∷ f ∷ []) h = refl
 six_are (a ∷ b ∷ c ∷ d ∷ e ∷ f ∷ g ∷ more) h = absurd (omega arith)
 
 abbrev pipe_words : List ℕ → List ℕ → List ℕ → List ℕ → List ℕ → List ℕ → List ℕ
-pipe_words pid creator gate dest dest_gate state =
-    line (codes "pipe" ∷ pid ∷ (creator ++ (32 ∷ gate)) ∷ (dest ++ (32 ∷ dest_gate)) ∷ state ∷ [])
+pipe_words pid creator gate dest dest_gate state = line (codes "pipe" ∷ pid ∷ (creator ++ (32 ∷ gate)) ∷ (dest ++ (32 ∷ dest_gate)) ∷ state ∷ [])
 
 pub pipe_line_is : (row : PipeRow) (a b c d e f g h i j : ℕ) (state : List ℕ) → AreDigits row.pid a b → AreDigits row.creator c d
     → AreDigits row.creator_gate e f → AreDigits row.dest g h → AreDigits row.dest_gate i j → length state ≡ 6 → state ≡ state_as_word row.opened

@@ -56,8 +56,7 @@ repeated_few c (suc k) n l few =
 
 -- frames that are taken make none
 taken_few : (e : End) (k n : ℕ) (l : Link) → FewRsets n l → FewRsets n (link_after_all l (replicate k (Taken e)))
-taken_few e k n l few =
-    fewer (n + 0 * k) n (link_after_all l (replicate k (Taken e))) (omega arith) (repeated_few (Taken e) k n l few)
+taken_few e k n l few = fewer (n + 0 * k) n (link_after_all l (replicate k (Taken e))) (omega arith) (repeated_few (Taken e) k n l few)
 
 once : (n k : ℕ) (l : Link) (c : Cause) → rsets_by_bare c ≤ k → FewRsets n l → FewRsets (n + k) (link_after l c)
 once n k l c most few = fewer (n + rsets_by_bare c) (n + k) (link_after l c) (omega (arith, most)) (few_after n l c few)
@@ -259,8 +258,7 @@ bare_lines header (line ∷ lines) off are = (bare_line header line off are.0, b
 -- so all lines are that plays come to
 lines_of_plays : (header : Header) (plays : List Play) → IsHeader header → AllByRecursion (IsPlayFor header) plays
     → AllByRecursion (IsLineOf header) (lines_played header plays)
-lines_of_plays header plays is are =
-    bare_lines header (lines_played header plays) is.bare (bare_lines_may_be_played header is.bare is.one plays are)
+lines_of_plays header plays is are = bare_lines header (lines_played header plays) is.bare (bare_lines_may_be_played header is.bare is.one plays are)
 
 -- ## A line
 
@@ -304,8 +302,7 @@ pub record WasStepped (w now : BareWorld) (header : Header) (plays : List Play) 
 -- the link behind a line more
 link_stepped : (header : Header) (t : History) (line : Line) → t.header ≡ header
     → link_at (with_step t line) ≡ link_after_line (link_at t) (outcome_of (host_of header) (link_at t) line)
-link_stepped header t line is =
-    link_at-step t line ∙ ap (λ x. link_after_line (link_at t) (outcome_of (host_of x) (link_at t) line)) is
+link_stepped header t line is = link_at-step t line ∙ ap (λ x. link_after_line (link_at t) (outcome_of (host_of x) (link_at t) line)) is
 
 -- both sides stand for the link after the line
 step_stands : {w now : BareWorld} {header : Header} {plays : List Play} {t : History} {line : Line} → Law → WasStepped w now header plays t line

@@ -146,8 +146,7 @@ none_damaged e v = grind arith
 -- a line gives at most one message
 sent_caused : (n : ℕ) (l : Link) (line : Line) → HaveSent l n → HaveSent (link_after_all l (causes_in l line)) (n + 1)
 sent_caused n l (line.Send e pid message) h = sent_at n (n + 1) l e (Step NoInput (Give (pid, message) ∷ []) GoesOut) (sent_given n (pid, message)) h
-sent_caused n l (line.Deliver e count) h =
-    weaker n _ (sent_repeated n (taken_of count (frames_to l e)) l (Taken e) tt h)
+sent_caused n l (line.Deliver e count) h = weaker n _ (sent_repeated n (taken_of count (frames_to l e)) l (Taken e) tt h)
 sent_caused n l (line.Lose e) h = weaker n _ (sent_after n l (WasLost e OnDemand) tt h)
 sent_caused n l (line.Damage e places) h =
     let cs : List Cause = damage_causes e (first_verdict (frames_to l e) places.items) in

@@ -179,8 +179,7 @@ answered_reset m window r h told = grind arith
 
 pub reset_so_kept : {n : Node} {k : Kept} {pool : PoolState} {m after : LinkEnd} → NodeStandsFor n m → IsLeft n k pool after → after ≡ m
     → NodeStandsFor (record { «end» = k; pool = pool; acked = n.acked }) m
-reset_so_kept {k} {pool} h left same =
-    kept_as h (rw same at left.stands) (account_left h.has left) h.has.reached refl refl
+reset_so_kept {k} {pool} h left same = kept_as h (rw same at left.stands) (account_left h.has left) h.has.reached refl refl
 
 -- ## Messages that come
 
@@ -268,5 +267,4 @@ taken_input bytes c q = rw q refl
 -- what a call leaves of what may be fetched
 pub can_fetch : {n : Node} {k : Kept} {pool : PoolState} {m m2 : LinkEnd} {acked : ℕ} {new : Node} → NodeStandsFor n m → IsLeft n k pool m2
     → new ≡ record { «end» = k; pool = pool; acked = acked } → CanFetch new m2
-can_fetch {m2} h left is =
-    rw is (record { stands = left.stands; accounts = account_left h.has left })
+can_fetch {m2} h left is = rw is (record { stands = left.stands; accounts = account_left h.has left })

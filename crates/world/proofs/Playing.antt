@@ -65,8 +65,7 @@ rounds_within plays parts =
 -- one part more is played last
 pub part_last : (plays : List Play) (parts : List Line) (part : Line)
     → (plays ++ map Said parts) ++ Said part ∷ [] ≡ plays ++ map Said (parts ++ part ∷ [])
-part_last plays parts part =
-    append_assoc plays (map Said parts) (Said part ∷ []) ∙ ap (λ (ps : List Play). plays ++ ps) (sym (mapped parts))
+part_last plays parts part = append_assoc plays (map Said parts) (Said part ∷ []) ∙ ap (λ (ps : List Play). plays ++ ps) (sym (mapped parts))
   where
     mapped : (xs : List Line) → map Said (xs ++ part ∷ []) ≡ map Said xs ++ Said part ∷ []
     mapped [] = refl

@@ -32,8 +32,7 @@ seen_noted at l event = grind arith
 -- the sides of a link, seen from the host's end
 pub seen_at_host : {near far : Side} {resets : ℕ} {l : Link} (at : End) → at.at_host ≡ true → LinkStandsFor far near resets l
     → SidesStandFor near far resets at l
-seen_at_host {near} {far} {resets} {l} at q h =
-    rw q (record { here = h.there; there = h.here; count = h.count })
+seen_at_host {near} {far} {resets} {l} at q h = rw q (record { here = h.there; there = h.here; count = h.count })
 
 pub seen_back : {near far : Side} {resets : ℕ} {l : Link} (at : End) → at.at_host ≡ true → SidesStandFor near far resets at l
     → LinkStandsFor far near resets l
@@ -43,8 +42,7 @@ seen_back {near} {far} {resets} {l} at q h =
 -- and from the controller's
 pub seen_at_controller : {near far : Side} {resets : ℕ} {l : Link} (at : End) → at.at_host ≡ false → LinkStandsFor near far resets l
     → SidesStandFor near far resets at l
-seen_at_controller {near} {far} {resets} {l} at q h =
-    rw q h
+seen_at_controller {near} {far} {resets} {l} at q h = rw q h
 
 pub seen_here : {near far : Side} {resets : ℕ} {l : Link} (at : End) → at.at_host ≡ false → SidesStandFor near far resets at l
     → LinkStandsFor near far resets l
@@ -314,8 +312,7 @@ other_did {l} {lines} at q d = record { stands = seen_again at (link_after_lines
 
 -- no message is given where frames are taken
 pub sent_taking : (n h : ℕ) (l : Link) (e : End) → HaveSent l n → HaveSent (link_after_lines h l (taking_on l e)) n
-sent_taking n h l e sent =
-    rw (takes_on h l e) (sent_repeated n (length (frames_to l e)) l (Taken e) tt sent)
+sent_taking n h l e sent = rw (takes_on h l e) (sent_repeated n (length (frames_to l e)) l (Taken e) tt sent)
 
 -- nor in a round
 pub sent_round : (n h : ℕ) (ends : List End) (l : Link) → HaveSent l n → HaveSent (link_after_lines h l (round_on h l ends)) n

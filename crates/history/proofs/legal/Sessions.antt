@@ -9,16 +9,16 @@ use Rattle.history.proofs.Words.{GaveUp, Gets, Given, GoesOut, Got, HasNumbers, 
 use Rattle.history.proofs.Words.{IsInOrder, IsLineOf, IsSendable, IsWindow, Line, Link, LinkEnd, LinkEvent, LinkInput, List, Lose, Lost, Message, NamedEnd}
 use Rattle.history.proofs.Words.{NextFrame, NoAnswer, NoInput, None, Noted, NumberedEnd, OnWire, Option, Peer, Prefix, read-append, Readied, Ready, Report}
 use Rattle.history.proofs.Words.{Reset, Restarted, Saying, Send, Sends, Sent, Side, Some, Starts, Step, StepsFollow, Stops, Take, Taken, Ticked, Took, Turn, Up}
-use Rattle.history.proofs.Words.{Verdict, WasLost, WasReset, [], acked_after, acked_in, after_input, after_link_events, aged, aged_entries, all_entries}
-use Rattle.history.proofs.Words.{all_events, among, ap, arith, at, at_each_moment, at_end, bare_link, causes_in, causes_of, cons_option, damage_causes, drop}
-use Rattle.history.proofs.Words.{end_of, ended_by, entries, entries_for, entries_of, entry_of, event_at, event_entries, event_of, events_at, events_of}
-use Rattle.history.proofs.Words.{exchanged, false, fetched, first_verdict, flat_map, fold, frame_due, frames_of, frames_out, frames_to, good_of, got_in}
-use Rattle.history.proofs.Words.{got_in_session, happens, heard, here_entries, host_of, idle, if_so, if◌then◌else◌, is_chain_fault, is_some, left_after, length}
-use Rattle.history.proofs.Words.{link_acked, link_after, link_after_all, link_after_line, link_fault, link_got, link_sent, list_any, map, max, most_frames}
-use Rattle.history.proofs.Words.{nat_lt, number_of, opening_of, option_to_list, other_end, outcome_of, put, put_entries, puts_entries, refl, refusal, replicate}
-use Rattle.history.proofs.Words.{report, rest_entries, said_of, same_end, same_side, sent_by, sent_in, step_entries, subst, suc, sym, take, taken_entries}
-use Rattle.history.proofs.Words.{taken_of, tick_entries, ticks_at_controller, told, told_of, took_with, trace, true, turn, turn_entries, turn_entry, turned}
-use Rattle.history.proofs.Words.{unwrap_or, whole_acked, with_ended, zero, ℕ, ◌&&◌, ◌++◌, ◌-◌, ◌<◌, ◌==◌, ◌∙◌, ◌∷◌, ◌≡◌, ◌≤◌}
+use Rattle.history.proofs.Words.{WasLost, WasReset, [], acked_after, acked_in, after_input, after_link_events, aged, aged_entries, all_entries, all_events}
+use Rattle.history.proofs.Words.{among, ap, arith, at, at_each_moment, at_end, bare_link, causes_in, causes_of, cons_option, drop, end_of, ended_by, entries}
+use Rattle.history.proofs.Words.{entries_for, entries_of, entry_of, event_at, event_entries, event_of, events_at, events_of, exchanged, false, fetched}
+use Rattle.history.proofs.Words.{flat_map, fold, frame_due, frames_of, frames_out, frames_to, good_of, got_in, got_in_session, happens, heard, here_entries}
+use Rattle.history.proofs.Words.{host_of, idle, if_so, if◌then◌else◌, is_chain_fault, is_some, left_after, length, link_acked, link_after, link_after_all}
+use Rattle.history.proofs.Words.{link_after_line, link_fault, link_got, link_sent, list_any, map, max, most_frames, nat_lt, number_of, opening_of}
+use Rattle.history.proofs.Words.{option_to_list, other_end, outcome_of, put, put_entries, puts_entries, refl, refusal, replicate, report, rest_entries, said_of}
+use Rattle.history.proofs.Words.{same_end, same_side, sent_by, sent_in, step_entries, subst, suc, sym, take, taken_entries, taken_of, tick_entries}
+use Rattle.history.proofs.Words.{ticks_at_controller, told, told_of, took_with, trace, true, turn, turn_entries, turn_entry, turned, unwrap_or, whole_acked}
+use Rattle.history.proofs.Words.{with_ended, zero, ℕ, ◌++◌, ◌-◌, ◌<◌, ◌==◌, ◌∙◌, ◌∷◌, ◌≡◌, ◌≤◌}
 use Rattle.link_laws.proofs.entries.Disturbing.{no_chain_noted}
 use Rattle.link_laws.proofs.entries.Hearing.{controller_heard as link_controller, host_heard as link_host}
 use Rattle.link_laws.specs.entries.Sessions.{number_now}
@@ -67,18 +67,12 @@ got-all h (x ∷ t) who n =
 not_counted : (n a : ℕ) (b : Bool) (s : Saying) → acked_after n a (Some s) ≡ a → acked_after n a (if_said b s) ≡ a
 not_counted n a b s q = grind arith
 
-zero_max : (a : ℕ) → max a 0 ≡ a
-zero_max a = omega arith
-
-counted_here : (n a k c z : ℕ) (b : Bool) → max (acked_after n a (if_said b (Counts k c))) z ≡ max a (if b && (k == n) then max c z else z)
-counted_here n a k c z b = grind arith
-
 -- how many messages of the session are acknowledged after these entries
 abbrev counted_from : ℕ → End → List Entry → ℕ → ℕ
 counted_from n e t a = fold (λ before entry. acked_after n before (said_of e entry)) a t
 
 acked-from : (h : ℕ) (t : List Noted) (who : Side) (n a : ℕ) → counted_from n (end_of h who) (entries_for h t) a ≡ max a (link_acked t who n)
-acked-from h [] who n a = sym (zero_max a)
+acked-from h [] who n a = sym (omega arith)
 acked-from h (Up w k ∷ t) who n a =
     ap (counted_from n (end_of h who) (entries_for h t)) (not_counted n a (same_end (end_of h w) (end_of h who)) (Begins k) refl) ∙ acked-from h t who n a
 acked-from h (Down w cause ∷ t) who n a =
@@ -86,7 +80,7 @@ acked-from h (Down w cause ∷ t) who n a =
 acked-from h (Acked w k count ∷ t) who n a =
     acked-from h t who n (acked_after n a (if_said (same_end (end_of h w) (end_of h who)) (Counts k count)))
     ∙ (ap (λ b. max (acked_after n a (if_said b (Counts k count))) (link_acked t who n)) (same_as h w who)
-    ∙ counted_here n a k count (link_acked t who n) (same_side w who))
+    ∙ (grind arith))
 acked-from h (Got w k m ∷ t) who n a =
     ap (counted_from n (end_of h who) (entries_for h t)) (not_counted n a (same_end (end_of h w) (end_of h who)) (Gets k m) refl) ∙ acked-from h t who n a
 acked-from h (Sent w k m ∷ t) who n a =
@@ -179,15 +173,12 @@ can_repeat : (c : Cause) → CanCause c → (n : ℕ) → CanAll (replicate n c)
 can_repeat c can zero = tt
 can_repeat c can (suc n) = (can, can_repeat c can n)
 
-can_damage : (e : End) (v : Option Verdict) → CanAll (damage_causes e v)
-can_damage e v = grind arith
-
 -- what a line causes may happen
 can_line : (header : Header) (l : Link) (line : Line) → IsLineOf header line → CanAll (causes_in l line)
 can_line header l (Send e pid message) is = ((is.pipe, is.some), tt)
 can_line header l (Deliver e count) is = can_repeat (Taken e) tt (taken_of count (frames_to l e))
 can_line header l (Lose e) is = (tt, tt)
-can_line header l (Damage e places) is = can_damage e (first_verdict (frames_to l e) places.items)
+can_line header l (Damage e places) is = grind arith
 can_line header l (Tick times) is = can_repeat Ticked tt (unwrap_or times 1)
 can_line header l (Reset e None) is = (tt, tt)
 can_line header l (Reset e (Some w)) is = let low : 0 < w = omega (arith, is.1.0) in ((low, is.1.1), tt)
@@ -443,29 +434,22 @@ plain-append : (t u : List Noted) → ArePlain t → ArePlain u → ArePlain (t 
 plain-append [] u h k = k
 plain-append (e ∷ t) u h k = (h.0, plain-append t u h.1 k)
 
-plain_so : (b : Bool) (e : Noted) → IsPlain e → ArePlain (if_so b e)
-plain_so b e p = grind arith
-
 plain_map : {A : Type 0} (f : A → Noted) (xs : List A) → ((x : A) → IsPlain (f x)) → ArePlain (map f xs)
 plain_map f [] p = tt
 plain_map f (x ∷ xs) p = (p x, plain_map f xs p)
 
 plain_told : (who : Side) (n : ℕ) (r : Report) (acked : ℕ) → ArePlain (told who n r acked)
 plain_told who n r acked =
-    let a = plain-append (if_so (nat_lt 0 r.acked) (Acked who n acked)) (map (Got who n) r.got) (plain_so (nat_lt 0 r.acked) (Acked who n acked) tt)
+    let a = plain-append (if_so (nat_lt 0 r.acked) (Acked who n acked)) (map (Got who n) r.got) (grind arith)
     (plain_map (Got who n) r.got (λ m. tt)) in
     plain-append (map (Down who) (option_to_list r.ended))
     (if_so r.began (Up who n) ++ (if_so r.became_active (Active who)
     ++ (map (GaveUp who) (option_to_list r.gave_up) ++ (if_so (nat_lt 0 r.acked) (Acked who n acked) ++ map (Got who n) r.got))))
     (plain_map (Down who) (option_to_list r.ended) (λ m. tt)) (grind arith)
 
-plain_turn : (who : Side) (n : ℕ) (e : LinkEnd) (t : Turn) → ArePlain (turn_entry who n e t)
-plain_turn who n e t = grind arith
-
 plain_turns : (who : Side) (n : ℕ) (e : LinkEnd) (ts : List Turn) → ArePlain (turn_entries who n e ts)
 plain_turns who n e [] = tt
-plain_turns who n e (t ∷ ts) =
-    plain-append (turn_entry who n e t) (turn_entries who n (turn e t) ts) (plain_turn who n e t) (plain_turns who n (turn e t) ts)
+plain_turns who n e (t ∷ ts) = plain-append (turn_entry who n e t) (turn_entries who n (turn e t) ts) (grind arith) (plain_turns who n (turn e t) ts)
 
 plain_puts : (who : Side) (cs : List Control) (l : Link) → HaveNumbers cs → ArePlain (puts_entries who l cs)
 plain_puts who [] l h = tt

@@ -352,7 +352,7 @@ NoResets cs = AllByRecursion IsNoReset cs
 
 no_resets_asked : (h : ℕ) (l : Link) (cs : List Cause) → NoResets cs → AreAsked h l (events_at h l cs)
 no_resets_asked h l [] n = tt
-no_resets_asked h l (c ∷ cs) n = ((grind arith), no_resets_asked h (link_after l c) cs n.1)
+no_resets_asked h l (c ∷ cs) n = (grind arith, no_resets_asked h (link_after l c) cs n.1)
 
 no_repeat : (c : Cause) → IsNoReset c → (n : ℕ) → NoResets (replicate n c)
 no_repeat c none zero = tt

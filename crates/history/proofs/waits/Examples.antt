@@ -10,8 +10,7 @@ asked = opening_of 2 ++ Down (end_h 2) cause.Asked ∷ Emit (end_h 2) (249 ∷ 4
 
 -- the controller's end takes the RSET, is up with 1, and answers by UA
 abbrev answered : List Entry
-answered =
-    asked ++ Took (end_c 2) (249 ∷ 4 ∷ 0 ∷ []) ∷ Down (end_c 2) cause.Peer ∷ Up (end_c 2) 1 ∷ Emit (end_c 2) (230 ∷ []) ∷ []
+answered = asked ++ Took (end_c 2) (249 ∷ 4 ∷ 0 ∷ []) ∷ Down (end_c 2) cause.Peer ∷ Up (end_c 2) 1 ∷ Emit (end_c 2) (230 ∷ []) ∷ []
 
 none_waits_at_first : waits_in (opening_of 2) (end_h 2) ≡ false
 none_waits_at_first = refl

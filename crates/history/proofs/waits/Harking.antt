@@ -1,17 +1,17 @@
 -- What is noted of a step of an end says whether it waits for the answer to a reset.
 use Rattle.std.proofs.lemmas.List.Sums.{fold-append}
 use Rattle.history.proofs.Words.{Acked, Active, AreSendableTurns, Asked, AsksReset, Before, Bool, Control, CoreTurn, Cut, CutOff, Down, Due, Emit, EndEvent}
-use Rattle.history.proofs.Words.{EndState, Ending, Fragment, GaveUp, GoesOut, Got, HasTick, IsAllowed, IsNode, IsOwn, Link, LinkEnd, LinkInput, List, NextFrame}
-use Rattle.history.proofs.Words.{NoInput, Node, None, NumberedEnd, OnWire, Option, Report, Restarted, Role, Rr_due, Rset_due, Some, Starts, Stops, Take, Turn}
-use Rattle.history.proofs.Words.{Up, [], act_answer, activated, after_input, aged_entries, ap, arith, becomes, began_by, comes_first, core_turn}
-use Rattle.history.proofs.Words.{core_turned, core_turns, due_left, ended_by, false, far, finished, first_none, fold, frames_of, frames_out, gave_up_by}
+use Rattle.history.proofs.Words.{EndState, Ending, GaveUp, GoesOut, Got, HasTick, IsAllowed, IsNode, IsOwn, Link, LinkEnd, LinkInput, List, NextFrame, NoInput}
+use Rattle.history.proofs.Words.{Node, None, NumberedEnd, OnWire, Option, Report, Restarted, Role, Rr_due, Rset_due, Some, Starts, Stops, Take, Turn, Up, []}
+use Rattle.history.proofs.Words.{act_answer, activated, after_input, aged_entries, ap, arith, becomes, began_by, comes_first, core_turn, core_turned}
+use Rattle.history.proofs.Words.{core_turns, due_left, ended_by, false, far, finished, first_none, fold, frames_of, frames_out, gave_up_by}
 use Rattle.history.proofs.Words.{happens_at_controller, has_taken, here_entries, if_so, if_up, if◌then◌else◌, input_entries, is_open, is_rset, is_some}
 use Rattle.history.proofs.Words.{is_waiting, left_after, list_any, map, most_frames, moved, nat_lt, near_of, new_link_end, none_out, number_of, opened}
-use Rattle.history.proofs.Words.{option_to_list, put, put_entries, puts_entries, refl, renewed, report, reset_by, reset_refusal, reset_tells}
-use Rattle.history.proofs.Words.{reset_waits, reset_with, rest_entries, restart_entries, restart_mid, same_far, same_link_end, same_self, silent, step_entries}
-use Rattle.history.proofs.Words.{stopped, subst, suc, sym, taken_entries, tick_answer, tick_closed, tick_entries, tick_open, ticked, ticks_at_controller, told}
-use Rattle.history.proofs.Words.{told_of, took, took_with, true, true≢false, turn, turn_entries, turn_entry, turned, whole_acked, window_of, with_ended, ℕ}
-use Rattle.history.proofs.Words.{◌&&◌, ◌++◌, ◌∙◌, ◌∷◌, ◌≡◌}
+use Rattle.history.proofs.Words.{option_to_list, put, put_entries, puts_entries, refl, renewed, report, reset_by, reset_refusal, reset_tells, reset_waits}
+use Rattle.history.proofs.Words.{reset_with, rest_entries, restart_entries, restart_mid, same_far, same_link_end, same_self, silent, step_entries, stopped}
+use Rattle.history.proofs.Words.{subst, sym, taken_entries, tick_answer, tick_closed, tick_entries, tick_open, ticked, ticks_at_controller, told, told_of, took}
+use Rattle.history.proofs.Words.{took_with, true, true≢false, turn, turn_entries, turn_entry, turned, whole_acked, window_of, with_ended, ℕ, ◌&&◌, ◌++◌, ◌∙◌}
+use Rattle.history.proofs.Words.{◌∷◌, ◌≡◌}
 use Rattle.swp_act.specs.declared.ActEvent.{ActEvent}
 use Rattle.swp_act.specs.declared.ActEvent.TheVariants.{Tick as ActTick}
 use Rattle.shdlc_core.specs.declared.answers.LinkState.{LinkState}
@@ -100,13 +100,10 @@ hark_told who n r acked b =
 
 -- ## Turns and frames
 
-passes_turn : (w who : End) (n : ℕ) (e : LinkEnd) (t : Turn) → Passes w (turn_entry who n e t)
-passes_turn w who n e t = grind arith
-
 passes_turns : (w who : End) (n : ℕ) (e : LinkEnd) (ts : List Turn) → Passes w (turn_entries who n e ts)
 passes_turns w who n e [] = λ b. refl
 passes_turns w who n e (t ∷ ts) =
-    passes-append w (turn_entry who n e t) (turn_entries who n (turn e t) ts) (passes_turn w who n e t) (passes_turns w who n (turn e t) ts)
+    passes-append w (turn_entry who n e t) (turn_entries who n (turn e t) ts) (grind arith) (passes_turns w who n (turn e t) ts)
 
 pub passes_aged : (w who : End) (xs : List OnWire) → Passes w (aged_entries who xs)
 passes_aged w who [] = λ b. refl
@@ -186,19 +183,13 @@ rest_far who l e ts CutOff =
 
 -- ## RSETs that are due
 
-offer_due : (s : EndState) (fragments : List Fragment) → (core_turn s (Offer fragments)).due ≡ s.due
-offer_due s fragments = grind arith
-
 -- turns leave the RSET in front
 first_due : (us : List CoreTurn) (s : EndState) (ds : List Due) → s.due ≡ Rset_due ∷ ds → (es : List Due) × ((core_turned s us).due ≡ Rset_due ∷ es)
 first_due [] s ds q = (ds, q)
-first_due (Offer fragments ∷ us) s ds q = first_due us (core_turn s (Offer fragments)) ds (offer_due s fragments ∙ q)
+first_due (Offer fragments ∷ us) s ds q = first_due us (core_turn s (Offer fragments)) ds ((grind arith) ∙ q)
 first_due (SetReady r ∷ us) s ds q =
     ready_cases (λ f. (es : List Due) × ((core_turned f us).due ≡ Rset_due ∷ es)) s r (first_due us s ds q) (first_due us (changed s r s.due) ds q)
     (first_due us (changed s r (s.due ++ Rr_due ∷ [])) (ds ++ Rr_due ∷ []) (ap (λ d. d ++ Rr_due ∷ []) q))
-
-first_rset : (n : ℕ) (s : EndState) (ds : List Due) → s.due ≡ Rset_due ∷ ds → list_any is_rset (frames_of (suc n) s) ≡ true
-first_rset n s ds q = rw q refl
 
 -- an RSET that is due goes out
 out_some : (f : LinkEnd) (ts : List Turn) → AreSendableTurns ts → Now f → f.shdlc.due ≡ Rset_due ∷ [] → list_any is_rset (frames_out (turned f ts)) ≡ true
@@ -207,8 +198,7 @@ out_some f ts sendable now q =
     let tm = turns_mid None f ts sendable now in
     let z : EndState = core_turned f.shdlc us in
     let frames : frames_out (turned f ts) ≡ frames_of most_frames z = grind arith in
-    let due = first_due us f.shdlc [] q in
-    ap (λ y. list_any is_rset y) frames ∙ first_rset 11 z due.0 due.1
+    ap (λ y. list_any is_rset y) frames ∙ (rw (first_due us f.shdlc [] q).1 refl)
 
 -- ## Ticks
 
@@ -270,9 +260,6 @@ tick_so l ts a n = go (is_open e.role) refl
 no_due : (p : LinkState) (due : List Due) → due ≡ [] → due_left p due ≡ []
 no_due p due q = grind arith
 
-reset_due : (e : EndState) (w : ℕ) → is_waiting e ≡ false → e.due ≡ [] → (reset_with e w).due ≡ Rset_due ∷ []
-reset_due e w n q = let z = no_due e.phase e.due q in rw n (ap (λ d. d ++ Rset_due ∷ []) z)
-
 idle_so : (l : Link) (ts : List Turn) → AreSendableTurns ts → Near l → EndsSo l.controller.side ts (waits l.controller)
 idle_so l ts a n = Quiet refl (none_out None l.controller.side ts a n.tells.now (none_due l.controller.side.shdlc n.rests.due))
 
@@ -292,16 +279,11 @@ reset_so l window ts a n = go (reset_refusal e) refl
     go : (o : Option Refused) → reset_refusal e ≡ o → EndsSo (after_input e (Reset window)) ts (is_waiting e.shdlc)
     go None q =
         let is : after_input e (Reset window) ≡ reset_by e w = rw q refl in
-        let c : Bool = is_some (if_up e.shdlc Asked) in
-        let t = reset_tells e q in
-        let s : EndState = reset_with e.shdlc w in
-        let moved_is = shdlc_moved e c s in
+        let moved_is = shdlc_moved e (is_some (if_up e.shdlc Asked)) (reset_with e.shdlc w) in
         subst P (sym is)
-        (Asks (ap is_waiting moved_is ∙ (rw (reset_waits e.shdlc w t.1) refl))
-        (out_some (reset_by e w) ts a (grind arith) (ap (λ (z : EndState). z.due) moved_is ∙ reset_due e.shdlc w t.1 n.rests.due)))
+        (Asks (ap is_waiting moved_is ∙ (rw (reset_waits e.shdlc w (reset_tells e q).1) refl))
+        (out_some (reset_by e w) ts a (grind arith) (ap (λ (z : EndState). z.due) moved_is ∙ (grind arith))))
     go (Some why) q = let is : after_input e (Reset window) ≡ e = rw q refl in subst P (sym is) (idle_so l ts a n)
-
--- ## Frames that come
 
 -- ## Steps
 
@@ -388,13 +370,10 @@ frame_harked who l ts ending a b = go l.to_controller refl
     m : Link
     m = happens_at_controller l (Step NextFrame ts ending)
 
-    u : List Entry
-    u = step_entries who l NextFrame ts ending
-
     P : Link → Type 0
-    P k = Harked who l k u
+    P k = Harked who l k (step_entries who l NextFrame ts ending)
 
-    go : (w : List OnWire) → l.to_controller ≡ w → Harked who l m u
+    go : (w : List OnWire) → l.to_controller ≡ w → Harked who l m (step_entries who l NextFrame ts ending)
     go [] q = grind arith
     go (x ∷ xs) q =
         let Q : List Entry → Type 0 = λ z. Harked who l (has_taken l x xs ts ending) z in

@@ -14,8 +14,7 @@ use Rattle.link_laws.proofs.sessions.Steps.{safe_aged}
 use Rattle.link_laws.specs.messages.Links.EndEvent.{Step}
 use Rattle.link_laws.specs.messages.Links.LinkEvent.{Activate}
 use Rattle.swp_base.specs.declared.control_frames.Act.TheVariants.{PowerMode, Ready, SyncId}
-use Rattle.history.proofs.legal.Sessions.{AreOf, ArePlain, CanAll, IsRun, after_causes, all_can, is_run, notes_of, of_can, of_front, plain_trace, run_entries}
-use Rattle.history.proofs.legal.Sessions.{same_as}
+use Rattle.history.proofs.legal.Sessions.{AreOf, ArePlain, IsRun, after_causes, all_can, is_run, notes_of, of_can, of_front, plain_trace, run_entries, same_as}
 use Rattle.history.proofs.waits.Harking.{Harked, harks, harks-append, here_harked, own_harked, passes-append, passes_aged, tick_harked, waits}
 
 -- ## What is noted of a link says whether each end waits for the answer to a reset
@@ -235,19 +234,16 @@ waits_as_read h xs e a q = side e.link e.at_host q
     l : Link
     l = link_after_all bare_link cs
 
-    can : CanAll cs
-    can = of_can h bare_link xs a
-
     near : waits_in (entries_for h (notes_of xs)) (end_of h Controller) ≡ is_waiting l.controller.side.shdlc
     near =
         waits-from h (notes_of xs) Controller false (plain_trace cs)
-        ∙ (controller_harked bare_link IsBare (map event_of cs) (all_can cs bare_link can)
+        ∙ (controller_harked bare_link IsBare (map event_of cs) (all_can cs bare_link (of_can h bare_link xs a))
         ∙ ap (λ (m : Link). is_waiting m.controller.side.shdlc) (after_causes cs bare_link))
 
     there : waits_in (entries_for h (notes_of xs)) (end_of h Host) ≡ is_waiting l.host.side.shdlc
     there =
         waits-from h (notes_of xs) Host false (plain_trace cs)
-        ∙ (host_harked bare_link IsBare (map event_of cs) (all_can cs bare_link can)
+        ∙ (host_harked bare_link IsBare (map event_of cs) (all_can cs bare_link (of_can h bare_link xs a))
         ∙ ap (λ (m : Link). is_waiting m.host.side.shdlc) (after_causes cs bare_link))
 
     P : Bool → ℕ → Type 0

@@ -97,15 +97,12 @@ module _ (P : Control → Type 0) where
     in_aged zero (x ∷ xs) none h = absurd h
     in_aged (suc k) (x ∷ xs) none h = go (nat_lt x.age 4) (is_act x.frame) refl refl (in_aged k xs) h
       where
-        rest : (a b : Bool) → nat_lt x.age 4 ≡ a → is_act x.frame ≡ b → ((a ≡ true) ⊎ (b ≡ true)) → loses_aged (sans xs) ≡ false
-        rest a b p q e = grind arith
-
         go : (a b : Bool) → nat_lt x.age 4 ≡ a → is_act x.frame ≡ b → (loses_aged (sans xs) ≡ false → StandsIn P k xs → StandsIn P k (aged_wire xs))
             → P x.frame ⊎ StandsIn P k xs → StandsIn P (suc k) (aged_wire (x ∷ xs))
         go true b p q later (inl h) = rw p (inl h)
-        go true b p q later (inr h) = rw p (inr (later (rest true b p q (inl refl)) h))
+        go true b p q later (inr h) = rw p (inr (later (grind arith) h))
         go false true p q later (inl h) = absurd (no_act x.frame q h)
-        go false true p q later (inr h) = rw p (in_more k (suc k) (aged_wire xs) (omega arith) (later (rest false true p q (inr refl)) h))
+        go false true p q later (inr h) = rw p (in_more k (suc k) (aged_wire xs) (omega arith) (later (grind arith) h))
         go false false p q later h = absurd (let y : loses_aged (x ∷ sans xs) ≡ false = rw q at none in let z : true ≡ false = rw p at y in cc)
 
 -- ### Where no RNR stands
@@ -248,7 +245,7 @@ advances_then {a} {c} {d} {t} {c'} {d'} {t'} {m} {n} {o} g h =
       front = prefix_then m.controller.side.session.out n.controller.side.session.out o.controller.side.session.out g.front h.front;
       rnr = λ j k i r. h.rnr (k + c') k (omega arith) (g.rnr j (k + c') (omega arith) r);
       idle = λ e. idle e;
-      answered = λ j k i low s. answered k low (g.answered j (k + c') (omega arith) low s);
+      answered = λ j k i low s. (grind arith);
       sent = λ j k i low s. sent k low (g.sent j (k + d') (omega arith) low s);
       waits = λ low more rnr idle. waits low more rnr idle (g.waits low more rnr idle);
     }
@@ -258,10 +255,6 @@ advances_then {a} {c} {d} {t} {c'} {d'} {t'} {m} {n} {o} g h =
 
     idle : IsIdle m ⊎ (0 < t + t') → IsIdle o
     idle a = grind arith
-
-    answered : (k : ℕ) → a ≤ m.controller.side.session.acked → StandsIn (Answers a) (k + c') n.to_controller ⊎ Grown a n
-        → StandsIn (Answers a) k o.to_controller ⊎ Grown a o
-    answered k low a = grind arith
 
     sent : (k : ℕ) → a ≤ m.controller.side.session.acked → StandsIn (Brings a) (k + d') n.to_host ⊎ Answered a n
         → StandsIn (Brings a) k o.to_host ⊎ Answered a o
@@ -370,8 +363,7 @@ fragment_stands P no_act (d ∷ ds) (suc m) n e l info q i answers none is p =
 
 sent_no_rnr : (k m : ℕ) (e : EndState) (l : ShdlcLink) → AnswersOnly e.due → NoRnr e.due → NoRnrBehind k l.to_host
     → NoRnrBehind k (shdlc_put_all l (frames_of m e)).to_host
-sent_no_rnr k m e l answers none h =
-    (sends_keeps (λ e l. AnswersOnly e.due × NoRnr e.due × NoRnrBehind k l.to_host) each m e l (answers, none, h)).2
+sent_no_rnr k m e l answers none h = (sends_keeps (λ e l. AnswersOnly e.due × NoRnr e.due × NoRnrBehind k l.to_host) each m e l (answers, none, h)).2
   where
     each : (e : EndState) (l : ShdlcLink) (c : Control) → frame_due e ≡ Some c → AnswersOnly e.due × NoRnr e.due × NoRnrBehind k l.to_host
         → AnswersOnly (fetched e).due × NoRnr (fetched e).due × NoRnrBehind k (shdlc_put l c).to_host
@@ -380,7 +372,7 @@ sent_no_rnr k m e l answers none h =
         let put : NoRnrBehind k (fits (with_frame l.to_host c)) =
         behind_fits k (with_frame l.to_host c)
         (behind_push k l.to_host (record { frame = c; age = 0; number = 0 }) (grind arith) g.2) in
-        (fetched_answers e g.0, fetch_cases (λ f o. NoRnr f.due) e (λ d ds p. (grind arith)) (λ p q. g.1) (λ info p q. g.1), rw plain put)
+        (fetched_answers e g.0, fetch_cases (λ f o. NoRnr f.due) e (λ d ds p. grind arith) (λ p q. g.1) (λ info p q. g.1), rw plain put)
 
 -- ## One end of a link has become e, has its turns and sends all that is due: how far this brings its own places, and those of the other end
 -- The controller's end is the near one.

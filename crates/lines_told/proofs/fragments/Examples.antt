@@ -1,6 +1,6 @@
 -- The machines compute worked examples of rounds: what is asked of rounds can be met, and a fragment can take twelve of them.
 use Rattle.lines_told.proofs.Words.{AreRounds, AreUndisturbed, AtController, AtHost, BothTakeFragments, Deliver, IsRound, List, Lose, Offer, SetReady}
-use Rattle.lines_told.proofs.Words.{ShdlcLink, ShdlcLinkEvent, Some, Tick, Turns, Up, [], arith, false, length, no_losses, noted_event, refl, shdlc_after}
+use Rattle.lines_told.proofs.Words.{ShdlcLink, ShdlcLinkEvent, Some, Tick, Turns, [], arith, false, length, no_losses, noted_event, refl, shdlc_after}
 use Rattle.lines_told.proofs.Words.{shdlc_happens, start, suc, to_deliver, true, zero, ℕ, ◌++◌, ◌∷◌, ◌≡◌}
 
 abbrev time : List ShdlcLinkEvent
@@ -89,11 +89,6 @@ before = shdlc_after lost_link (silent 10)
 eleventh : AreRounds 1 before (AtHost (Deliver []) ∷ time)
 eleventh = (AtHost (Deliver []) ∷ time, [], refl, host_round before refl refl, refl)
 
--- what is undisturbed in it
-all_ready : (l : ShdlcLink) → l.controller.side.phase ≡ Up → l.host.side.phase ≡ Up → l.controller.side.ready ≡ true → l.host.side.ready ≡ true
-    → BothTakeFragments l
-all_ready l c h x y = record { controller_up = c; host_up = h; controller_ready = x; host_ready = y }
-
 then_time : (l : ShdlcLink) → BothTakeFragments l → (noted_event no_losses l (Tick (Some []) [] (Some []))).lost ≡ false
     → BothTakeFragments (shdlc_happens l (Tick (Some []) [] (Some []))) → AreUndisturbed l time
 then_time l a n b = (a, n, b)
@@ -102,4 +97,4 @@ abbrev taken : ShdlcLink
 taken = shdlc_happens before (AtHost (Deliver []))
 
 eleventh_undisturbed : AreUndisturbed before (AtHost (Deliver []) ∷ time)
-eleventh_undisturbed = (all_ready before refl refl refl refl, refl, (grind arith))
+eleventh_undisturbed = (grind arith, refl, grind arith)

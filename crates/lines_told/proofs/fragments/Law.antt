@@ -23,13 +23,10 @@ use Rattle.lines_told.proofs.fragments.Wide.{wide}
 
 did_aged : (n : Losses) (m : ShdlcLink) → (noted_aged n m).lost ≡ false → Did 0 0 0 0 m (shdlc_aged m)
 did_aged n m none =
-    did_wires 0 0 m (aged_wire m.to_controller) (aged_wire m.to_host) (leaves_aged m.to_controller here) (leaves_aged m.to_host there)
+    did_wires 0 0 m (aged_wire m.to_controller) (aged_wire m.to_host) (leaves_aged m.to_controller (grind arith)) (leaves_aged m.to_host there)
   where
     there : loses_aged (sans m.to_host) ≡ false
     there = (or_parts (n.lost || loses_aged (sans m.to_controller)) (loses_aged (sans m.to_host)) none).1
-
-    here : loses_aged (sans m.to_controller) ≡ false
-    here = (or_parts n.lost (loses_aged (sans m.to_controller)) (or_parts (n.lost || loses_aged (sans m.to_controller)) (loses_aged (sans m.to_host)) none).0).1
 
     leaves_aged : (w : List OnWire) → loses_aged (sans w) ≡ false → Leaves 0 w (aged_wire w)
     leaves_aged w kept = record {
@@ -253,14 +250,11 @@ passes_far {a} {l} {m} {o} {n} f g h =
       | inr e ↦ grown_still h e
     ]
 
-    later : a ≤ l.controller.side.session.acked → Answered a m → Answered a n
-    later low e = answered_still h (omega (arith, f.acked, g.acked)) (answered_still g (omega (arith, f.acked)) e)
-
     sent : a ≤ l.controller.side.session.acked → Sent a l → Answered a n
-    sent low (inr e) = later low (answered_still f low e)
+    sent low (inr e) = (answered_still h (omega (arith, f.acked, g.acked)) (answered_still g (omega (arith, f.acked)) (answered_still f low e)))
     sent low (inl s) = elim (f.sent (length l.to_host) 0 (omega arith) low (in_all (Brings a) l.to_host s)) [
       | inl e ↦ absurd (in_none (Brings a) m.to_host e)
-      | inr e ↦ later low e
+      | inr e ↦ (answered_still h (omega (arith, f.acked, g.acked)) (answered_still g (omega (arith, f.acked)) e))
     ]
 
 -- undisturbed events, cut in two
@@ -315,8 +309,7 @@ module _ (n : ShdlcLink) where
 
   sent_grows : (a k : ℕ) (l : ShdlcLink) → 2 ≤ k → a ≤ l.controller.side.session.acked → Sent a l → Lead k l n → Grown a n
   sent_grows a zero l i low s e = absurd (omega (arith, i))
-  sent_grows a (suc k) l i low s (m, p, e) =
-      answered_grows a k m (omega (arith, i)) (omega (arith, (p a).acked)) ((p a).sent low s) e
+  sent_grows a (suc k) l i low s (m, p, e) = answered_grows a k m (omega (arith, i)) (omega (arith, (p a).acked)) ((p a).sent low s) e
 
   -- the timer has so many ticks to go
   waits_grows : (a k : ℕ) (l : ShdlcLink) → 12 ≤ k + l.controller.side.timer → 3 ≤ k → a ≤ l.controller.side.session.acked

@@ -67,10 +67,10 @@ module _ (e : EndState) (ready : e.ready ≡ true) (due : e.due ≡ []) (up : e.
   took_I p n info place low =
       taken_I (λ g. Took e g c) e (p % 8) (n % 8) n info up place
       (received_ready (λ g. Took e g c) f (p % 8) info ready
-      (λ z. from (s.acc ++ info ∷ []) (e.due ++ Rr_due ∷ []) (Rr_due ∷ []) false (one Rr_due) tt (omega arith) tt
+      (λ z. from (s.acc ++ info ∷ []) (e.due ++ Rr_due ∷ []) (Rr_due ∷ []) false (grind arith) tt (omega arith) tt
       (λ a i j k. (([], refl), λ d. let more : length (s.acc ++ info ∷ []) ≡ length s.acc + 1 = length-append s.acc (info ∷ []) in omega arith)))
       (λ z g. from s.acc e.due [] s.gap_open due tt (omega arith) tt (λ a i j k. absurd (omega arith)))
-      (λ z g. from s.acc (e.due ++ Rej_due ∷ []) (Rej_due ∷ []) true (one Rej_due) tt (omega arith) tt (λ a i j k. absurd (omega arith)))
+      (λ z g. from s.acc (e.due ++ Rej_due ∷ []) (Rej_due ∷ []) true (grind arith) tt (omega arith) tt (λ a i j k. absurd (omega arith)))
       (λ z g. grind arith))
     where
       c : Control
@@ -78,9 +78,6 @@ module _ (e : EndState) (ready : e.ready ≡ true) (due : e.due ≡ []) (up : e.
 
       f : EndState
       f = acknowledged e n
-
-      one : (d : Due) → e.due ++ d ∷ [] ≡ d ∷ []
-      one d = ap (λ (l : List Due). l ++ d ∷ []) due
 
       from : (acc : List Fragment) (ds zs : List Due) (gap : Bool) → ds ≡ zs → AnswersOnly zs → length zs ≤ 1 → NoRnr zs
           → ((a : ℕ) → a ≤ length s.acc → length s.acc ≤ a + 4 → (p % 8) ≡ a % 8 → ((rest : List Due) × (zs ≡ Rr_due ∷ rest)) × Differs (length acc) a)
@@ -134,8 +131,7 @@ turned_so e ready noted out more due is answers no_rnr first = grind arith
 
 -- no more than this is changed
 ready_so : (e : EndState) (ready noted : Bool) → Turned e (record e { ready = ready; session = record e.session { answered_rnr = noted } })
-ready_so e ready noted =
-    turned_so e ready noted e.session.out [] e.due (sym (append-nil e.session.out)) (λ a. a) (λ a. a) (λ d ds q. (ds, q))
+ready_so e ready noted = turned_so e ready noted e.session.out [] e.due (sym (append-nil e.session.out)) (λ a. a) (λ a. a) (λ d ds q. (ds, q))
 
 then_turned : {d e f : EndState} → Turned d e → Turned e f → Turned d f
 then_turned {d} a b =

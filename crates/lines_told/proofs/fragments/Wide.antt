@@ -45,8 +45,7 @@ record WideHere (l n : ShdlcLink) : Type 0 where
   host : n.host ≡ l.host
 
 becomes_here : (l m : ShdlcLink) (ts : List ShdlcTurn) (e : EndState) → m.host ≡ l.host → IsWide e → WideHere l (shdlc_becomes m (shdlc_turned e ts))
-becomes_here l m ts e same h =
-    record { wide = wide_becomes m ts e h; host = (put_all_same (frames_of 12 (shdlc_turned e ts)) m).1 ∙ same }
+becomes_here l m ts e same h = record { wide = wide_becomes m ts e h; host = (put_all_same (frames_of 12 (shdlc_turned e ts)) m).1 ∙ same }
 
 wide_ignored : (l : ShdlcLink) (ts : List ShdlcTurn) → IsWide l.controller.side → WideHere l (shdlc_happens_at_controller l (Ignore ts))
 wide_ignored l ts h = go l.controller.side.phase refl l.to_controller refl

@@ -126,7 +126,7 @@ module _ (header : Header) where
   lines_few [] before = omega arith
   lines_few (line ∷ lines) before =
       let more : List Play = plays_of_line header before line in
-      omega (arith, (lines_few lines (before ++ more)), (said-append before more), (line_few before line))
+      omega (arith, lines_few lines (before ++ more), said-append before more, line_few before line)
 
   pub few_said : (lines : List Line) → lines_said (plays_of header lines) ≤ length lines
   few_said lines = let all = lines_few lines [] in omega (arith, all)
@@ -138,9 +138,8 @@ module _ (header : Header) where
       → lines_played header (fold (λ (ps : List Play) (line : Line). ps ++ plays_of_line header ps line) before lines) ≡ said ++ lines
   lines_stay [] said before stays is = is ∙ sym (append-nil said)
   lines_stay (line ∷ lines) said before stays is =
-      let one : plays_of_line header before line ≡ Said line ∷ [] = grind arith in
       let now : lines_played header (before ++ plays_of_line header before line) ≡ said ++ line ∷ [] =
-      ap (λ (ps : List Play). lines_played header (before ++ ps)) one
+      ap (λ (ps : List Play). lines_played header (before ++ ps)) (grind arith)
       ∙ (played_more header before (Said line) ∙ ap (λ (ls : List Line). ls ++ line ∷ []) is) in
       lines_stay lines (said ++ line ∷ []) (before ++ plays_of_line header before line) stays.1 now ∙ append_assoc said (line ∷ []) lines
 
@@ -185,8 +184,7 @@ module _ (h : ℕ) where
   -- the causes of such a round
   abbrev pub causes_on : Link → List End → List Cause
   causes_on l [] = Ticked ∷ []
-  causes_on l (e ∷ ends) =
-      causes_in l (saying.Deliver e None) ++ causes_on (link_after_all l (causes_in l (saying.Deliver e None))) ends
+  causes_on l (e ∷ ends) = causes_in l (saying.Deliver e None) ++ causes_on (link_after_all l (causes_in l (saying.Deliver e None))) ends
 
   pub round_causes : (ends : List End) (l : Link) → link_after_lines h l (round_on h l ends) ≡ link_after_all l (causes_on l ends)
   round_causes [] l = refl
@@ -400,15 +398,12 @@ module _ (header : Header) where
 
   -- ### The lines of a round are such lines
 
-  one_taken : (b : Bool) (e : End) → IsEndOf header e → AllByRecursion (IsRoundLine header) (if b then saying.Deliver e None ∷ [] else [])
-  one_taken b e known = grind arith
-
   lines_in : (ends : List End) (w : NodeWorld) → AllByRecursion (IsEndOf header) ends → AllByRecursion (IsRoundLine header) (round_in w ends)
   lines_in [] w known = (tt, tt)
   lines_in (e ∷ ends) w known =
       let v : NodeWorld = world_after w (taking_in w e) in
       all-append (IsRoundLine header) (taking_in w e) (round_in v ends)
-      (one_taken (is_running w (node_of e) && not (is_clear (frames_at w e))) e known.0) (lines_in ends v known.1)
+      (grind arith) (lines_in ends v known.1)
 
   lines_on : (h : ℕ) (ends : List End) (l : Link) → AllByRecursion (IsEndOf header) ends → AllByRecursion (IsRoundLine header) (round_on h l ends)
   lines_on h [] l known = (tt, tt)
@@ -539,7 +534,7 @@ module _ (header : Header) (plays : List Play) (n : ℕ) where
 
 module _ (header : Header) where
   line_rounds : (before : List Play) (line : Line) → MayFollow header line → rounds_played (plays_of_line header before line) ≤ 20000
-  line_rounds before (saying.Settle n) may = omega (arith, (so_many_rounds (rounds_to_rest header before n)), (at_most header before n), may.1)
+  line_rounds before (saying.Settle n) may = omega (arith, so_many_rounds (rounds_to_rest header before n), at_most header before n, may.1)
   line_rounds before line may = omega arith
 
   lines_rounds : (lines : List Line) (before : List Play) → AllByRecursion (MayFollow header) lines
@@ -548,7 +543,7 @@ module _ (header : Header) where
   lines_rounds [] before may = omega arith
   lines_rounds (line ∷ lines) before may =
       let more : List Play = plays_of_line header before line in
-      omega (arith, (lines_rounds lines (before ++ more) may.1), (played-append before more), (line_rounds before line may.0))
+      omega (arith, lines_rounds lines (before ++ more) may.1, played-append before more, line_rounds before line may.0)
 
   pub few_rounds : (lines : List Line) → AllByRecursion (MayFollow header) lines → rounds_played (plays_of header lines) ≤ 20000 * length lines
   few_rounds lines may = let all = lines_rounds lines [] may in omega (arith, all)

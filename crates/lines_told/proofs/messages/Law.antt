@@ -274,7 +274,7 @@ sent_front early late a b front =
 pub fragments_counted : (m : Message) (ms : List Message) → length (fragments_of (m ∷ ms)) ≡ packet_count (length m.1) + length (fragments_of ms)
 fragments_counted m ms =
     let b = length-map (packets_of m.0 m.1) packet_bytes ∙ packets_are_counted m.0 m.1 in
-    omega (arith, (length-append (map packet_bytes (packets_of m.0 m.1)) (fragments_of ms)), b)
+    omega (arith, length-append (map packet_bytes (packets_of m.0 m.1)) (fragments_of ms), b)
 
 -- messages of which all fragments are among so many are whole
 whole_front : (early later : List Message) (n : ℕ) → length (fragments_of early) ≤ n → length early ≤ whole_among (early ++ later) n
@@ -398,10 +398,10 @@ module _ (l : Link) (s : IsStart l) (before : List LinkEvent) (a : AllAllowed l 
   rest_at_host q =
       let P : CoreLink → Type 0 = λ c. IsPrefix m.controller.side.shdlc.session.out c.controller.side.session.out in
       let given = prefix_length m.controller.side.shdlc.session.out n.controller.side.shdlc.session.out (subst P (sym now.1) done.given_there) in
-      got_there (omega (arith, (all_acked n.controller.side now.0.good.controller.now.says ends.controller_up (rests_parts n q).0), given))
+      got_there (omega (arith, all_acked n.controller.side now.0.good.controller.now.says ends.controller_up (rests_parts n q).0, given))
 
   pub rest_at_controller : link_rests n ≡ true → EarlierGot (talk_now m.host.side) (talk_now n.host.side) (talk_now n.controller.side)
   rest_at_controller q =
       let P : CoreLink → Type 0 = λ c. IsPrefix m.host.side.shdlc.session.out c.host.side.session.out in
       let given = prefix_length m.host.side.shdlc.session.out n.host.side.shdlc.session.out (subst P (sym now.1) done.given_here) in
-      got_here (omega (arith, (all_acked n.host.side now.0.good.host.now.says ends.host_up (rests_parts n q).1), given))
+      got_here (omega (arith, all_acked n.host.side now.0.good.host.now.says ends.host_up (rests_parts n q).1, given))

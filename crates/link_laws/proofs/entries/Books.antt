@@ -1,5 +1,4 @@
 -- What the entries of an end say of its sessions, and what each part of a step adds.
-use Rattle.std.specs.Prelude.{◌+◌}
 use Rattle.link_laws.proofs.Words.{Acked, Active, Bool, End, EndState, Entry, FetchMessage, GaveUp, Give, Got, Hold, IsSendable, LinkEnd, List, Message, None}
 use Rattle.link_laws.proofs.Words.{NumberedEnd, Option, Packet, Refused, Release, Report, Sent, Session, SetAside, Some, Talk, Turn, Up as IsUpNow, []}
 use Rattle.link_laws.proofs.Words.{acked_noted, ap, append-nil, append_assoc, arith, common_steps, cond, drop, ended_talk, false, far}
@@ -60,9 +59,6 @@ blank-plus b = rw (zero_max b.acked) refl
 abbrev note : Entry → End → ℕ → Book
 note e who n = read (e ∷ []) who n
 
-pub plus_assoc : (a b c : Book) → plus a (plus b c) ≡ plus (plus a b) c
-plus_assoc a b c = rw (append_assoc a.sent b.sent c.sent, append_assoc a.got b.got c.got, max_assoc a.acked b.acked c.acked) refl
-
 read-one : (e : Entry) (t : List Entry) (who : End) (n : ℕ) → read (e ∷ t) who n ≡ plus (note e who n) (read t who n)
 read-one e t who n = grind arith
 
@@ -71,7 +67,7 @@ read-append [] u who n = sym (blank-plus (read u who n))
 read-append (e ∷ t) u who n =
     read-one e (t ++ u) who n
     ∙ (ap (plus (note e who n)) (read-append t u who n)
-    ∙ (plus_assoc (note e who n) (read t who n) (read u who n) ∙ ap (λ b. plus b (read u who n)) (sym (read-one e t who n))))
+    ∙ ((grind arith) ∙ ap (λ b. plus b (read u who n)) (sym (read-one e t who n))))
 
 -- entries that say nothing of messages
 abbrev pub Silent : List Entry → Type 0
@@ -221,9 +217,6 @@ silent_report t who k r acked n got zero = noted t who k r acked n ∙ (ap (plus
 fresh_whole : (e : LinkEnd) → e.sent ≡ [] → whole_acked e ≡ 0
 fresh_whole e q = rw q refl
 
-blank_talk : (e : LinkEnd) → e.sent ≡ [] → e.shdlc.session.acc ≡ [] → book_of (talk_now e) ≡ blank
-blank_talk e s a = rw (s, a) refl
-
 eq_sym : (a b : ℕ) (x : Bool) → (a == b) ≡ x → (b == a) ≡ x
 eq_sym a b x q = grind arith
 
@@ -257,11 +250,6 @@ told_input t who h k ended began r i d b n = go i.becomes.shift
     after_end : h.side.shdlc.phase ≡ IsUpNow → ended ≡ true → ended_talk k.past n ≡ talk_of h n
     after_end up q = ap (λ p. ended_talk p n) (i.past ∙ ap (λ x. past_after x h) q) ∙ sym (up_talk h n up)
 
-    -- the session that begins has no messages yet, and none were noted of its number
-    begins : (x : Bool) → (n == j) ≡ x → book_of (talk_now k.side) ≡ blank → talk_of h j ≡ no_talk → book_of (talk_of h n)
-        ≡ book_of (cond (n == j) (talk_now k.side) (talk_of h n))
-    begins x q none fresh = grind arith
-
     book_is : {s u g g' : List Message} {a c : ℕ} → s ≡ u → g ≡ g' → a ≡ c → book s g a ≡ book u g' c
     book_is p q r = rw (p, q, r) refl
 
@@ -287,15 +275,15 @@ told_input t who h k ended began r i d b n = go i.becomes.shift
     go (Ends p q up still s) =
         nothing (ap (λ (z : Session). z.acc) s) (sent_true p) ∙ (b n ∙ ap book_of (sym (down_talk k n still ∙ after_end up p)))
     go (Renews p q up new) =
-        let none : book_of (talk_now k.side) ≡ blank = blank_talk k.side (sent_true p) new.acc in
+        let none : book_of (talk_now k.side) ≡ blank = rw ((sent_true p), new.acc) refl in
         let fresh : talk_of h j ≡ no_talk = i.fresh q in
         let is : talk_of k n ≡ cond (n == j) (talk_now k.side) (talk_of h n) = grind arith in
-        nothing new.acc (sent_true p) ∙ (b n ∙ (begins (n == j) refl none fresh ∙ ap book_of (sym is)))
+        nothing new.acc (sent_true p) ∙ (b n ∙ ((grind arith) ∙ ap book_of (sym is)))
     go (Begins p q down new) =
-        let none : book_of (talk_now k.side) ≡ blank = blank_talk k.side (sent_false p ∙ d.forgot down) new.acc in
+        let none : book_of (talk_now k.side) ≡ blank = rw ((sent_false p ∙ d.forgot down), new.acc) refl in
         let fresh : talk_of h j ≡ no_talk = i.fresh q in
         let is : talk_of k n ≡ cond (n == j) (talk_now k.side) (talk_of h n) = grind arith in
-        nothing new.acc (sent_false p ∙ d.forgot down) ∙ (b n ∙ (begins (n == j) refl none fresh ∙ ap book_of (sym is)))
+        nothing new.acc (sent_false p ∙ d.forgot down) ∙ (b n ∙ ((grind arith) ∙ ap book_of (sym is)))
     go (Rests p q down still s) =
         nothing (ap (λ (z : Session). z.acc) (s (d.none down))) (sent_false p ∙ d.forgot down)
         ∙ (b n ∙ ap book_of (down_talk h n down ∙ sym (down_talk k n still ∙ ap (λ ps. ended_talk ps n) (i.past ∙ ap (λ x. past_after x h) p))))
@@ -378,5 +366,4 @@ turn_far t who k e (Give m) h b = go (give_refusal e m)
     go : (o : Option Refused) → Told (t ++ sent_unless o who k m) (far who) h
     go (Some why) = told_nothing t (far who) h b
     go None = λ n.
-        let none : read (Sent who k m ∷ []) (far who) n ≡ blank = rw (same_far who) refl in
-        read-append t (Sent who k m ∷ []) (far who) n ∙ (ap (plus (read t (far who) n)) none ∙ (plus-blank (read t (far who) n) ∙ b n))
+        read-append t (Sent who k m ∷ []) (far who) n ∙ (ap (plus (read t (far who) n)) (grind arith) ∙ (plus-blank (read t (far who) n) ∙ b n))

@@ -63,7 +63,7 @@ chain_turns who k e (t ∷ ts) = more (turn_entry who k e t) (turn_entries who k
 
 chain_puts : (cs : List Control) (who : End) (l : Link) → NoChain (puts_entries who l cs)
 chain_puts [] who l = tt
-chain_puts (c ∷ cs) who l = more (put_entries who l c) (puts_entries who (put l c) cs) (refl, (grind arith)) (chain_puts cs who (put l c))
+chain_puts (c ∷ cs) who l = more (put_entries who l c) (puts_entries who (put l c) cs) (refl, grind arith) (chain_puts cs who (put l c))
 
 chain_ending : (who : End) (l : Link) (e : LinkEnd) (ending : Ending) → NoChain (ending_entries who l e ending)
 chain_ending who l e GoesOut = chain_puts (frames_out e) who l
@@ -432,7 +432,6 @@ reset_noted n l w ts a h q =
     let e : LinkEnd = l.controller.side in
     let b : Bool = is_some (if_up e.shdlc Asked) in
     let f : LinkEnd = reset_by e w in
-    let us : List CoreTurn = core_turns f ts in
     let tm = turns_mid None f ts a (grind arith) in
-    let s : EndState = core_turned (reset_with e.shdlc w) us in
+    let s : EndState = core_turned (reset_with e.shdlc w) (core_turns f ts) in
     ap (λ z. noted_out n z s) (grind arith) ∙ out_noted n (core_of (with_ended l b)) None (turned f ts) s tm.mid.acts (grind arith)

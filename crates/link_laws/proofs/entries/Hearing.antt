@@ -104,13 +104,10 @@ shifted h k ended began a same = grind arith
 
 -- ### Turns and frames
 
-passes_turn : (w who : End) (n : ℕ) (e : LinkEnd) (t : Turn) → Passes w (turn_entry who n e t)
-passes_turn w who n e t = grind arith
-
 pub passes_turns : (w who : End) (n : ℕ) (e : LinkEnd) (ts : List Turn) → Passes w (turn_entries who n e ts)
 passes_turns w who n e [] = λ s. refl
 passes_turns w who n e (t ∷ ts) =
-    passes-append w (turn_entry who n e t) (turn_entries who n (turn e t) ts) (passes_turn w who n e t) (passes_turns w who n (turn e t) ts)
+    passes-append w (turn_entry who n e t) (turn_entries who n (turn e t) ts) (grind arith) (passes_turns w who n (turn e t) ts)
 
 passes_puts : (w who : End) (cs : List Control) (l : Link) → Passes w (puts_entries who l cs)
 passes_puts w who [] l = λ s. refl
@@ -145,8 +142,7 @@ rest_heard : (who : End) (l : Link) (e : LinkEnd) (ts : List Turn) (ending : End
     → heard who (number_now (with_side l.controller e)) (rest_entries who l e ts ending) ≡ number_now (finished l (turned e ts) ending).controller
 rest_heard who l e ts GoesOut finishes = passes_out who who l e ts (number_now (with_side l.controller e)) ∙ sym (rest_session l e ts finishes.quiet)
 rest_heard who l e ts CutOff finishes =
-    let s : Option ℕ = number_now (with_side l.controller e) in
-    heard-append who s (turn_entries who (number_of l.controller) e ts) (Cut who ∷ [])
+    heard-append who (number_now (with_side l.controller e)) (turn_entries who (number_of l.controller) e ts) (Cut who ∷ [])
     ∙ (grind arith)
 
 -- ### Steps
@@ -222,7 +218,7 @@ own_heard who l (Step NoInput ts ending) o a n =
 frame_heard : (who : End) (l : Link) (ts : List Turn) (ending : Ending) → IsNode l ts ending → Near l → Frames l ts
     → Heard who l (happens_at_controller l (Step NextFrame ts ending)) (step_entries who l NextFrame ts ending)
 frame_heard who l ts ending a n frames =
-    by_list {P = Heard who l m u} l.to_controller (grind arith)
+    by_list {P = Heard who l m (step_entries who l NextFrame ts ending)} l.to_controller (grind arith)
     (λ x xs q.
     let Q : List Entry → Type 0 = λ z. Heard who l (has_taken l x xs ts ending) z in
     subst P (sym (rw q refl)) (subst Q (sym (rw q refl)) (taken_heard who l x xs ts ending a n (frames x xs q))))
@@ -230,11 +226,8 @@ frame_heard who l ts ending a n frames =
     m : Link
     m = happens_at_controller l (Step NextFrame ts ending)
 
-    u : List Entry
-    u = step_entries who l NextFrame ts ending
-
     P : Link → Type 0
-    P k = Heard who l k u
+    P k = Heard who l k (step_entries who l NextFrame ts ending)
 
 here_heard : (who : End) (l : Link) (e : EndEvent) → IsAllowed l e → Before l → Heard who l (happens_at_controller l e) (here_entries who l e)
 here_heard who l e a b = go e a

@@ -21,7 +21,6 @@ use Rattle.link_laws.proofs.messages.Project.{NoAsk, NoRset, Now, Tells, host_en
 use Rattle.link_laws.proofs.messages.Finishing.{can_after, can_end, none_out, restart_mid, tick_closed, tick_open, tick_role, took_can, waiting_phase}
 use Rattle.link_laws.proofs.messages.Steps.{Rests, act_mid, activated_role, says_of, session-core, tick_closes}
 use Rattle.link_laws.proofs.messages.Runs.{in_messages}
-use Rattle.link_laws.proofs.sessions.Data.{Base}
 use Rattle.link_laws.proofs.sessions.Sending.{SafeLink}
 
 -- ## What is noted of a run says what is kept of the sessions of both ends
@@ -230,8 +229,7 @@ restart_told : {t : List Entry} {who : End} {l : Link} {i : LinkInput} {event : 
     → IsRestart l.controller.side i event → Tolds t who l
     → Out t (restart_entries who l i ts ending) who (finished (silent l (after_input l.controller.side i)) (turned (after_input l.controller.side i) ts) ending)
 restart_told {t} {who} {l} {i} ts ending a n r b =
-    let e : LinkEnd = l.controller.side in
-    let f : LinkEnd = after_input e i in
+    let f : LinkEnd = after_input l.controller.side i in
     let k : Link = silent l f in
     let first : Tolds (t ++ Restarted who ∷ []) who l =
     record {
@@ -264,7 +262,7 @@ taken_told {t} {who} l x xs ts ending a n fr b =
       input = record {
         becomes = take_so e x.frame n.sound;
         acked = refl;
-        past = past c;
+        past = grind arith;
         same = λ up q. number c ∙ ap (max l.controller.emitted) (fr.same up q);
         fresh = λ q. ap (talk_of l.controller) (number c) ∙ fr.fresh q;
       };
@@ -285,9 +283,6 @@ taken_told {t} {who} l x xs ts ending a n fr b =
     number : (c : Bool) → number_of (record (m c).controller { took = took_with l.controller.took x })
         ≡ max l.controller.emitted (took_with l.controller.took x)
     number c = grind arith
-
-    past : (c : Bool) → (m c).controller.past ≡ past_after c l.controller
-    past c = grind arith
 
     host : (c : Bool) → (m c).host ≡ l.host
     host c = grind arith
@@ -437,7 +432,7 @@ mine t u p who n before after one few f =
     let there_all = as_read (t ++ u) (far who) n (read t (far who) n) other_all in
     let s : List Message = sent_noted t who n ++ sent_noted p who n in
     let k : ℕ = max (acked_noted t who n) (acked_noted p who n) in
-    let k_few : k ≤ length s = omega (arith, (few p f n), here.2, (ap (λ (ms : List Message). length ms) here.0)) in
+    let k_few : k ≤ length s = omega (arith, few p f n, here.2, (ap (λ (ms : List Message). length ms) here.0)) in
     let whole : sent_noted (t ++ u) who n ≡ s ++ sent_noted f.0 who n =
     all.0 ∙ (ap (λ ms. sent_noted t who n ++ ms) parts.0 ∙ sym (append_assoc (sent_noted t who n) (sent_noted p who n) (sent_noted f.0 who n))) in
     let less : IsFrontOf (take k s) (take (acked_noted (t ++ u) who n) (sent_noted (t ++ u) who n)) =
@@ -489,17 +484,11 @@ between t u who before after one few p f w n = go who w refl
     P : End → Type 0
     P z = InOrderIn (t ++ p) z n
 
-    here : InOrderIn (t ++ p) who n
-    here = mine t u p who n before after one few f
-
-    there : InOrderIn (t ++ p) (far who) n
-    there = theirs t u p who n before after one f
-
     go : (v w : End) → who ≡ v → InOrderIn (t ++ p) w n
-    go Controller Controller q = subst P q here
-    go Host Host q = subst P q here
-    go Controller Host q = subst P (ap far q) there
-    go Host Controller q = subst P (ap far q) there
+    go Controller Controller q = subst P q (mine t u p who n before after one few f)
+    go Host Host q = subst P q (mine t u p who n before after one few f)
+    go Controller Host q = subst P (ap far q) (theirs t u p who n before after one f)
+    go Host Controller q = subst P (ap far q) (theirs t u p who n before after one f)
 
 -- entries that say nothing of messages
 pub ok_silent : (t u : List Entry) → Ok t → Silent u → Ok (t ++ u)
@@ -512,9 +501,6 @@ ok_silent t u ok s who n =
 
 -- ### A link and what was noted of it
 
-core_in_order : (s r : Session) → Base s r → CoreInOrder s r
-core_in_order s r b = record { front = b.front; acked = b.acked; offered = omega (arith, b.from, b.sent, b.offered) }
-
 -- messages are in order on a link that is safe
 link_order : (kn kf : ℕ) (l : Link) → SafeLink kn kf (core_of l) → Tells l.controller → Tells l.host → (n : ℕ)
     → InOrder (talk_of l.controller n) (talk_of l.host n) × InOrder (talk_of l.host n) (talk_of l.controller n)
@@ -526,9 +512,9 @@ link_order kn kf l s c h n =
     let R : Session → Type 0 = λ z. CoreInOrder z (shdlc_session_of (core_end l.controller) n) in
     let S : Session → Type 0 = λ z. CoreInOrder (talk_of l.host n).session z in (
       in_messages (talk_of l.controller n) (talk_of l.host n) (says_of l.controller n c)
-          (subst Q y (subst P x (core_in_order (shdlc_session_of (core_end l.controller) n) (shdlc_session_of (core_end l.host) n) (s.n_base n)))),
+          (subst Q y (subst P x (grind arith))),
       in_messages (talk_of l.host n) (talk_of l.controller n) (says_of l.host n h)
-          (subst S x (subst R y (core_in_order (shdlc_session_of (core_end l.host) n) (shdlc_session_of (core_end l.controller) n) (s.f_base n)))),
+          (subst S x (subst R y (grind arith))),
     )
 
 order_in : (t : List Entry) (who : End) (n : ℕ) (s r : Talk) → read t who n ≡ book_of s → read t (far who) n ≡ book_of r → InOrder s r → Few t who

@@ -1,18 +1,18 @@
 -- A quiet session has delivered all, as it is noted: losses are told, and each step keeps what is known of both ends.
 use Rattle.std.specs.Prelude.{◌||◌}
 use Rattle.link_laws.proofs.Words.{Acked, ActTick, Activation, Active, AreSendableTurns, Asked, AsksReset, Bool, CanEnd, Comes, Controller, CoreActs}
-use Rattle.link_laws.proofs.Words.{CoreEndEvent, CoreLink, CoreTurn, Cut, CutOff, End, EndEvent, EndState, Ending, Entry, GaveUp, GoesOut, Got}
-use Rattle.link_laws.proofs.Words.{HasTick, Host, IsAllowed, IsNode, IsOwn, Link, LinkEnd, LinkInput, List, Lose, Loss, Losses, NextFrame, NoInput, Node, None}
-use Rattle.link_laws.proofs.Words.{NumberedEnd, OnWire, Option, Refused, Reset, Some, Start, Starts, Step, Stop, Stops, Take, Took, Turn, Up as IsUpNow}
-use Rattle.link_laws.proofs.Words.{[], act_answer, activated, after_input, aged, aged_entries, ap, append-nil, append_assoc, arith, began_by, came_up}
-use Rattle.link_laws.proofs.Words.{common_steps, core_all_here, core_end, core_ending, core_happens_here, core_here, core_of, core_reset, core_step}
-use Rattle.link_laws.proofs.Words.{core_take, core_tick, core_tick_rest, core_ticks_or_cut, core_turned, core_turns, counts_first, ended_by, false, finished}
-use Rattle.link_laws.proofs.Words.{first_lost, frames_out, happens_at_controller, has_taken, here_entries, if_so, if_up, inl, inr, is_open, is_some}
-use Rattle.link_laws.proofs.Words.{is_up_with, left_after, list_any, loses_aged, map, max, most_frames, moved, nat_lt, no_losses, noted_aged}
-use Rattle.link_laws.proofs.Words.{noted_all, noted_here, noted_tick, noted_turns, number_of, option_to_list, put_all, refl, report, reset_by}
-use Rattle.link_laws.proofs.Words.{reset_refusal, rest_entries, sans, shdlc_ticks_at_controller as core_ticks_here, since, step_entries, steps_at_controller}
-use Rattle.link_laws.proofs.Words.{subst, sym, taken_entries, tick_answer, tick_entries, ticked, ticks_at_controller, told_of, took, took_with, true}
-use Rattle.link_laws.proofs.Words.{true≢false, turn_entries, turned, whole_acked, window_of, with_ended, ℕ, ◌++◌, ◌==◌, ◌∙◌, ◌∷◌, ◌≡◌, ◌⊎◌}
+use Rattle.link_laws.proofs.Words.{CoreEndEvent, CoreLink, CoreTurn, Cut, CutOff, End, EndEvent, EndState, Ending, Entry, GaveUp, GoesOut, Got, HasTick, Host}
+use Rattle.link_laws.proofs.Words.{IsAllowed, IsNode, IsOwn, Link, LinkEnd, LinkInput, List, Lose, Loss, Losses, NextFrame, NoInput, Node, None, NumberedEnd}
+use Rattle.link_laws.proofs.Words.{OnWire, Option, Reset, Some, Start, Starts, Step, Stop, Stops, Take, Took, Turn, Up as IsUpNow, [], act_answer, activated}
+use Rattle.link_laws.proofs.Words.{after_input, aged, aged_entries, ap, append-nil, append_assoc, arith, began_by, came_up, common_steps, core_all_here}
+use Rattle.link_laws.proofs.Words.{core_end, core_ending, core_happens_here, core_here, core_of, core_step, core_take, core_tick, core_tick_rest}
+use Rattle.link_laws.proofs.Words.{core_ticks_or_cut, core_turned, core_turns, counts_first, ended_by, false, finished, first_lost, frames_out}
+use Rattle.link_laws.proofs.Words.{happens_at_controller, has_taken, here_entries, if_so, if_up, inl, inr, is_open, is_some, is_up_with, left_after, list_any}
+use Rattle.link_laws.proofs.Words.{loses_aged, map, max, most_frames, moved, nat_lt, no_losses, noted_aged, noted_all, noted_here, noted_tick, noted_turns}
+use Rattle.link_laws.proofs.Words.{number_of, option_to_list, put_all, refl, report, reset_by, reset_refusal, rest_entries, sans}
+use Rattle.link_laws.proofs.Words.{shdlc_ticks_at_controller as core_ticks_here, since, step_entries, steps_at_controller, subst, sym, taken_entries}
+use Rattle.link_laws.proofs.Words.{tick_answer, tick_entries, ticked, ticks_at_controller, told_of, took, took_with, true, true≢false, turn_entries, turned}
+use Rattle.link_laws.proofs.Words.{whole_acked, window_of, with_ended, ℕ, ◌++◌, ◌==◌, ◌∙◌, ◌∷◌, ◌≡◌, ◌⊎◌}
 use Rattle.link_laws.specs.entries.Entries.Entry.{Down, Tick, Up}
 use Rattle.link_laws.specs.entries.Quiet.{begins}
 use Rattle.link_laws.proofs.Cases.{by_list, by_option, by_test}
@@ -168,10 +168,10 @@ reset_grows n who l window ts GoesOut a h =
     by_option {P = Grows n m (step_entries who l (AsksReset window) ts GoesOut)} (reset_refusal e) (λ q.
     let c : Bool = is_some (if_up e.shdlc Asked) in
     entries_as c (reset_by e w) (rw q refl) (rw q refl)
-    (input_grows n m who l.controller i (with_ended l c) (reset_by e w) ts (is_core None q ∙ reset_noted n l w ts a h q)))
+    (input_grows n m who l.controller i (with_ended l c) (reset_by e w) ts ((grind arith) ∙ reset_noted n l w ts a h q)))
     (λ why q.
     entries_as false e (rw q refl) (rw q refl)
-    (input_grows n m who l.controller i l e ts (is_core (Some why) q ∙ idle_noted n l ts a h)))
+    (input_grows n m who l.controller i l e ts ((grind arith) ∙ idle_noted n l ts a h)))
   where
     e : LinkEnd
     e = l.controller.side
@@ -184,9 +184,6 @@ reset_grows n who l window ts GoesOut a h =
 
     m : Losses
     m = noted_turns n (core_of l) (core_step l (AsksReset window) ts GoesOut)
-
-    is_core : (o : Option Refused) → reset_refusal e ≡ o → m ≡ noted_turns n (core_of l) (core_reset o e w ts GoesOut)
-    is_core o q = ap (λ z. noted_turns n (core_of l) (core_reset z e w ts GoesOut)) q
 
     entries_as : (c : Bool) (f : LinkEnd)
         → is_some (ended_by e i) ≡ c → after_input e i ≡ f → Grows n m (told_of who l.controller i ++ rest_entries who (with_ended l c) f ts GoesOut)
@@ -344,10 +341,6 @@ taken_knows {t} {n} who l x xs ts ending w a b both = go (began_by e i) refl
             which (inl z) = inl (let h0 = (core_of k) in let h1 = (began_by e i) in grind arith)
             which (inr z) = inr z
 
-    number : (c : Bool) → number_of (record (with_ended (record l { to_controller = xs }) c).controller { took = took_with l.controller.took x })
-        ≡ max l.controller.emitted (took_with l.controller.took x)
-    number c = grind arith
-
     host : (c : Bool) → (with_ended (record l { to_controller = xs }) c).host ≡ l.host
     host c = grind arith
 
@@ -367,7 +360,7 @@ taken_knows {t} {n} who l x xs ts ending w a b both = go (began_by e i) refl
     go false q =
         record {
           here = knows_more t u n m l.controller m'.controller
-              (near_same l k i ts ending (take_so e x.frame b.sound) q (λ up z. number c ∙ ap (max l.controller.emitted) (fr.same up z))
+              (near_same l k i ts ending (take_so e x.frame b.sound) q (λ up z. (grind arith) ∙ ap (max l.controller.emitted) (fr.same up z))
               finishes) grows both.here;
           there = there;
         }
@@ -413,7 +406,7 @@ taken_knows {t} {n} who l x xs ts ending w a b both = go (began_by e i) refl
 
         -- the end with its number
         up_number : m'.controller.side.shdlc.phase ≡ IsUpNow → number_of m'.controller ≡ j
-        up_number up = (was_up k (turned f ts) ending finishes.can (λ _. puts_number k (frames_out (turned f ts)) fr.quiet) up).1 ∙ number c
+        up_number up = (was_up k (turned f ts) ending finishes.can (λ _. puts_number k (frames_out (turned f ts)) fr.quiet) up).1 ∙ (grind arith)
 
         at_j : (number_of m'.controller ≡ j) → Knows (t ++ u) m m'.controller
         at_j r =
@@ -559,17 +552,14 @@ aged_knows t n l b =
 
 -- ### Events at one end
 
-lost_grows : (n : Losses) (who : End) (why : Loss) (w : List OnWire) → Grows n (record n { lost = n.lost || counts_first w }) (first_lost who why w)
-lost_grows n who why w = grind arith
-
 lose_knows : (t : List Entry) (n : Losses) (who : End) (l : Link) (why : Loss) → Both t n l
     → Both (t ++ here_entries who l (Lose why)) (noted_turns n (core_of l) (core_here l (Lose why))) (happens_at_controller l (Lose why))
 lose_knows t n who l why b =
     let u : List Entry = first_lost who why l.to_controller in
     let m : Losses = record n { lost = n.lost || counts_first l.to_controller } in
     record {
-      here = knows_more t u n m l.controller l.controller (λ up. (up, refl)) (lost_grows n who why l.to_controller) b.here;
-      there = knows_more t u n m l.host l.host (λ up. (up, refl)) (lost_grows n who why l.to_controller) b.there;
+      here = knows_more t u n m l.controller l.controller (λ up. (up, refl)) (grind arith) b.here;
+      there = knows_more t u n m l.host l.host (λ up. (up, refl)) (grind arith) b.there;
     }
 
 pub here_knows : (t : List Entry) (n : Losses) (who : End) (l : Link) (e : EndEvent) → IsAllowed l e → Before l → Both t n l

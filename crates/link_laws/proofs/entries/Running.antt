@@ -295,9 +295,8 @@ pub before_here : (l : Link) → Good l → Reached (core_of l) → Sounds l →
 before_here l g r s =
     let e : EndEvent = EndStep NextFrame [] GoesOut in
     let st = event_step l (AtController e) (tt, (tt, tt)) g r in
-    let P : CoreLink → Type 0 = λ c. SafeLink 0 0 c in
     let next : SafeLink 0 0 (core_of (happens_at_controller l e)) =
-    subst P (sym st.core) (safe_reached _ (reached_more (core_of l) (core_event l (AtController e)) st.allowed r)) in
+    subst (λ c. SafeLink 0 0 c) (sym st.core) (safe_reached _ (reached_more (core_of l) (core_event l (AtController e)) st.allowed r)) in
     record {
       tells = g.controller;
       host = g.host;

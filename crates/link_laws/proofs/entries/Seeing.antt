@@ -202,9 +202,6 @@ ages_puts : (cs : List Control) (l : Link) → Ages l → Ages (put_all l cs)
 ages_puts [] l a = a
 ages_puts (c ∷ cs) l a = ages_puts cs (put l c) (ages_put l c a)
 
-ages_silent : (l : Link) (e : LinkEnd) → Ages (silent l e)
-ages_silent l e = record { near = tt; there = tt }
-
 ages_ended : (l : Link) (b : Bool) → Ages l → Ages (with_ended l b)
 ages_ended l b a = grind arith
 
@@ -230,10 +227,10 @@ ages_step l (AsksReset window) ts ending a =
     (ages_ended l (is_some (ended_by l.controller.side (Reset window))) a)
 ages_step l (Starts value) ts ending a =
     ages_finished (silent l (after_input l.controller.side (Start value))) (turned (after_input l.controller.side (Start value)) ts) ending
-    (ages_silent l (after_input l.controller.side (Start value)))
+    (grind arith)
 ages_step l Stops ts ending a =
     ages_finished (silent l (after_input l.controller.side Stop)) (turned (after_input l.controller.side Stop) ts) ending
-    (ages_silent l (after_input l.controller.side Stop))
+    (grind arith)
 ages_step l NoInput ts ending a = ages_finished l (turned l.controller.side ts) ending a
 
 ages_here : (l : Link) (e : EndEvent) → Ages l → Ages (happens_at_controller l e)

@@ -1,17 +1,17 @@
 -- The answer to a reset is kept back no more than before, and not at all from a reset on, where nothing is noted that withholds it.
 use Rattle.std.specs.Prelude.{◌+◌, ◌||◌}
 use Rattle.link_laws.proofs.Words.{Act, ActEvent, ActTake, Activation, AreSendableTurns, Asked, AsksReset, Bool, Clt, Control, CoreActs, CoreDeliver}
-use Rattle.link_laws.proofs.Words.{CoreEndEvent, CoreLink, CoreLose, CoreTurn, Cut, CutOff, Down as IsDown, Due, Emit, End, EndEvent, EndState, Entry, Fragment}
-use Rattle.link_laws.proofs.Words.{GoesOut, HasTick, IsAllowed, IsOwn, Link, LinkEnd, LinkState, List, Lose, Lost, NextFrame, NoInput, None, Offer}
-use Rattle.link_laws.proofs.Words.{OnWire, Option, Refused, Reset, Restarted, Role, Rr_due, Rset_due, SetReady, Some, Starts, Step, Stops, Take, TooMany, Turn}
+use Rattle.link_laws.proofs.Words.{CoreEndEvent, CoreLink, CoreLose, CoreTurn, Cut, CutOff, Down as IsDown, Due, Emit, End, EndEvent, EndState, Entry, GoesOut}
+use Rattle.link_laws.proofs.Words.{HasTick, IsAllowed, IsOwn, Link, LinkEnd, LinkState, List, Lose, Lost, NextFrame, NoInput, None, Offer, OnWire, Option}
+use Rattle.link_laws.proofs.Words.{Refused, Reset, Restarted, Role, Rr_due, Rset_due, SetReady, Some, Starts, Step, Stops, Take, TooMany, Turn}
 use Rattle.link_laws.proofs.Words.{Turns as CoreTurns, [], act_answer, activated, after_input, ap, arith, core_happens_here, core_here, core_of, core_reset}
 use Rattle.link_laws.proofs.Words.{core_step, core_take, core_turned, core_turns, drop, due_left, ended_by, false, first_lost, frames_of, frames_out}
 use Rattle.link_laws.proofs.Words.{happens_at_controller, has_taken, heard, here_entries, if_up, if◌then◌else◌, inl, input_entries, inr, is_open, is_rset}
-use Rattle.link_laws.proofs.Words.{is_some, is_waiting, left_after, length, length-append, list_any, most_frames, moved, nat_lt, not, option_to_list, overflows}
-use Rattle.link_laws.proofs.Words.{put, put_down, put_entries, puts_entries, refl, reset_by, reset_refusal, reset_with, rest_entries}
-use Rattle.link_laws.proofs.Words.{shdlc_put as core_put, shdlc_put_all as core_put_all, shdlc_turn as core_turn, step_entries, stopped, subst, suc, sure_all}
-use Rattle.link_laws.proofs.Words.{sure_here, sure_put, sure_tick, sure_turns, sym, take_answer, taken, taken_entries, tick_answer, ticked, told_of}
-use Rattle.link_laws.proofs.Words.{took, took_with, true, true≢false, turn_entries, turned, window_of, with_ended, withholds, ℕ, ◌&&◌, ◌++◌, ◌∙◌, ◌∷◌, ◌≡◌, ◌⊎◌}
+use Rattle.link_laws.proofs.Words.{is_some, is_waiting, left_after, length, length-append, list_any, moved, nat_lt, not, option_to_list, overflows, put}
+use Rattle.link_laws.proofs.Words.{put_down, put_entries, puts_entries, refl, reset_by, reset_refusal, reset_with, rest_entries, shdlc_put as core_put}
+use Rattle.link_laws.proofs.Words.{shdlc_put_all as core_put_all, shdlc_turn as core_turn, step_entries, stopped, subst, sure_all, sure_here, sure_put}
+use Rattle.link_laws.proofs.Words.{sure_tick, sure_turns, sym, take_answer, taken, taken_entries, tick_answer, ticked, told_of, took, took_with, true}
+use Rattle.link_laws.proofs.Words.{true≢false, turn_entries, turned, window_of, with_ended, withholds, ℕ, ◌&&◌, ◌++◌, ◌∙◌, ◌∷◌, ◌≡◌, ◌⊎◌}
 use Rattle.link_laws.specs.places.Wire.{is_act}
 use Rattle.link_laws.proofs.Cases.{by_list, by_phase, by_test}
 use Rattle.link_laws.proofs.entries.Disturbing.{left_core}
@@ -20,7 +20,7 @@ use Rattle.link_laws.proofs.entries.Running.{Before, comes_first}
 use Rattle.link_laws.proofs.machine.Reports.{shdlc_is as shdlc_moved}
 use Rattle.link_laws.proofs.messages.ActsInOrder.{ActsInOrder}
 use Rattle.link_laws.proofs.messages.Project.{Tells, among_now, moved_role, put-core, turned_role, turns_mid}
-use Rattle.link_laws.proofs.messages.Finishing.{reset_tells, tick_open}
+use Rattle.link_laws.proofs.messages.Finishing.{tick_open}
 use Rattle.link_laws.proofs.messages.Runs.{rests_of}
 use Rattle.link_laws.proofs.messages.Steps.{ComesFirst, Heard, Rests, act_mid, counted_is, heard_end, heard_is, is_shdlc, no_fault_first, polite, role_closes}
 use Rattle.link_laws.proofs.messages.Steps.{took_open}
@@ -217,8 +217,7 @@ take_sure n l ts x xs a comes open_role = go x.frame refl
 idle_sure : (n : Bool) (l : Link) (ts : List Turn) → AreSendableTurns ts → Tells l.controller
     → sure_here n (core_of l) (CoreTurns (core_turns l.controller.side ts)) ≡ sure_all n (core_of l) (frames_out (turned l.controller.side ts))
 idle_sure n l ts a h =
-    let e : LinkEnd = l.controller.side in
-    let tm = turns_mid None e ts a h.now in
+    let tm = turns_mid None l.controller.side ts a h.now in
     grind arith
 
 -- an end that is open has its tick
@@ -254,22 +253,13 @@ took_open_of_settling e f x w v wires o = grind arith
 no_due : (p : LinkState) (due : List Due) → due ≡ [] → due_left p due ≡ []
 no_due p due q = grind arith
 
-reset_due : (e : EndState) (w : ℕ) → is_waiting e ≡ false → e.due ≡ [] → (reset_with e w).due ≡ Rset_due ∷ []
-reset_due e w n q = let z = no_due e.phase e.due q in rw n (ap (λ d. d ++ Rset_due ∷ []) z)
-
-offer_due : (s : EndState) (fragments : List Fragment) → (core_turn s (Offer fragments)).due ≡ s.due
-offer_due s fragments = by_phase s.phase (λ q. rw q refl) (λ q. rw q refl) (λ q. rw q refl)
-
 -- turns leave the RSET in front
 first_due : (us : List CoreTurn) (s : EndState) (ds : List Due) → s.due ≡ Rset_due ∷ ds → (es : List Due) × ((core_turned s us).due ≡ Rset_due ∷ es)
 first_due [] s ds q = (ds, q)
-first_due (Offer fragments ∷ us) s ds q = first_due us (core_turn s (Offer fragments)) ds (offer_due s fragments ∙ q)
+first_due (Offer fragments ∷ us) s ds q = first_due us (core_turn s (Offer fragments)) ds ((grind arith) ∙ q)
 first_due (SetReady r ∷ us) s ds q =
     ready_cases (λ f. (es : List Due) × ((core_turned f us).due ≡ Rset_due ∷ es)) s r (first_due us s ds q) (first_due us (changed s r s.due) ds q)
     (first_due us (changed s r (s.due ++ Rr_due ∷ [])) (ds ++ Rr_due ∷ []) (ap (λ d. d ++ Rr_due ∷ []) q))
-
-first_rset : (n : ℕ) (s : EndState) (ds : List Due) → s.due ≡ Rset_due ∷ ds → list_any is_rset (frames_of (suc n) s) ≡ true
-first_rset n s ds q = rw q refl
 
 puts_none : (cs : List Control) (who : End) (l : Link) → Spared (puts_entries who l cs) → list_any is_rset cs ≡ false
 puts_none [] who l q = refl
@@ -289,14 +279,11 @@ reset_puts who l window ts sendable h r q s =
     let tm = turns_mid None f ts sendable (grind arith) in
     let z : EndState = core_turned (reset_with e.shdlc w) us in
     let shdlc : (turned f ts).shdlc ≡ z = tm.is ∙ ap (λ y. core_turned y us) (shdlc_moved e (is_some (if_up e.shdlc Asked)) (reset_with e.shdlc w)) in
-    let frames : frames_out (turned f ts) ≡ frames_of most_frames z = grind arith in
     let a = spared_parts (told_of who l.controller (Reset window)) (rest_entries who k (after_input e (Reset window)) ts GoesOut) s in
     let out =
     spared_parts (turn_entries who _ (after_input e (Reset window)) ts) (puts_entries who k (frames_out (turned (after_input e (Reset window)) ts))) a.1 in
-    let due = first_due us (reset_with e.shdlc w) [] (reset_due e.shdlc w (reset_tells e q).1 r.due) in
-    let some : list_any is_rset (frames_out (turned (after_input e (Reset window)) ts)) ≡ true =
-    ap (λ g. list_any is_rset (frames_out (turned g ts))) (rw q refl) ∙ (ap (λ y. list_any is_rset y) frames ∙ first_rset 11 z due.0 due.1) in
-    true≢false (sym some ∙ (puts_none (frames_out (turned (after_input e (Reset window)) ts)) who k out.1))
+    let due = first_due us (reset_with e.shdlc w) [] (grind arith) in
+    true≢false (sym (grind arith) ∙ (puts_none (frames_out (turned (after_input e (Reset window)) ts)) who k out.1))
 
 -- a reset that isn't refused, where the other end isn't waiting
 pub reset_sure : (s : Bool) (l : Link) (window : Option ℕ) (ts : List Turn) → reset_refusal l.controller.side ≡ None → is_waiting l.host.side.shdlc ≡ false

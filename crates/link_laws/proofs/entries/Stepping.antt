@@ -1,5 +1,4 @@
 -- What is noted of a step of one end says what is kept of its sessions, and never more is acknowledged than sent.
-use Rattle.std.specs.Prelude.{Option}
 use Rattle.link_laws.proofs.Words.{Acked, Active, AreSendableInputs, AreSendableTurns, AsksReset, Bool, CanEnd, Comes, Control, CutOff, Emit, End, EndState}
 use Rattle.link_laws.proofs.Words.{Ending, Entry, FromNode, GaveUp, GoesOut, Got, IsFrontOf, Link, LinkEnd, LinkInput, LinkState, List, Loss, Message}
 use Rattle.link_laws.proofs.Words.{NextFrame, NoInput, NumberedEnd, OnWire, Report, Reset, Role, Start, Starts, Stop, Stops, Take, TooMany, Turn, Up as IsUpNow}
@@ -54,13 +53,6 @@ pub front_read : (who : End) (p u : List Entry) → IsFrontOf p u → OfOne who 
 front_read who p u f a n =
     let P : List Entry → Type 0 = λ z. OfOne who z in one_read who p (one_front who p f.0 (subst P (sym f.1) a)) n
 
-one_so : (who : End) (b : Bool) (e : Entry) → ((n : ℕ) → read (e ∷ []) (far who) n ≡ blank) → OfOne who (if_so b e)
-one_so who b e p = grind arith
-
-one_option : {A : Type 0} (who : End) (f : A → Entry) (o : Option A) → ((x : A) (n : ℕ) → read (f x ∷ []) (far who) n ≡ blank)
-    → OfOne who (map f (option_to_list o))
-one_option who f o p = grind arith
-
 one_got : (who : End) (k : ℕ) (ms : List Message) → OfOne who (map (Got who k) ms)
 one_got who k [] = tt
 one_got who k (m ∷ ms) = ((λ n. let w = same_far who in rw w refl), one_got who k ms)
@@ -68,11 +60,11 @@ one_got who k (m ∷ ms) = ((λ n. let w = same_far who in rw w refl), one_got w
 one_told : (who : End) (k : ℕ) (r : Report) (acked : ℕ) → OfOne who (told who k r acked)
 one_told who k r acked =
     let e = one-append who (if_so (nat_lt 0 r.acked) (Acked who k acked)) (map (Got who k) r.got)
-    (one_so who (nat_lt 0 r.acked) (Acked who k acked) (λ n. let w = same_far who in rw w refl)) (one_got who k r.got) in
+    (grind arith) (one_got who k r.got) in
     one-append who (map (Down who) (option_to_list r.ended))
     (if_so r.began (Up who k) ++ (if_so r.became_active (Active who)
     ++ (map (GaveUp who) (option_to_list r.gave_up) ++ (if_so (nat_lt 0 r.acked) (Acked who k acked) ++ map (Got who k) r.got))))
-    (one_option who (Down who) r.ended (λ x n. refl)) (grind arith)
+    (grind arith) (grind arith)
 
 one_turn : (who : End) (k : ℕ) (e : LinkEnd) (t : Turn) → OfOne who (turn_entry who k e t)
 one_turn who k e t = grind arith
@@ -95,7 +87,7 @@ pub few_told : (t : List Entry) (who : End) (h : NumberedEnd) → Told t who h �
 few_told t who h b n =
     let q = b n in
     let l = ap (λ (ms : List Message). length ms) (ap (λ (z : Book). z.sent) q) in
-    omega (arith, (ap (λ (z : Book). z.acked) q), l, (whole_few (talk_of h n).sent (talk_of h n).session.acked))
+    omega (arith, (ap (λ (z : Book). z.acked) q), l, whole_few (talk_of h n).sent (talk_of h n).session.acked)
 
 sent-append : (t u : List Entry) (who : End) (n : ℕ) → sent_noted (t ++ u) who n ≡ sent_noted t who n ++ sent_noted u who n
 sent-append t u who n = ap (λ (z : Book). z.sent) (read-append t u who n)
@@ -124,7 +116,7 @@ pub few_more : (t : List Entry) (who : End) (u : List Entry) → Few t who → N
 few_more t who u f a p q n =
     let s = ap (λ (ms : List Message). length ms) (sent-append t p who n) in
     let l = length-append (sent_noted t who n) (sent_noted p who n) in
-    omega (arith, (no_acked_read p (no_acked_front p q.0 (subst (λ z. NoAcked z) (sym q.1) a)) who n), (f n), s, l, (acked-append t p who n))
+    omega (arith, (no_acked_read p (no_acked_front p q.0 (subst (λ z. NoAcked z) (sym q.1) a)) who n), f n, s, l, acked-append t p who n)
 
 -- each of these gives no message
 abbrev NoSent : List Entry → Type 0
@@ -151,7 +143,7 @@ few_grown t who u f a p q n =
     let m = acked-append t u who n in
     let w = acked-append p q.0 who n in
     let x = ap (λ z. acked_noted z who n) q.1 in
-    omega (arith, (f n), (ap (λ (ms : List Message). length ms) (sent-append t p who n ∙ ap (λ ms. sent_noted t who n ++ ms) mine)), v, k, m, w, x)
+    omega (arith, f n, (ap (λ (ms : List Message). length ms) (sent-append t p who n ∙ ap (λ ms. sent_noted t who n ++ ms) mine)), v, k, m, w, x)
 
 pub few_then : (t : List Entry) (who : End) (u v : List Entry) → AllFew t who u → AllFew (t ++ u) who v → AllFew t who (u ++ v)
 few_then t who u v a b p f = go (front_parts p u v f)
@@ -163,14 +155,6 @@ few_then t who u v a b p f = go (front_parts p u v f)
     go (inl g) = a p g
     go (inr g) = subst P (append_assoc t u g.0 ∙ ap (λ z. t ++ z) (sym g.1)) (b g.0 g.2)
 
--- what is told gives no message
-no_sent_so : (b : Bool) (e : Entry) → ((who : End) (n : ℕ) → sent_noted (e ∷ []) who n ≡ []) → NoSent (if_so b e)
-no_sent_so b e p = grind arith
-
-no_sent_option : {A : Type 0} (f : A → Entry) (o : Option A) → ((x : A) (who : End) (n : ℕ) → sent_noted (f x ∷ []) who n ≡ [])
-    → NoSent (map f (option_to_list o))
-no_sent_option f o p = grind arith
-
 no_sent_got : (who : End) (k : ℕ) (ms : List Message) → NoSent (map (Got who k) ms)
 no_sent_got who k [] = tt
 no_sent_got who k (m ∷ ms) = ((λ w n. refl), no_sent_got who k ms)
@@ -178,11 +162,11 @@ no_sent_got who k (m ∷ ms) = ((λ w n. refl), no_sent_got who k ms)
 no_sent_told : (who : End) (k : ℕ) (r : Report) (acked : ℕ) → NoSent (told who k r acked)
 no_sent_told who k r acked =
     let e = no_sent-append (if_so (nat_lt 0 r.acked) (Acked who k acked)) (map (Got who k) r.got)
-    (no_sent_so (nat_lt 0 r.acked) (Acked who k acked) (λ w n. refl)) (no_sent_got who k r.got) in
+    (grind arith) (no_sent_got who k r.got) in
     no_sent-append (map (Down who) (option_to_list r.ended))
     (if_so r.began (Up who k) ++ (if_so r.became_active (Active who)
     ++ (map (GaveUp who) (option_to_list r.gave_up) ++ (if_so (nat_lt 0 r.acked) (Acked who k acked) ++ map (Got who k) r.got))))
-    (no_sent_option (Down who) r.ended (λ x w n. refl)) (grind arith)
+    (grind arith) (grind arith)
 
 no_acked_turns : (who : End) (k : ℕ) (e : LinkEnd) (ts : List Turn) → NoAcked (turn_entries who k e ts)
 no_acked_turns who k e [] = tt

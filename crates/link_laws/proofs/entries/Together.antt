@@ -197,8 +197,7 @@ events_know (e ∷ es) t n l a w b =
     (losses-append n (core_of l) (core_event l e) (core_events m es) ∙ ap (λ c. losses_after k c (core_events m es)) (sym st.core)) more
 
 knows : (l : Link) → IsStart l → (events : List LinkEvent) → AllAllowed l events → Both (trace l events) (losses_of l events) (after_link_events l events)
-knows l s events a =
-    events_know events (first_entries l.controller.side.role) no_losses l a (start_under_way l s) (grind arith)
+knows l s events a = events_know events (first_entries l.controller.side.role) no_losses l a (start_under_way l s) (grind arith)
 
 -- ### A quiet session
 

@@ -219,8 +219,6 @@ no_srej_push (Ua ∷ ms) m e h = no_srej_push ms m e h
 no_srej_push (Act _ _ ∷ ms) m e h = no_srej_push ms m e h
 no_srej_push (Clt ∷ ms) m e h = no_srej_push ms m e h
 
--- ## Wires whose first mark is taken
-
 -- ## The course
 
 pub course_from : (r : ℕ) (ms : List Control) → r ≤ course_of r ms

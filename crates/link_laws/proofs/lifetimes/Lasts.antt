@@ -12,9 +12,9 @@ use Rattle.link_laws.proofs.lifetimes.Evidence.{rewind_due_rnr}
 use Rattle.link_laws.proofs.lifetimes.Timely.{AnswersAll, MaySend, Timely, TookFragment, answers_pushed, in_time, same_or_below, timely_acked}
 use Rattle.link_laws.proofs.lifetimes.Timely.{timely_answer, timely_answer_I, timely_kept, timely_older, timely_put, timely_received, timely_rewound}
 use Rattle.link_laws.proofs.lifetimes.Timely.{timely_send, timely_send_S}
-use Rattle.link_laws.proofs.places.Joined.{Joined, Sends, ahead_other, changed, fetch_cases, joined_exchanged, joined_fetched}
-use Rattle.link_laws.proofs.places.Joined.{joined_older, joined_put, joined_ready, joined_taken, joined_ticked, not_expected, past_end, place_found}
-use Rattle.link_laws.proofs.places.Joined.{ready_cases, received_cases, taken_I, taken_S, with_next}
+use Rattle.link_laws.proofs.places.Joined.{Joined, Sends, ahead_other, changed, fetch_cases, joined_exchanged, joined_fetched, joined_older, joined_put}
+use Rattle.link_laws.proofs.places.Joined.{joined_ready, joined_taken, joined_ticked, past_end, place_found, ready_cases, received_cases, taken_I, taken_S}
+use Rattle.link_laws.proofs.places.Joined.{with_next}
 use Rattle.link_laws.proofs.places.Flows.{AnswersOnly, Counts, Places, Shows, counts_le, flows_number, push_not_empty, reduced, shows_older, shows_push}
 use Rattle.link_laws.proofs.sessions.Wire.{Young, young_later, young_push}
 
@@ -213,7 +213,7 @@ lasts_ticked kf near far to_near to_far noprobe none h =
     (λ r. grind arith)
     (λ r late.
     let none_sent : s.next ≤ s.acked = no_more late in
-    (((grind arith), timely_kept far near to_far to_near far_marks near_marks kf (sent_again near) refl refl h.far_timely)))
+    ((grind arith, timely_kept far near to_far to_near far_marks near_marks kf (sent_again near) refl refl h.far_timely)))
     (omega (arith, h.near_timely.most)) in (
       lasts_changed 0 kf (ticked near) far to_near to_far 1 kf near h (joined_ticked ⊥ near far to_near to_far both.1 h.joined) both.0,
       both.1,
@@ -310,7 +310,7 @@ lasts_taken near far x to_near to_far noprobe h = (
         let told : n ≤ length t.acc = counts_le n (length t.acc) ms number.2 in
         let e : EndState = acknowledged near n in
         let low : t.acked ≤ length s.acc = counts_le t.acked (length s.acc) back far_sends.counts in
-        let behind : (ahead e.session (p % 8) ≡ 0 → ⊥) → p ≤ length s.acc → p < length s.acc = λ z b. not_expected e.session p z b in
+        let behind : (ahead e.session (p % 8) ≡ 0 → ⊥) → p ≤ length s.acc → p < length s.acc = λ z b. (grind arith) in
         let other : (ahead e.session (p % 8) ≡ 0 → ⊥) → (p == length s.acc) ≡ false = λ z. ne_eqb p (length s.acc) (λ q. z (omega arith)) in
         let at : (acc : List Fragment) (due : List Due) (gap noted : Bool) → TookFragment (length s.acc) (length acc) near.due due p ms
         → Both ms (answering e acc due gap noted) =
@@ -324,7 +324,6 @@ lasts_taken near far x to_near to_far noprobe h = (
         (subst (λ (c : Control). Both ms (taken near c)) (sym were.near_shows.0) (taken_I (Both ms) near (p % 8) (n % 8) n info h.joined.near_up place
         (received_cases (Both ms) e (p % 8) info
         (λ z.
-        let here : p ≡ length s.acc = ahead_other e.session p far_sends.places.0 (grind arith) z in
         let more : length (s.acc ++ info ∷ []) ≡ length s.acc + 1 = omega (arith, length-append s.acc (info ∷ [])) in
         at (s.acc ++ info ∷ []) (near.due ++ Rr_due ∷ []) false s.answered_rnr
         (record {
@@ -334,7 +333,7 @@ lasts_taken near far x to_near to_far noprobe h = (
             rewind = rewind_due_push near.due Rr_due;
           };
           new = λ u i j. due_new_rr p u (length (s.acc ++ info ∷ [])) near.due (omega arith) j;
-          course = λ m c. inl (rw more (rw (eq-eqb p (length s.acc) here) at c));
+          course = λ m c. inl (rw more (rw (eq-eqb p (length s.acc) (ahead_other e.session p far_sends.places.0 (grind arith) z)) at c));
         }))
         (λ z g. at s.acc near.due s.gap_open s.answered_rnr
         (grind arith))

@@ -13,10 +13,9 @@ use Rattle.link_laws.proofs.places.Flows.{Counts, Shows}
 use Rattle.link_laws.proofs.places.Joined.{few_taken, idle_after, joined_weaker, left, no_due}
 use Rattle.link_laws.proofs.sessions.Wire.{IsData, Young, young_later, young_older}
 use Rattle.link_laws.proofs.sessions.Steps.{not_rset, took_other}
-use Rattle.link_laws.proofs.sessions.Ties.{Meets, IsNew, new_meets, data_due, sends_noted, few_turns}
+use Rattle.link_laws.proofs.sessions.Ties.{Meets, new_meets, data_due, sends_noted, few_turns}
 use Rattle.link_laws.proofs.sessions.Quiet.{began_data, few_room}
-use Rattle.link_laws.specs.lifetimes.Lifetime.{IsAnew, BeginsAnew, OnlyTurns, IsPlainHere, IsPlainEvent, AllPlain, LosesNone, GoesOn}
-use Rattle.link_laws.proofs.lifetimes.Timely.{Timely}
+use Rattle.link_laws.specs.lifetimes.Lifetime.{BeginsAnew, OnlyTurns, IsPlainHere, IsPlainEvent, AllPlain, LosesNone, GoesOn}
 use Rattle.link_laws.proofs.lifetimes.Lasts.{Lasts, lasts_of, lasts_exchanged, lasts_put, lasts_ready, lasts_ticked, lasts_older, lasts_taken, lasts_fetched}
 use Rattle.link_laws.proofs.lifetimes.Lasts.{no_probe}
 use Rattle.link_laws.proofs.Cases.{by_test}
@@ -296,16 +295,13 @@ alive_after (e ∷ es) c h n l p none a =
 
 -- ## A new session
 
-anew_is_new : (e : EndState) → IsAnew e → IsNew e
-anew_is_new e a = record { up = a.up; due = a.due; window = a.window; fits = a.fits; session = a.session }
-
 begins_alive : (l : ShdlcLink) → BeginsAnew l → IsAlive 0 0 l.controller l.host l
 begins_alive l b =
     record {
       lasts = rw (b.to_controller, b.to_host)
           (lasts_of 0 0 n f [] [] [] [] (joined_weaker (Unit {0}) ⊥ (λ v. absurd v) n f [] [] m.joined)
           (record { near_shows = tt; far_shows = tt; near_within = tt; far_within = tt }) tt tt
-          (timely n f b.controller b.host, timely f n b.host b.controller));
+          (grind arith, grind arith));
       near_idle = m.near;
       far_idle = m.far;
       near = record { emitted = refl; took = refl; past = refl };
@@ -319,10 +315,7 @@ begins_alive l b =
     f = l.host.side
 
     m : Meets n f [] []
-    m = new_meets n f (anew_is_new n b.controller) (anew_is_new f b.host)
-
-    timely : (n f : EndState) → IsAnew n → IsAnew f → Timely 0 n f [] [] [] []
-    timely n f g k = grind arith
+    m = new_meets n f (grind arith) (grind arith)
 
 goes_on : (before now : NumberedShdlc) → now.side.phase ≡ Up → Keeps before now → GoesOn before now
 goes_on before now up k = record { up = up; number = rw (k.emitted, k.took) refl; past = k.past }

@@ -164,19 +164,16 @@ heard_so e c h = by (is_faulty (taken e.shdlc c).session) refl
     by true q = let k = bad q in rw q k
     by false q = rw q good
 
-began_so : (e : EndState) (c : Control) → (take_answer e c).began ≡ cond (is_faulty (taken e c).session) false (take_answer e c).began
-began_so e c = grind arith
-
 -- what a frame does is told
 pub take_so : (e : LinkEnd) (c : Control) → Sound e → Reports e (Take c)
 take_so e (Act act again) h = let h0 = activated_so e (ActTake act again) h in grind arith
 take_so e Clt h = let h0 = stays_so e (took e Clt) refl refl in grind arith
 take_so e Ua h =
-    by_test {P = Reports e (Take Ua)} (is_open e.role) (λ o. let k = heard_so e Ua h in rw o (becomes_as refl (began_so e.shdlc Ua) refl k))
+    by_test {P = Reports e (Take Ua)} (is_open e.role) (λ o. let k = heard_so e Ua h in rw o (becomes_as refl (grind arith) refl k))
     (λ o. rw o (stays_so e e refl refl))
 take_so e frame h =
     by_test {P = Reports e (Take frame)} (is_open e.role)
-    (λ o. let k = heard_so e frame h in rw o (becomes_as refl (began_so e.shdlc frame) refl k)) (λ o. rw o (stays_so e e refl refl))
+    (λ o. let k = heard_so e frame h in rw o (becomes_as refl (grind arith) refl k)) (λ o. rw o (stays_so e e refl refl))
 
 -- ### Ticks and resets
 
@@ -313,12 +310,9 @@ taken_due e c n =
     (λ kind nr p _. grind arith) (λ _ _. omega arith) (λ _ _ _ z. absurd (true≢false z)) (λ _ _ _ _. grown e.due Ua_due)
     (λ _ _ _ _. grown e.due Ua_due) (λ _ _. omega arith) c n
   where
-    same : (c : Control) → taken e c ≡ e → length e.due ≤ length (taken e c).due
-    same c q = let l = ap (λ (s : EndState). length s.due) q in omega (arith, l)
-
     up_I : (ns nr : ℕ) (info : Fragment) → e.phase ≡ Up → length e.due ≤ length (taken e (I ns nr info)).due
     up_I ns nr info p =
-        by_option (place_of e.session nr) (λ q. same (I ns nr info) (rw (p, q) refl))
+        by_option (place_of e.session nr) (λ q. grind arith)
         (λ x q. let i = received_due (acknowledged e x) ns info in rw (p, q) (rw p at i))
 
 ticked_due : (e : EndState) → is_some (tick_answer e).ended ≡ false → length e.due ≤ length (ticked e).due
@@ -486,7 +480,7 @@ one_by_one (suc k) m e q i p = go (one_by_one k) e.acts refl
         let due_is : frame_due s ≡ Some c = rw due refl in
         let next : next_frame e ≡ Some c = (rw (w, z) refl) ∙ due_is in
         let placed : IsPlaced f = let P : LinkEnd → Type 0 = λ y. IsPlaced y in subst P fetches_f (placed_fetch e p) in
-        let ih = later m' f (omega (arith, q, l, (length-map (a ∷ acts) nearer), is)) (fetched_due s m' (omega (arith, i, is))) placed in
+        let ih = later m' f (omega (arith, q, l, length-map (a ∷ acts) nearer, is)) (fetched_due s m' (omega (arith, i, is))) placed in
         let fs : List Control = frames_of m' (fetched s) in
         let here : Placed 0 (a ∷ acts) (length s.due) = let P : List ActDue → Type 0 = λ y. Placed 0 y (length s.due) in subst P w p in
         let all : among 0 e.acts (frames_of m s) ≡ c ∷ among 0 ms fs =

@@ -60,10 +60,6 @@ sound_act o e h = grind arith
 sound_activated : (e : LinkEnd) (event : ActEvent) → Sound e → Sound (activated e event)
 sound_activated e event h = grind (arith, sound_act)
 
--- an end whose link was put down for activation
-sound_stopped : (e : LinkEnd) → Sound e → Sound (moved e true (stopped e.shdlc))
-sound_stopped e h = grind arith
-
 -- ### Frames and ticks
 
 sound_heard : (e : LinkEnd) (c : Control) → is_open e.role ≡ true → Sound e → Sound (heard e c)
@@ -100,9 +96,6 @@ record IsGiven (e : LinkEnd) (m : Message) : Type 0 where
   up : e.shdlc.phase ≡ Up
   room : need m.1 ≤ spare e
 
-give_tells : (e : LinkEnd) (m : Message) → give_refusal e m ≡ None → IsGiven e m
-give_tells e m q = grind arith
-
 data_given : (e : LinkEnd) (m : Message) → IsSendable m → IsGiven e m → Data e → Data (given e m)
 data_given e m s g h =
     let f : Message → List (List ℕ) = λ k. map packet_bytes (packets_of k.0 k.1) in
@@ -116,7 +109,7 @@ data_given e m s g h =
       none = λ no. absurd (no g.up);
       forgot = λ no. absurd (no g.up);
       acked = h.acked;
-      reached = omega (arith, h.reached, (length-append e.shdlc.session.out (f m)));
+      reached = omega (arith, h.reached, length-append e.shdlc.session.out (f m));
       room = omega (arith, (ap (λ n. need_of_all (drop n (e.sent ++ m ∷ []))) whole ∙ more), g.room, h.room);
     }
 
@@ -124,7 +117,7 @@ pub sound_turn : (e : LinkEnd) (t : Turn) → AreSendableInputs (FromNode t ∷ 
 sound_turn e (Give m) a h =
     by_option {P = Sound (turn e (Give m))} (give_refusal e m) (λ q.
     let s : Sound (given e m) = record {
-      is = data_given e m a.0 (give_tells e m q) h.is;
+      is = data_given e m a.0 (grind arith) h.is;
       closed = λ c. let k = h.closed c in record { phase = k.phase; due = k.due };
     } in rw q s)
     (λ why q. rw q h)
@@ -166,8 +159,8 @@ sound_input e TakeUnknown a h = record { is = data_as e (after_input e TakeUnkno
 sound_input e (TakeBroken fault) a h = h
 sound_input e Tick a h = sound_tick e h
 sound_input e (Reset window) a h = grind arith
-sound_input e (Start v) a h = sound_activated (moved e true (stopped e.shdlc)) (ActStart v) (sound_stopped e h)
-sound_input e Stop a h = sound_activated (moved e true (stopped e.shdlc)) ActStop (sound_stopped e h)
+sound_input e (Start v) a h = sound_activated (moved e true (stopped e.shdlc)) (ActStart v) (grind arith)
+sound_input e Stop a h = sound_activated (moved e true (stopped e.shdlc)) ActStop (grind arith)
 sound_input e (FromNode t) a h = sound_turn e t a h
 sound_input e Fetch a h = sound_fetch e h
 
@@ -237,13 +230,10 @@ forgets_heard e c cause h q = by_test (is_faulty (taken e.shdlc c).session) (λ 
     b : Bool
     b = is_some (take_answer e.shdlc c).ended
 
-    s : EndState
-    s = taken e.shdlc c
-
     f : LinkEnd
-    f = moved e b s
+    f = moved e b (taken e.shdlc c)
 
-    good : (take_answer e.shdlc c).ended ≡ Some cause → Forgets e (record f { got = e.got ++ news e.shdlc.session s })
+    good : (take_answer e.shdlc c).ended ≡ Some cause → Forgets e (record f { got = e.got ++ news e.shdlc.session (taken e.shdlc c) })
     good p =
         let k : Forgets e f = grind arith in
         record { sent = k.sent; out = k.out; acc = k.acc; got = ap (λ ms. e.got ++ ms) (grind arith) ∙ append-nil e.got }
@@ -255,16 +245,12 @@ forgets_took e frame cause h q =
     by_test {P = Forgets e (took e frame)} (is_open e.role) (λ o. rw o (forgets_heard e frame cause h (let z = q in rw o at z)))
     (λ o. absurd (let z = rw o at q in cc))
 
--- activation begins or ends where the link was put down
-forgets_restart : (e : LinkEnd) (event : ActEvent) → Forgets e (activated (moved e true (stopped e.shdlc)) event)
-forgets_restart e event = grind arith
-
 forgets : (e : LinkEnd) (i : LinkInput) (cause : Cause) → Sound e → ended_by e i ≡ Some cause → Forgets e (after_input e i)
 forgets e (Take c) cause h q = forgets_took e c cause h q
 forgets e Tick cause h q = grind arith
 forgets e (Reset window) cause h q = grind arith
-forgets e (Start v) cause h q = forgets_restart e (ActStart v)
-forgets e Stop cause h q = forgets_restart e ActStop
+forgets e (Start v) cause h q = grind arith
+forgets e Stop cause h q = grind arith
 forgets e _ cause h q = absurd (let z = q in cc)
 
 pub forgotten : (role : Role) (is : List LinkInput) → AreSendableInputs is → (i : LinkInput) (cause : Cause) → ended_by (end_after role is) i ≡ Some cause

@@ -115,15 +115,12 @@ up_I e ns nr info up =
 up_S : (e : EndState) (k : Kind) (nr : ℕ) → e.phase ≡ Up → Shift e (taken e (S k nr)) false false
 up_S e k nr up = go k (place_of e.session nr) refl
   where
-    none : (k : Kind) → taken e (S k nr) ≡ e → Shift e (taken e (S k nr)) false false
-    none k q = same_shift e (taken e (S k nr)) q
-
     nil : e.session.acc ≡ e.session.acc ++ []
     nil = sym (append-nil e.session.acc)
 
     go : (k : Kind) (o : Option ℕ) → place_of e.session nr ≡ o → Shift e (taken e (S k nr)) false false
-    go Srej o q = none Srej (rw up refl)
-    go c None q = none c (rw (up, q) refl)
+    go Srej o q = (same_shift e (taken e (S Srej nr)) (rw up refl))
+    go c None q = (same_shift e (taken e (S c nr)) (rw (up, q) refl))
     go _ (Some x) q =
         Stays refl refl (at_place nr [] up (rw (up, q) refl) q (rw (up, q) refl) (rw (up, q) refl) (rw (up, q) refl) (rw (up, q) nil))
 
@@ -166,7 +163,7 @@ pub whole_few : (ms : List Message) (a : ℕ) → whole_among ms a ≤ length ms
 whole_few [] a = omega arith
 whole_few (m ∷ ms) a =
     by_test {P = whole_among (m ∷ ms) a ≤ length (m ∷ ms)} (nat_le (packet_count (length m.1)) a)
-    (λ p. rw p (omega (arith, (whole_few ms (a - packet_count (length m.1)))))) (λ p. rw p (omega arith))
+    (λ p. rw p (omega (arith, whole_few ms (a - packet_count (length m.1))))) (λ p. rw p (omega arith))
 
 pub fragments_count : (m : Message) → length (map packet_bytes (packets_of m.0 m.1)) ≡ packet_count (length m.1)
 fragments_count m = length-map (packets_of m.0 m.1) packet_bytes ∙ packets_are_counted m.0 m.1
@@ -177,7 +174,7 @@ whole_acked_before [] a = omega arith
 whole_acked_before (m ∷ ms) a =
     by_test {P = length (fragments_of (take (whole_among (m ∷ ms) a) (m ∷ ms))) ≤ a} (nat_le n a) (λ p.
     let l = length-append (map packet_bytes (packets_of m.0 m.1)) (fragments_of (take (whole_among ms (a - n)) ms)) in
-    rw p (omega (arith, (whole_acked_before ms (a - n)), (leb-true n a p), l, fragments_count m)))
+    rw p (omega (arith, whole_acked_before ms (a - n), leb-true n a p, l, fragments_count m)))
     (λ p. rw p (omega arith))
   where
     n : ℕ

@@ -119,10 +119,6 @@ ActsInOrder _ _ w v = ⊥
 abbrev pub LinkInOrder : Link → Type 0
 LinkInOrder l = ActsInOrder l.controller.side.role l.host.side.role l.to_controller l.to_host
 
--- the first frame on the wire to the near end is gone
-pub in_order_drop : (r f : Role) (x : OnWire) (w v : List OnWire) → ActsInOrder r f (x ∷ w) v → ActsInOrder r f w v
-in_order_drop r f x w v h = grind arith
-
 pub in_order_aged : (r f : Role) (w v : List OnWire) → ActsInOrder r f w v → ActsInOrder r f (aged_wire w) (aged_wire v)
 in_order_aged Bare Bare w v h = tt
 in_order_aged (Clf c) (Uicc u) w v h = line_less c u w v (aged_wire w) (aged_wire v) (λ f. without_aged f w) (first_aged w) (without_aged is_again v) h
@@ -154,7 +150,7 @@ NoActs (c ∷ cs) = (is_act c ≡ false) × NoActs cs
 
 pub no_acts : (n : ℕ) (e : EndState) → NoActs (frames_of n e)
 no_acts zero e = tt
-no_acts (suc n) e = by_option {P = NoActs (frames_of (suc n) e)} (frame_due e) (λ q. rw q tt) (λ c q. rw q ((grind arith), (no_acts n (fetched e))))
+no_acts (suc n) e = by_option {P = NoActs (frames_of (suc n) e)} (frame_due e) (λ q. rw q tt) (λ c q. rw q (grind arith, (no_acts n (fetched e))))
 
 pub in_order_put_all : (r f : Role) (w : List OnWire) (cs : List Control) (k : Link) → NoActs cs → ActsInOrder r f w k.to_host
     → ActsInOrder r f w (put_all k cs).to_host
@@ -195,28 +191,17 @@ uicc_ready c u t w v q h =
       last = λ a. absurd (true≢false (sym a ∙ q));
     }
 
--- the UICC gives up
-uicc_stops : (c : ClfAct) (u t : UiccAct) (w v : List OnWire) → is_awaiting t.phase ≡ false → Line c u w v → Line c t w v
-uicc_stops c u t w v q h = record { clf = λ a. ((h.clf a).0, q); ready = inr q; tail = h.tail; plain = h.plain; last = λ a. absurd (true≢false (sym a ∙ q)) }
-
--- the UICC goes on waiting
-uicc_waits : (c : ClfAct) (u t : UiccAct) (w v : List OnWire) → is_awaiting u.phase ≡ true → t.last ≡ u.last → Line c u w v → Line c t w v
-uicc_waits c u t w v q s h = grind arith
-
 -- and sends ACT_SYNC_ID again
 uicc_syncs : (c : ClfAct) (u : UiccAct) (w v : List OnWire) (id : ℕ) → is_awaiting u.phase ≡ true → Line c u w v → Line c u (with_sent (Some (SyncId id)) w) v
 uicc_syncs c u w v id q h =
     let x : OnWire = record { frame = act_frame (SyncId id); age = 0; number = 0 } in
     record {
       clf = λ a. absurd (true≢false (sym q ∙ (h.clf a).1));
-      ready = inl (without_fits is_ready (w ++ x ∷ []) (without_push is_ready w x refl none));
-      tail = first_fits (w ++ x ∷ []) (first_push w x (inl none) h.tail);
+      ready = inl (without_fits is_ready (w ++ x ∷ []) (without_push is_ready w x refl (grind arith)));
+      tail = first_fits (w ++ x ∷ []) (first_push w x (inl (grind arith)) h.tail);
       plain = h.plain;
       last = h.last;
     }
-  where
-    none : Without is_ready w
-    none = grind arith
 
 -- a frame of activation is taken
 pub in_order_take : (r f : Role) (x : OnWire) (w v : List OnWire) (act : Activation) (again : Bool) → x.frame ≡ Act act again → ActsInOrder r f (x ∷ w) v
@@ -231,7 +216,7 @@ in_order_take (Uicc u) (Uicc t) x w v act again q h = absurd h
 in_order_take (Clf c) (Uicc u) x w v act again q h = go act again q
   where
     g : Line c u w v
-    g = in_order_drop (Clf c) (Uicc u) x w v h
+    g = grind arith
 
     P : ClfAct × ActOut → Type 0
     P z = Line z.0 u w (with_sent z.1.send v)
@@ -279,7 +264,7 @@ in_order_take (Clf c) (Uicc u) x w v act again q h = go act again q
 in_order_take (Uicc u) (Clf c) x w v act again q h = go act again q
   where
     g : Line c u v w
-    g = in_order_drop (Uicc u) (Clf c) x w v h
+    g = grind arith
 
     P : UiccAct × ActOut → Type 0
     P z = Line c z.0 (with_sent z.1.send v) w
@@ -328,7 +313,7 @@ in_order_tick (Uicc u) (Clf c) w v o h = phase u.phase refl
 
     phase : (p : Phase) → u.phase ≡ p → P (uicc_step u ActTick)
     phase Active p = absurd (true≢false (sym (ap is_active p) ∙ o))
-    phase Inactive p = by (at Inactive, no_act_out) (rw p refl) (uicc_stops c u (at Inactive) v w refl h)
+    phase Inactive p = by (at Inactive, no_act_out) (rw p refl) (grind arith)
     phase (Awaiting tries ticks) p = tick (nat_le 10 (ticks + 1)) (nat_le 3 tries) refl refl
       where
         waits : is_awaiting u.phase ≡ true
@@ -337,13 +322,13 @@ in_order_tick (Uicc u) (Clf c) w v o h = phase u.phase refl
         tick : (x y : Bool) → nat_le 10 (ticks + 1) ≡ x → nat_le 3 tries ≡ y → P (uicc_step u ActTick)
         tick true true a b =
             by (at Inactive, record { send = None; became_active = false; ended_link = false; sync = None; gave_up = Some 3 }) (rw (p, a, b) refl)
-            (uicc_stops c u (at Inactive) v w refl h)
-        tick false y a b = by (at (Awaiting tries (ticks + 1)), no_act_out) (rw (p, a) refl) (uicc_waits c u (at (Awaiting tries (ticks + 1))) v w waits refl h)
+            (grind arith)
+        tick false y a b = by (at (Awaiting tries (ticks + 1)), no_act_out) (rw (p, a) refl) (grind arith)
         tick true false a b =
             let t : UiccAct = at (Awaiting (tries + 1) 0) in
             let l = h.last waits in
             by (t, sends u.last) (rw (p, a, b) refl)
-            (subst (λ z. Line c t (with_sent z v) w) (sym l.1) (uicc_syncs c t v w l.0 refl (uicc_waits c u t v w waits refl h)))
+            (subst (λ z. Line c t (with_sent z v) w) (sym l.1) (uicc_syncs c t v w l.0 refl (grind arith)))
 
 -- an end whose link activation puts down isn't open
 pub ended_means : (r f : Role) (x : OnWire) (w v : List OnWire) (act : Activation) (again : Bool) → x.frame ≡ Act act again → ActsInOrder r f (x ∷ w) v

@@ -1,8 +1,8 @@
 -- Each step of an end is projected, whether its frames go out or its node loses power before that.
 use Rattle.std.specs.Prelude.{◌+◌}
 use Rattle.link_laws.proofs.Words.{Act, ActEvent, ActTake, ActTick, Activation, AreSendableTurns, Asked, AsksReset, Bool, CanEnd, Clt, Control, CoreActs}
-use Rattle.link_laws.proofs.Words.{CoreDeliver, CoreEndEvent, CoreLink, CoreStop, CoreTurn, CutOff, Down, EndState, Ending, GoesOut, HasTick as Tick, IfLine}
-use Rattle.link_laws.proofs.Words.{Link, LinkEnd, List, NextFrame, None, OnWire, Option, Refused, Role, Some, Turn, Turns as CoreTurns, Waiting, [], act_answer}
+use Rattle.link_laws.proofs.Words.{CoreDeliver, CoreEndEvent, CoreLink, CoreTurn, CutOff, Down, EndState, Ending, GoesOut, HasTick as Tick, IfLine, Link}
+use Rattle.link_laws.proofs.Words.{LinkEnd, List, NextFrame, None, OnWire, Option, Refused, Role, Some, Turn, Turns as CoreTurns, Waiting, [], act_answer}
 use Rattle.link_laws.proofs.Words.{activated, after_input, among, ap, arith, becomes, core_all_here, core_ending, core_happens_here, core_of, core_reset}
 use Rattle.link_laws.proofs.Words.{core_step, core_take, core_tick, core_tick_rest, core_ticks_or_cut, core_turned, core_turns, core_with_ended, cut, ended_by}
 use Rattle.link_laws.proofs.Words.{ended_by_act, ended_by_frame, false, finished, frame_due, frames_of, frames_out, has_restarted, has_taken, if_up, inl, inr}
@@ -12,9 +12,9 @@ use Rattle.link_laws.proofs.Words.{shdlc_put_all as core_put_all, shdlc_silent a
 use Rattle.link_laws.proofs.Words.{steps_at_controller, stopped, subst, sym, tick_answer, ticked, ticks_at_controller, took, took_with, true, true≢false}
 use Rattle.link_laws.proofs.Words.{turned, window_of, with_controller, with_ended, ℕ, ◌++◌, ◌∙◌, ◌∷◌, ◌≡◌, ◌⊎◌}
 use Rattle.link_laws.specs.messages.Projection.{core_restart}
-use Rattle.link_laws.proofs.messages.Project.{Idle, Keeps, Mid, NoAsk, NoRset, Now, Step, Tells, among_now, frames_alike, frames_now, host_ended, mid_moved}
-use Rattle.link_laws.proofs.messages.Project.{moved_role, no_rset, none_due, past_ended, puts_none, step_moved, step_same, step_turned, taken_asks}
-use Rattle.link_laws.proofs.messages.Project.{ticked_keeps, turned_asks, turned_phase, turned_role, turns_mid}
+use Rattle.link_laws.proofs.messages.Project.{Mid, NoAsk, NoRset, Now, Step, Tells, among_now, frames_alike, frames_now, host_ended, mid_moved, moved_role}
+use Rattle.link_laws.proofs.messages.Project.{no_rset, none_due, puts_none, step_moved, step_same, step_turned, taken_asks, ticked_keeps, turned_asks}
+use Rattle.link_laws.proofs.messages.Project.{turned_phase, turned_role, turns_mid}
 use Rattle.link_laws.proofs.messages.ActsInOrder.{ActsInOrder, LinkInOrder, IsPolite, with_sent, in_order_tick}
 use Rattle.link_laws.proofs.machine.Runs.{opened}
 use Rattle.link_laws.proofs.machine.Reports.{shdlc_is as shdlc_moved}
@@ -182,16 +182,12 @@ step_cut_instead l b e waits same role line h = grind (arith, step_same, cut, se
 
 -- turns leave the phase of an end
 pub turns_phase : (e : LinkEnd) (ts : List Turn) → AreSendableTurns ts → Now e → (turned e ts).shdlc.phase ≡ e.shdlc.phase
-turns_phase e ts a h =
-    ap (λ (s : EndState). s.phase) (turns_mid None e ts a h).is ∙ turned_phase e.shdlc (core_turns e ts)
+turns_phase e ts a h = ap (λ (s : EndState). s.phase) (turns_mid None e ts a h).is ∙ turned_phase e.shdlc (core_turns e ts)
 
 -- ## Resets
 
 reset_up : (s : EndState) → is_some (if_up s Asked) ≡ is_up s.phase
 reset_up s = by_phase s.phase (λ p. rw p refl) (λ p. rw p refl) (λ p. rw p refl)
-
-pub reset_keeps : (e : EndState) (w : ℕ) → is_waiting e ≡ false → Idle e → Keeps (is_some (if_up e Asked)) e (reset_with e w)
-reset_keeps e w n idle = grind arith
 
 -- an end that is open and doesn't wait
 pub reset_tells : (e : LinkEnd) → reset_refusal e ≡ None → (is_open e.role ≡ true) × (is_waiting e.shdlc ≡ false)
@@ -221,8 +217,7 @@ step_reset l window ts ending a can h r = go (reset_refusal l.controller.side) r
     waits q =
         let t = reset_tells e q in
         let s : EndState = reset_with e.shdlc w in
-        let n : Now (reset_by e w) = mid_moved e b s h.now (reset_keeps e.shdlc w t.1 h.now.idle) (opened e.role (s.phase ≡ Down) t.0) in
-        turns_phase (reset_by e w) ts a n ∙ (ap (λ (z : EndState). z.phase) (shdlc_moved e b s) ∙ reset_waits e.shdlc w t.1)
+        turns_phase (reset_by e w) ts a (grind arith) ∙ (ap (λ (z : EndState). z.phase) (shdlc_moved e b s) ∙ reset_waits e.shdlc w t.1)
 
     done : (ending : Ending) → CanEnd e.role ending → reset_refusal e ≡ None
         → Step l (finished (with_ended l b) (turned (reset_by e w) ts) ending) (core_all_here (core_of l) (core_reset None e w ts ending))
@@ -233,7 +228,7 @@ step_reset l window ts ending a can h r = go (reset_refusal l.controller.side) r
         let t = reset_tells e q in
         let us : List CoreTurn = core_turns (reset_by e w) ts in
         let st =
-        step_moved l b (reset_with e.shdlc w) ts h a (reset_keeps e.shdlc w t.1 h.now.idle) (opened e.role ((reset_with e.shdlc w).phase ≡ Down) t.0) in
+        step_moved l b (reset_with e.shdlc w) ts h a (grind arith) (opened e.role ((reset_with e.shdlc w).phase ≡ Down) t.0) in
         grind arith
 
     go : (o : Option Refused) → reset_refusal e ≡ o
@@ -268,14 +263,13 @@ step_restart l event ts ending a can h wires =
     let k : Link = silent l g in
     let role : g.role ≡ role_after e.role event = activated_role (moved e true (stopped e.shdlc)) event in
     let P : Role → Type 0 = λ r. ActsInOrder r l.host.side.role [] (with_sent o []) in
-    let st = step_turned l k o g ts (host_ended l b) (past_ended l b h) a m.mid (λ z. subst P (sym role) (wires z)) in
-    let c : core_of k ≡ core_happens_here (core_of l) CoreStop = (grind arith) ∙ ap (core_silent (core_of l)) m.same in
+    let st = step_turned l k o g ts (host_ended l b) (grind arith) a m.mid (λ z. subst P (sym role) (wires z)) in
     let out =
     step_ends l k (turned g ts) (core_becomes (core_put_all (core_of k) (frames_now o)) (core_turned g.shdlc us)) ending st
     (none_out o g ts a m.mid (none_due g.shdlc (ap (λ (z : EndState). z.due) m.same)))
     (can_end g ts (role_after e.role event) ending role (can_after e.role event ending can)) in
     record {
-      core = out.core ∙ ap (λ d. core_all_here (core_happens_here d (CoreActs (option_to_list o) us)) (core_ending ending)) c;
+      core = out.core ∙ ap (λ d. core_all_here (core_happens_here d (CoreActs (option_to_list o) us)) (core_ending ending)) (grind arith);
       tells = out.tells;
       host = out.host;
       in_order = out.in_order;

@@ -99,8 +99,7 @@ no_rset (suc n) e a =
 -- frames that are no RSETs change the wire to the host alone
 pub puts_none : (cs : List Control) (l : Link) → NoRset cs → put_all l cs ≡ record l { to_host = (put_all l cs).to_host }
 puts_none [] l a = refl
-puts_none (c ∷ cs) l a =
-    (puts_none cs (put l c) a.1) ∙ ap (λ (m : Link). record m { to_host = (put_all (put l c) cs).to_host }) (one c a.0)
+puts_none (c ∷ cs) l a = (puts_none cs (put l c) a.1) ∙ ap (λ (m : Link). record m { to_host = (put_all (put l c) cs).to_host }) (one c a.0)
   where
     one : (c : Control) → is_rset c ≡ false → put l c ≡ record l { to_host = (put l c).to_host }
     one c q = grind arith
@@ -353,9 +352,6 @@ step_turned l k o e ts host past a h in_order =
 pub moved_role : (e : LinkEnd) (b : Bool) (s : EndState) → (moved e b s).role ≡ e.role
 moved_role e b s = grind arith
 
-pub past_ended : (l : Link) (b : Bool) → Tells l.controller → AllSay (with_ended l b).controller.past
-past_ended l b h = grind arith
-
 pub host_ended : (l : Link) (b : Bool) → (with_ended l b).host ≡ l.host
 host_ended l b = grind arith
 
@@ -366,7 +362,7 @@ pub step_moved : (l : Link) (b : Bool) (s : EndState) (ts : List Turn) → Tells
     (core_becomes (core_with_ended (core_of l) b) (core_turned s (core_turns (moved l.controller.side b s) ts)))
 step_moved l b s ts h a keeps c =
     let f : LinkEnd = moved l.controller.side b s in
-    let st = step_turned l (with_ended l b) None f ts (host_ended l b) (past_ended l b h) a (mid_moved l.controller.side b s h.now keeps c) (in_order b) in
+    let st = step_turned l (with_ended l b) None f ts (host_ended l b) (grind arith) a (mid_moved l.controller.side b s h.now keeps c) (in_order b) in
     let q : core_becomes (core_of (with_ended l b)) (core_turned f.shdlc (core_turns f ts))
     ≡ core_becomes (core_with_ended (core_of l) b) (core_turned s (core_turns f ts)) =
     ap (λ m. core_becomes m (core_turned f.shdlc (core_turns f ts))) (grind arith)

@@ -147,7 +147,7 @@ among_rsets n [] fs = refl
 among_rsets n (a ∷ acts) fs =
     let k : ℕ = a.behind - n in
     let back = among_rsets a.behind acts (drop k fs) in
-    omega (arith, (rsets_append (take k fs) (ActFrame a.frame false ∷ (among a.behind acts (drop k fs)))), back, (take_and_drop k fs))
+    omega (arith, rsets_append (take k fs) (ActFrame a.frame false ∷ (among a.behind acts (drop k fs))), back, take_and_drop k fs)
 
 -- ### All that is due goes out
 
@@ -214,7 +214,7 @@ tick_makes l ts ending =
     let e : LinkEnd = after_input l.controller.side Tick in
     let b : Bool = is_some (ended_by l.controller.side Tick) in
     finished_makes (l.resets + rsets_due l.controller.side + 1) l (with_ended l b) (turned e ts) ending (ended_resets l b) (ended_host l b)
-    (omega (arith, (turned_due ts e), (had_tick_due l.controller.side)))
+    (omega (arith, turned_due ts e, had_tick_due l.controller.side))
 
 reset_makes : (l : Link) (window : Option ℕ) (ts : List Turn) (ending : Ending)
     → Makes (l.resets + rsets_due l.controller.side + 1) l (has_input l (Reset window) ts ending)
@@ -222,7 +222,7 @@ reset_makes l window ts ending =
     let e : LinkEnd = after_input l.controller.side (Reset window) in
     let b : Bool = is_some (ended_by l.controller.side (Reset window)) in
     finished_makes (l.resets + rsets_due l.controller.side + 1) l (with_ended l b) (turned e ts) ending (ended_resets l b) (ended_host l b)
-    (omega (arith, (turned_due ts e), (had_reset_due l.controller.side window)))
+    (omega (arith, turned_due ts e, had_reset_due l.controller.side window))
 
 taken_makes : (l : Link) (x : OnWire) (xs : List OnWire) (ts : List Turn) (ending : Ending)
     → Makes (l.resets + rsets_due l.controller.side) l (has_taken l x xs ts ending)
@@ -232,14 +232,14 @@ taken_makes l x xs ts ending =
     let m : Link = with_ended (record l { to_controller = xs }) b in
     let k : Link = record m { controller = record m.controller { took = took_with l.controller.took x } } in
     finished_makes (l.resets + rsets_due l.controller.side) l k (turned e ts) ending (ended_resets (record l { to_controller = xs }) b)
-    (ended_host (record l { to_controller = xs }) b) (omega (arith, (turned_due ts e), (took_due l.controller.side x.frame)))
+    (ended_host (record l { to_controller = xs }) b) (omega (arith, turned_due ts e, took_due l.controller.side x.frame))
 
 restarted_makes : (l : Link) (e : LinkEnd) (ts : List Turn) (ending : Ending) → rsets_due e ≤ rsets_due l.controller.side
     → Makes (l.resets + rsets_due l.controller.side) l (has_restarted l e ts ending)
 restarted_makes l e ts ending few =
     let b : Bool = is_up l.controller.side.shdlc.phase in
     finished_makes (l.resets + rsets_due l.controller.side) l (silent l e) (turned e ts) ending (ended_resets l b) (ended_host l b)
-    (omega (arith, (turned_due ts e), few))
+    (omega (arith, turned_due ts e, few))
 
 steps_make : (l : Link) (comes : Comes) (ts : List Turn) (ending : Ending)
     → Makes (l.resets + rsets_due l.controller.side + resets_in_coming comes) l (steps_at_controller l comes ts ending)
@@ -286,7 +286,7 @@ made_there l comes ts ending = grind (arith, made_in_step, made_exchanged)
 pub made_in_tick_there : (l : Link) (ts : List Turn) (ending : Ending)
     → rsets_made (exchanged (ticks_at_controller (exchanged l) ts ending)) ≤ rsets_made l + 1
 made_in_tick_there l ts ending =
-    omega (arith, (made_in_tick (exchanged l) ts ending), (made_exchanged (ticks_at_controller (exchanged l) ts ending)), (made_exchanged l))
+    omega (arith, made_in_tick (exchanged l) ts ending, made_exchanged (ticks_at_controller (exchanged l) ts ending), made_exchanged l)
 
 made_here : (l : Link) (e : EndEvent) → rsets_made (happens_at_controller l e) ≤ rsets_made l + resets_in_event e
 made_here l (Step comes ts ending) = made_in_step l comes ts ending
@@ -300,16 +300,16 @@ made_by_all (e ∷ es) l = let z = made_by_all es (happens_at_controller l e) in
 
 pub made_by_event : (l : Link) (e : LinkEvent) → rsets_made (happens l e) ≤ rsets_made l + rset_causes e
 made_by_event l (AtController e) = made_here l e
-made_by_event l (AtHost e) = omega (arith, (made_here (exchanged l) e), (made_exchanged (happens_at_controller (exchanged l) e)), (made_exchanged l))
+made_by_event l (AtHost e) = omega (arith, made_here (exchanged l) e, made_exchanged (happens_at_controller (exchanged l) e), made_exchanged l)
 made_by_event l (Ticks c events h) =
     let near : Link = ticks_at_controller (aged l) c.turns c.ending in
     let z = made_in_tick_there (all_at_controller near events) h.turns h.ending in
-    omega (arith, (made_in_tick (aged l) c.turns c.ending), (made_by_all events near), z)
+    omega (arith, made_in_tick (aged l) c.turns c.ending, made_by_all events near, z)
 made_by_event l (TicksWithout events h) =
-    omega (arith, (made_by_all events (aged l)), (made_in_tick_there (all_at_controller (aged l) events) h.turns h.ending))
+    omega (arith, made_by_all events (aged l), made_in_tick_there (all_at_controller (aged l) events) h.turns h.ending)
 made_by_event l (Activate power c id h) =
     let y = made_there (steps_at_controller l (Starts power) c.turns c.ending) (Starts id) h.turns h.ending in
-    omega (arith, (made_in_step l (Starts power) c.turns c.ending), y)
+    omega (arith, made_in_step l (Starts power) c.turns c.ending, y)
 
 made_by_events : (events : List LinkEvent) (l : Link) → rsets_made (after_link_events l events) ≤ rsets_made l + rset_causes_in events
 made_by_events [] l = omega arith
@@ -375,9 +375,6 @@ put_numbered l c a = go (is_rset c)
     more : (h : NumberedEnd) → EndIsLow l.resets h → EndIsLow (l.resets + 1) h
     more h b = record { emitted = let z = b.emitted in omega (arith, z); took = let z = b.took in omega (arith, z) }
 
-    longer : (wire : List OnWire) → WireIsLow l.resets wire → WireIsLow (l.resets + 1) wire
-    longer wire b = low_more l.resets (l.resets + 1) wire (omega arith) b
-
     numbered : OnWire
     numbered = record { frame = c; age = 0; number = l.resets + 1 }
 
@@ -389,9 +386,9 @@ put_numbered l c a = go (is_rset c)
         record {
           controller = record { emitted = omega arith; took = (more l.controller a.controller).took };
           host = more l.host a.host;
-          to_controller = longer l.to_controller a.to_controller;
+          to_controller = (low_more l.resets (l.resets + 1) l.to_controller (omega arith) a.to_controller);
           to_host = low_fits (l.resets + 1) (l.to_host ++ numbered ∷ [])
-              (low_push (l.resets + 1) l.to_host numbered (omega arith) (longer l.to_host a.to_host));
+              (low_push (l.resets + 1) l.to_host numbered (omega arith) (low_more l.resets (l.resets + 1) l.to_host (omega arith) a.to_host));
         }
     go false =
         record {
@@ -416,13 +413,7 @@ finished_numbered l e CutOff a = grind arith
 
 input_numbered : (l : Link) (i : LinkInput) (ts : List Turn) (ending : Ending) → HasLowNumbers l → HasLowNumbers (has_input l i ts ending)
 input_numbered l i ts ending a =
-    let b : Bool = is_some (ended_by l.controller.side i) in
-    finished_numbered (with_ended l b) (turned (after_input l.controller.side i) ts) ending (grind arith)
-
-taken_numbered : (l : Link) (x : OnWire) (xs : List OnWire) (ts : List Turn) (ending : Ending) → l.to_controller ≡ x ∷ xs → HasLowNumbers l
-    → HasLowNumbers (has_taken l x xs ts ending)
-taken_numbered l x xs ts ending q a =
-    finished_numbered (left_after l x xs) (turned (after_input l.controller.side (Take x.frame)) ts) ending (grind arith)
+    finished_numbered (with_ended l (is_some (ended_by l.controller.side i))) (turned (after_input l.controller.side i) ts) ending (grind arith)
 
 restarted_numbered : (l : Link) (e : LinkEnd) (ts : List Turn) (ending : Ending) → HasLowNumbers l → HasLowNumbers (has_restarted l e ts ending)
 restarted_numbered l e ts ending a = finished_numbered (silent l e) (turned e ts) ending (silent_numbered l e a)
@@ -436,7 +427,7 @@ steps_numbered l NextFrame ts ending a = go l.to_controller refl
 
     go : (w : List OnWire) → l.to_controller ≡ w → HasLowNumbers (by w)
     go [] q = a
-    go (x ∷ xs) q = taken_numbered l x xs ts ending q a
+    go (x ∷ xs) q = (finished_numbered (left_after l x xs) (turned (after_input l.controller.side (Take x.frame)) ts) ending (grind arith))
 steps_numbered l (AsksReset window) ts ending a = input_numbered l (Reset window) ts ending a
 steps_numbered l (Starts value) ts ending a = restarted_numbered l (started l.controller.side value) ts ending a
 steps_numbered l Stops ts ending a = restarted_numbered l (deactivated l.controller.side) ts ending a
@@ -467,8 +458,7 @@ all_numbered (e ∷ es) l a = all_numbered es (happens_at_controller l e) (here_
 
 pub event_numbered : (l : Link) (e : LinkEvent) → HasLowNumbers l → HasLowNumbers (happens l e)
 event_numbered l (AtController e) a = here_numbered l e a
-event_numbered l (AtHost e) a =
-    exchanged_numbered (happens_at_controller (exchanged l) e) (here_numbered (exchanged l) e (exchanged_numbered l a))
+event_numbered l (AtHost e) a = exchanged_numbered (happens_at_controller (exchanged l) e) (here_numbered (exchanged l) e (exchanged_numbered l a))
 event_numbered l (Ticks c events h) a =
     let near : Link = ticks_at_controller (aged l) c.turns c.ending in
     let b = all_numbered events near (tick_numbered (aged l) c.turns c.ending (aged_numbered l a)) in

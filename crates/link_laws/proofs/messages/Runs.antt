@@ -4,12 +4,12 @@ use Rattle.link_laws.proofs.Words.{ActStart, ActStop, Activate, AllAllowed, AllD
 use Rattle.link_laws.proofs.Words.{AreTurns as CoreAreTurns, AsksReset, AtController, AtHost, Bare, BothDown, BothUp, CanStart, Chain, Clf, ClfAct, Comes}
 use Rattle.link_laws.proofs.Words.{Control, CoreAreUpTogether, CoreAtController, CoreAtHost, CoreDeliver, CoreEndEvent, CoreInOrder, CoreIsAllowed, CoreLink}
 use Rattle.link_laws.proofs.Words.{CoreTurn, EndEvent, Ending, FragmentsDelivered as CoreAllDelivered, InOrder, IsAllowed, IsBare, IsClf, IsEvent, IsFrontOf}
-use Rattle.link_laws.proofs.Words.{IsLine, IsNode, IsOwn, IsQuiet, IsShdlcQuiet as CoreIsQuiet, IsShdlcStart as CoreIsStart}
-use Rattle.link_laws.proofs.Words.{IsStart, IsUicc, Link, LinkEnd, LinkEvent, LinkTogether as AreUpTogether, List, Lose, Loss, Message, NextFrame, NoInput}
-use Rattle.link_laws.proofs.Words.{Node, NumberedEnd, OnWire, Option, Role, ShdlcLinkEvent as CoreLinkEvent, Starts, Step as EndStep, Stops, Take, Talk}
-use Rattle.link_laws.proofs.Words.{Tick as CoreTick, TickWithout as CoreTickWithout, Ticks, TicksWithout, Turn, Up, [], after_link_events, aged}
-use Rattle.link_laws.proofs.Words.{all_at_controller, ap, append-nil, append_assoc, arith, core_after, core_aged, core_all, core_all_here, core_end, core_event}
-use Rattle.link_laws.proofs.Words.{core_events, core_happens_here, core_here, core_of, core_past, core_step, core_tick, core_tick_rest, core_ticks_if_waiting}
+use Rattle.link_laws.proofs.Words.{IsLine, IsNode, IsOwn, IsQuiet, IsShdlcQuiet as CoreIsQuiet, IsShdlcStart as CoreIsStart, IsStart, IsUicc, Link, LinkEnd}
+use Rattle.link_laws.proofs.Words.{LinkEvent, LinkTogether as AreUpTogether, List, Lose, Message, NextFrame, NoInput, Node, NumberedEnd, OnWire, Option, Role}
+use Rattle.link_laws.proofs.Words.{ShdlcLinkEvent as CoreLinkEvent, Starts, Step as EndStep, Stops, Take, Talk, Tick as CoreTick}
+use Rattle.link_laws.proofs.Words.{TickWithout as CoreTickWithout, Ticks, TicksWithout, Turn, Up, [], after_link_events, aged, all_at_controller, ap}
+use Rattle.link_laws.proofs.Words.{append-nil, append_assoc, arith, core_after, core_aged, core_all, core_all_here, core_end, core_event, core_events}
+use Rattle.link_laws.proofs.Words.{core_happens_here, core_here, core_of, core_past, core_step, core_tick, core_tick_rest, core_ticks_if_waiting}
 use Rattle.link_laws.proofs.Words.{core_ticks_or_cut, ended_by, ended_talk, exchanged, false, fragments_of, good_messages_of, good_of, happens}
 use Rattle.link_laws.proofs.Words.{happens_at_controller, is_active, is_faulty, is_open, leb-false, length, length-append, length-map, losses_of, map}
 use Rattle.link_laws.proofs.Words.{messages_got, moved, nat_le, ne_eqb, new_link_end, new_numbered_end, no_talk, number_of, packet_bytes, packet_count}
@@ -143,12 +143,9 @@ step_own l (Starts value) ts ending o a n h r = let h0 = step_restart l (ActStar
 step_own l Stops ts ending o a n h r = let h0 = step_restart l ActStop ts ending n.0 n.1 h (λ z. grind arith) in grind arith
 step_own l NoInput ts ending o a n h r = step_idle l ts ending n.0 n.1 h r
 
-step_lost : (l : Link) (why : Loss) → Tells l.controller → Step l (happens_at_controller l (Lose why)) (core_all_here (core_of l) (core_here l (Lose why)))
-step_lost l why h = grind arith
-
 pub step_here : (l : Link) (e : EndEvent) → IsAllowed l e → Tells l.controller → Tells l.host → LinkInOrder l → Rests l.controller.side.shdlc
     → FromHost (core_happens_here (core_of l) (CoreDeliver [])) → Step l (happens_at_controller l e) (core_all_here (core_of l) (core_here l e))
-step_here l (Lose why) a h t z r from = step_lost l why h
+step_here l (Lose why) a h t z r from = grind arith
 step_here l (EndStep NextFrame ts ending) a h t z r from =
     step_frame l ts ending a.1.0 a.1.1 (polite_of l.controller.side l.host.side.role l.to_controller l.to_host z h.now.closed) h t r from
 step_here l (EndStep (AsksReset window) ts ending) a h t z r from = step_own l (AsksReset window) ts ending tt a.0 a.1 h r
@@ -273,18 +270,16 @@ event_step l (Ticks c es h) a g r =
     let rest : List CoreEndEvent = core_tick_rest l.controller.side c.turns c.ending in
     let t : Option (List CoreTurn) = core_tick l.controller.side c.turns c.ending in
     let start : CoreLink = core_ticks_or_cut t (core_aged (core_of l)) in
-    let rest_turns = rest_both l.controller.side c.turns c.ending in
-    let s1 = safe_turns 1 rest start rest_turns.turns (tick_or_cut 1 t (core_aged (core_of l)) s0) in
+    let s1 = safe_turns 1 rest start (rest_both l.controller.side c.turns c.ending).turns (tick_or_cut 1 t (core_aged (core_of l)) s0) in
     let P : CoreLink → Type 0 = λ d. SafeLink 0 1 d in
     let near_safe : SafeLink 0 1 (core_of near) = subst P (sym one.core) s1 in
     let all = all_step 1 near es a.1 one.tells near_safe in
     let two = all.step in
     let m : Link = all_at_controller near es in
-    let m_safe : SafeLink 0 1 (core_of m) = subst P (sym two.core) (safe_turns 1 (core_all near es) (core_of near) all.turns near_safe) in
     let has_ticked : HasTicked l m (core_all_here start (rest ++ core_all near es)) = record {
       host = two.host ∙ one.host;
       core = two.core ∙ (ap (λ d. core_all_here d (core_all near es)) one.core ∙ sym (all_here-append start rest (core_all near es)));
-      safe = m_safe;
+      safe = subst P (sym two.core) (safe_turns 1 (core_all near es) (core_of near) all.turns near_safe);
       near = two.tells;
       far = g.host;
       wires = two.in_order (one.in_order (in_order_aged l.controller.side.role l.host.side.role l.to_controller l.to_host g.in_order));
@@ -300,11 +295,10 @@ event_step l (TicksWithout es h) a g r =
     let near_safe : SafeLink 0 1 (core_of near) = subst P kept (tick_if_waiting 1 (core_aged (core_of l)) s0) in
     let all = all_step 1 near es a.1 g.controller near_safe in
     let m : Link = all_at_controller near es in
-    let m_safe : SafeLink 0 1 (core_of m) = subst P (sym all.step.core) (safe_turns 1 (core_all near es) (core_of near) all.turns near_safe) in
     let has_ticked : HasTicked l m (core_all_here (core_ticks_if_waiting (core_aged (core_of l))) (core_all near es)) = record {
       host = all.step.host;
       core = all.step.core ∙ ap (λ d. core_all_here d (core_all near es)) (sym kept);
-      safe = m_safe;
+      safe = subst P (sym all.step.core) (safe_turns 1 (core_all near es) (core_of near) all.turns near_safe);
       near = all.step.tells;
       far = g.host;
       wires = all.step.in_order (in_order_aged l.controller.side.role l.host.side.role l.to_controller l.to_host g.in_order);
@@ -320,14 +314,13 @@ event_step l (Activate power c id h) a g r =
     let fs : List CoreLinkEvent = map CoreAtHost (core_here (exchanged near) y) in
     let clf : CanStart l.controller.side.role l.host.side.role = clf_starts l.controller.side.role l.host.side.role a.0 in
     let one = step_event l x (clf, a.2) g r in
-    let next : Reached (core_of near) = subst Reached (sym one.core) (reached_more (core_of l) es one.allowed r) in
     let host : near.host ≡ l.host = (step_own l (Starts power) c.turns c.ending tt clf a.2 g.controller
     (rests_of 0 0 (core_of l) (safe_reached (core_of l) r))).host in
     let Q : NumberedEnd → Type 0 = λ z. IsUicc z.side.role × IsNode (exchanged (record l { host = z })) h.turns h.ending in
     let there : Q near.host = subst Q (sym host) (a.1, a.3) in
     let starts : CanStart near.host.side.role near.controller.side.role =
     can_start near.host.side.role near.controller.side.role there.0 (started_clf l power c.turns c.ending a.0) in
-    let two = there_event near y (starts, there.1) one.good next in
+    let two = there_event near y (starts, there.1) one.good (subst Reached (sym one.core) (reached_more (core_of l) es one.allowed r)) in
     record {
       core = two.core ∙ (ap (λ d. core_after d fs) one.core ∙ sym (after-append (core_of l) es fs));
       good = two.good;
@@ -518,7 +511,7 @@ whole_all (m ∷ ms) n i =
     count : length (fragments_of (m ∷ ms)) ≡ packet_count (length m.1) + length (fragments_of ms)
     count =
         let b = length-map (packets_of m.0 m.1) packet_bytes ∙ packets_are_counted m.0 m.1 in
-        omega (arith, (length-append (map packet_bytes (packets_of m.0 m.1)) (fragments_of ms)), b)
+        omega (arith, length-append (map packet_bytes (packets_of m.0 m.1)) (fragments_of ms), b)
 
 in_messages_of_quiet : (s r : Talk) → Says s → CoreAllDelivered s.session r.session → AllDelivered s r
 in_messages_of_quiet s r says d =

@@ -2,14 +2,14 @@
 use Rattle.std.proofs.Common.{not}
 use Rattle.std.specs.Prelude.{◌+◌}
 use Rattle.link_laws.proofs.Words.{Act, ActEvent, ActTake, ActTick, Activation, AreSendableTurns, Bool, ByAct, Clt, Control, CoreActs, CoreDeliver, CoreInOrder}
-use Rattle.link_laws.proofs.Words.{CoreLink, CoreTurn, Down, EndState, Ignore as CoreIgnore, IsTrue, Link, LinkEnd, LinkState, List, None}
-use Rattle.link_laws.proofs.Words.{NumberedEnd, NumberedShdlc as CoreEnd, OnWire, Option, Role, Session, Talk, Turn, Up, [], act_answer, activated}
-use Rattle.link_laws.proofs.Words.{after_frames, ap, are_taken, arith, becomes, cond, core_all_here, core_end, core_happens_here, core_of, core_past, core_take}
-use Rattle.link_laws.proofs.Words.{core_turned, core_turns, core_with_ended, ended_by_frame, ended_session, ended_talk, eq-eqb, false, fragments_of, if_up, inl}
-use Rattle.link_laws.proofs.Words.{inr, is_act, is_faulty, is_open, is_rset, is_some, most_frames, moved, news, no_session, number_of, option_to_list}
-use Rattle.link_laws.proofs.Words.{packets_in, put_down, refl, role_after, shdlc_becomes as core_becomes, shdlc_number_of as core_number_of}
-use Rattle.link_laws.proofs.Words.{shdlc_put_all as core_put_all, shdlc_session_of, subst, sym, take_answer, taken, talk_now, talk_of, took, took_with, true}
-use Rattle.link_laws.proofs.Words.{turned, with_act, with_ended, ℕ, ◌++◌, ◌<◌, ◌==◌, ◌∙◌, ◌∷◌, ◌≡◌, ◌≤◌, ◌⊎◌}
+use Rattle.link_laws.proofs.Words.{CoreLink, CoreTurn, Down, EndState, Ignore as CoreIgnore, IsTrue, Link, LinkEnd, LinkState, List, None, NumberedEnd}
+use Rattle.link_laws.proofs.Words.{NumberedShdlc as CoreEnd, OnWire, Option, Role, Session, Talk, Turn, Up, [], act_answer, activated, after_frames, ap}
+use Rattle.link_laws.proofs.Words.{are_taken, arith, becomes, cond, core_all_here, core_end, core_happens_here, core_of, core_past, core_take, core_turned}
+use Rattle.link_laws.proofs.Words.{core_turns, core_with_ended, ended_by_frame, ended_session, ended_talk, eq-eqb, false, fragments_of, if_up, inl, inr, is_act}
+use Rattle.link_laws.proofs.Words.{is_faulty, is_open, is_rset, is_some, most_frames, moved, news, no_session, number_of, option_to_list, packets_in, put_down}
+use Rattle.link_laws.proofs.Words.{refl, role_after, shdlc_becomes as core_becomes, shdlc_number_of as core_number_of, shdlc_put_all as core_put_all}
+use Rattle.link_laws.proofs.Words.{shdlc_session_of, subst, sym, take_answer, taken, talk_of, took, took_with, true, turned, with_act, with_ended, ℕ, ◌++◌, ◌<◌}
+use Rattle.link_laws.proofs.Words.{◌==◌, ◌∙◌, ◌∷◌, ◌≡◌, ◌≤◌, ◌⊎◌}
 use Rattle.link_laws.proofs.sending.TakenLemmas.{no_fault}
 use Rattle.link_laws.proofs.sessions.Steps.{took as core_took}
 use Rattle.link_laws.proofs.messages.ActsInOrder.{ActsInOrder, LinkInOrder, IsPolite, with_sent, in_order_take}
@@ -166,11 +166,8 @@ past_says (x ∷ xs) n h = by_test {P = Says (ended_talk (x ∷ xs) n)} (n == x.
 pub says_of : (h : NumberedEnd) (n : ℕ) → Tells h → Says (talk_of h n)
 says_of h n t = go h.side.shdlc.phase (n == number_of h) refl refl
   where
-    says : Says (talk_now h.side)
-    says = t.now.says
-
     go : (p : LinkState) (b : Bool) → h.side.shdlc.phase ≡ p → (n == number_of h) ≡ b → Says (talk_of h n)
-    go Up true p q = rw (p, q) says
+    go Up true p q = rw (p, q) t.now.says
     go Up false p q = rw (p, q) (past_says h.past n t.past)
     go _ b p q = rw p (past_says h.past n t.past)
 

@@ -47,8 +47,7 @@ NoneBelow p (_ ∷ ms) = NoneBelow p ms
 -- each fragment on the wire stands at its place in `out`, and that place is below m and at most four below r
 abbrev pub Places : List Fragment → ℕ → ℕ → List Control → Type 0
 Places out r m [] = Unit {0}
-Places out r m (I p n info ∷ ms) =
-    (r ≤ p + 4) × (p < m) × (slice_get out p ≡ Some info) × NoneBelow p ms × Places out r m ms
+Places out r m (I p n info ∷ ms) = (r ≤ p + 4) × (p < m) × (slice_get out p ≡ Some info) × NoneBelow p ms × Places out r m ms
 Places out r m (_ ∷ ms) = Places out r m ms
 
 -- ### Counts
@@ -218,10 +217,6 @@ pub record Flows (out : List Fragment) (w a s m : ℕ) (acc : List Fragment) (th
   pub sent : length acc ≤ m
   pub counts : Counts a (length acc) back
   pub places : Places out (length acc) m there
-
--- a new session
-pub flows_new : (w : ℕ) → 0 < w → w ≤ 4 → Flows [] w 0 0 0 [] [] []
-flows_new w wide most = grind arith
 
 module _ {out : List Fragment} {w a s m : ℕ} {acc : List Fragment} {there back : List Control} (h : Flows out w a s m acc there back) where
   -- more is offered

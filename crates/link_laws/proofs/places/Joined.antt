@@ -50,10 +50,6 @@ pub received_cases : (P : EndState → Type 0) (e : EndState) (ns : ℕ) (info :
     → P (received e ns info)
 received_cases P e ns info takes same gap repeat not_ready = grind arith
 
--- a place that isn't the one expected, and not ahead of it, is behind it
-pub not_expected : (s : Session) (p : ℕ) → (ahead s (p % 8) ≡ 0 → ⊥) → p ≤ length s.acc → p < length s.acc
-not_expected s p z b = grind arith
-
 pub taken_I : (P : EndState → Type 0) (e : EndState) (ns nr x : ℕ) (info : Fragment) → e.phase ≡ Up → place_of e.session nr ≡ Some x
     → P (received (acknowledged e x) ns info) → P (taken e (I ns nr info))
 taken_I P e ns nr x info up at h = rw (up, at) (rw up at h)
@@ -409,9 +405,6 @@ few_taken e acc x xs there (Clt ∷ ms) up shows sends = absurd sends.counts
 
 -- ## Where both wires are empty, and nothing was lost and no RNR made, all is accepted and acknowledged
 
-no_marks : (wire : List OnWire) (ms : List Control) → wire ≡ [] → Shows wire ms → ms ≡ []
-no_marks wire ms e h = grind arith
-
 pub past_end : {X : Type 0} (xs : List X) (k : ℕ) → slice_get xs k ≡ None → length xs ≤ k
 past_end [] k h = omega arith
 past_end (x ∷ xs) zero h = cc
@@ -439,9 +432,8 @@ delivered_by s acc sends whole none =
 pub delivered : {W : Type 0} {near far : EndState} {to_near to_far : List OnWire} → Joined W near far to_near to_far → W
     → frame_due near ≡ None → frame_due far ≡ None → to_near ≡ [] → to_far ≡ [] → FragmentsDelivered near.session far.session
 delivered {near = near} {far} {to_near} {to_far} h w near_idle far_idle near_empty far_empty =
-    let a : h.near_marks ≡ [] = no_marks to_near h.near_marks near_empty h.near_shows in
-    let b : h.far_marks ≡ [] = no_marks to_far h.far_marks far_empty h.far_shows in
+    let a : h.near_marks ≡ [] = grind arith in
+    let b : h.far_marks ≡ [] = grind arith in
     let d : far.due ≡ [] = no_due far far_idle in
-    let whole : Whole near.session far.session.acc [] [] [] = rw (a, b, d) at (h.near_whole w (rw d tt)) in
-    let all = delivered_by near.session far.session.acc (rw (a, b) at h.near_sends) whole (no_fragment near near_idle) in
+    let all = delivered_by near.session far.session.acc (rw (a, b) at h.near_sends) (grind arith) (no_fragment near near_idle) in
     record { accepted = all.0; acked = all.1 }

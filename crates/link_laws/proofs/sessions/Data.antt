@@ -238,8 +238,7 @@ pair_send {s} {r} {info} {there = there} x inside is frame plain h =
 -- an answer is sent
 pub pair_send_S : {s r : Session} {k : Kind} {here : List OnWire} {there : Option (List OnWire)} (x : OnWire) → x.frame ≡ S k (length s.acc % 8) → Plain there
     → Pair s r here there → Pair s r here (pushed there x)
-pair_send_S {s} {r} {k} {there = there} x frame plain h =
-    record { mine = h.mine; theirs = h.theirs; comes = h.comes; goes = go there plain h.goes }
+pair_send_S {s} {r} {k} {there = there} x frame plain h = record { mine = h.mine; theirs = h.theirs; comes = h.comes; goes = go there plain h.goes }
   where
     go : (o : Option (List OnWire)) → Plain o → OnLive o r s → OnLive (pushed o x) r s
     go None p g = tt

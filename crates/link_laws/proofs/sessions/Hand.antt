@@ -2,9 +2,9 @@
 use Rattle.std.proofs.Common.{max}
 use Rattle.link_laws.proofs.Words.{Down, LinkState, List, None, NumberedShdlc, OnWire, Option, Rset, Some, Ua, Up, Waiting, [], ap, append-nil, arith, inl, inr}
 use Rattle.link_laws.proofs.Words.{older, refl, sym, ℕ, ◌++◌, ◌+◌, ◌<◌, ◌∙◌, ◌∷◌, ◌≡◌, ◌≤◌, ◌⊎◌}
-use Rattle.link_laws.proofs.sessions.Wire.{IsData, data_not_rset, data_not_ua, not_rset_adds, data_behind, rset_young, ua_young, rsets, uas, Numbered, Tail}
-use Rattle.link_laws.proofs.sessions.Wire.{AfterRset, behind_ua, live, Young, rsets-append, uas-append, numbered-append, numbered_none, tail_none, tail_push}
-use Rattle.link_laws.proofs.sessions.Wire.{tail_push_ua, behind_none, behind_push, behind_push_none, behind_new, behind_rsets, plus_one, rsets-older, uas-older}
+use Rattle.link_laws.proofs.sessions.Wire.{IsData, data_not_rset, data_not_ua, data_behind, rset_young, ua_young, rsets, uas, Numbered, Tail, AfterRset}
+use Rattle.link_laws.proofs.sessions.Wire.{behind_ua, live, Young, rsets-append, uas-append, numbered-append, numbered_none, tail_none, tail_push, tail_push_ua}
+use Rattle.link_laws.proofs.sessions.Wire.{behind_none, behind_push, behind_push_none, behind_new, behind_rsets, plus_one, rsets-older, uas-older}
 use Rattle.link_laws.proofs.sessions.Wire.{numbered_older, tail_older, behind_ua-older, live-older, older_part, young_push, young_later}
 use Rattle.link_laws.proofs.Cases.{by_option}
 
@@ -176,9 +176,8 @@ module _ {kn kf : ℕ} {n f : Peer} {to_n to_f : List OnWire} {r : ℕ} (h : Han
   pub hand_send : (x : OnWire) → n.phase ≡ Up → IsData x.frame → x.age ≡ 0 → Hand kn kf n f to_n (to_f ++ x ∷ []) r
   hand_send x up d age =
       let none : rsets to_f ≡ [] = (idle_out (λ w. let e = sym up ∙ w in cc)).no_rset in
-      let two : uas (x ∷ []) ≡ [] = grind arith in
       let a : rsets (to_f ++ x ∷ []) ≡ rsets to_f = rsets-append to_f x ∙ ap (λ l. rsets to_f ++ l) (grind arith) ∙ append-nil (rsets to_f) in
-      let b : uas (to_f ++ x ∷ []) ≡ uas to_f = uas-append to_f x ∙ ap (λ l. uas to_f ++ l) two ∙ append-nil (uas to_f) in
+      let b : uas (to_f ++ x ∷ []) ≡ uas to_f = uas-append to_f x ∙ ap (λ l. uas to_f ++ l) (grind arith) ∙ append-nil (uas to_f) in
       record {
         n_out = rw a h.n_out;
         f_out = rw b h.f_out;
@@ -196,7 +195,7 @@ module _ {kn kf : ℕ} {n f : Peer} {to_n to_f : List OnWire} {r : ℕ} (h : Han
             (λ e. behind_none_fact (behind_ua (to_f ++ x ∷ [])) (f.emitted < n.emitted) (behind_push_none to_f x (data_not_ua x.frame d) e)) (λ ys e.
             let s = behind_rsets to_f ys e in
             let empty : rsets (ys ++ x ∷ []) ≡ [] =
-            rsets-append ys x ∙ ap (λ l. rsets ys ++ l) (not_rset_adds x.frame x.age [] (data_not_rset x.frame d)) ∙ append-nil (rsets ys) ∙ sym s.0 ∙ none in
+            rsets-append ys x ∙ ap (λ l. rsets ys ++ l) (grind arith) ∙ append-nil (rsets ys) ∙ sym s.0 ∙ none in
             rw (behind_push to_f ys x e) (sure_none (rsets (ys ++ x ∷ [])) (f.emitted < n.emitted) empty));
         n_tail = h.n_tail;
         f_tail = tail_push to_f x none;
@@ -300,7 +299,7 @@ module _ {kn kf : ℕ} {n f : Peer} {x : OnWire} {to_n to_f : List OnWire} {r : 
   -- the near end takes or loses a frame of a session
   pub hand_past : IsData x.frame → Hand kn kf n f to_n to_f r
   hand_past d =
-      let a : rsets (x ∷ to_n) ≡ rsets to_n = not_rset_adds x.frame x.age (rsets to_n) (data_not_rset x.frame d) in
+      let a : rsets (x ∷ to_n) ≡ rsets to_n = grind arith in
       let b : uas (x ∷ to_n) ≡ uas to_n = grind arith in
       record {
         n_out = rw b at h.n_out;
@@ -487,12 +486,12 @@ pub hand_older : {n f : Peer} {to_n to_f : List OnWire} {r : ℕ} → Young 4 (o
     → Hand 0 0 n f to_n to_f r → Hand 1 1 n f (older to_n) (older to_f) r
 hand_older {n} {f} {to_n} {to_f} yn yf h =
     record {
-      n_out = rw (rsets-older to_f, uas-older to_n) (out n (rsets to_f) (uas to_n) h.n_out);
-      f_out = rw (rsets-older to_n, uas-older to_f) (out f (rsets to_n) (uas to_f) h.f_out);
+      n_out = rw (rsets-older to_f, uas-older to_n) (grind arith);
+      f_out = rw (rsets-older to_n, uas-older to_f) (grind arith);
       n_numbered = numbered_older n.emitted to_f h.n_numbered;
       f_numbered = numbered_older f.emitted to_n h.f_numbered;
-      n_ahead = rw (rsets-older to_n) (ahead n f.emitted (rsets to_n) h.n_ahead);
-      f_ahead = rw (rsets-older to_f) (ahead f n.emitted (rsets to_f) h.f_ahead);
+      n_ahead = rw (rsets-older to_n) (grind arith);
+      f_ahead = rw (rsets-older to_f) (grind arith);
       n_took = h.n_took;
       f_took = h.f_took;
       n_sure = rw (uas-older to_n) (sure (uas to_n) (f.took ≡ n.emitted) h.n_sure);
@@ -508,12 +507,6 @@ hand_older {n} {f} {to_n} {to_f} yn yf h =
       f_bound = h.f_bound;
     }
   where
-    out : (p : Peer) (rs us : List ℕ) → OneOut 0 p.phase p.timer rs us → OneOut 1 p.phase p.timer (plus_one rs) (plus_one us)
-    out p rs us g = grind arith
-
-    ahead : (p : Peer) (emitted : ℕ) (rs : List ℕ) → Ahead 0 p emitted rs → Ahead 1 p emitted (plus_one rs)
-    ahead p emitted rs g = grind arith
-
     sure : (us : List ℕ) (P : Type 0) → Sure us P → Sure (plus_one us) P
     sure us P g = grind arith
 

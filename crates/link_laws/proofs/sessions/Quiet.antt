@@ -18,7 +18,7 @@ use Rattle.link_laws.proofs.places.Joined.{Joined, delivered, joined_taken, join
 use Rattle.link_laws.proofs.places.Flows.{AnswersOnly}
 use Rattle.link_laws.specs.sessions.Sessions.ShdlcEndEvent.{Cut}
 use Rattle.link_laws.proofs.sessions.Wire.{IsData, rsets, uas, behind_ua, live, behind_none, data_behind, AfterRset}
-use Rattle.link_laws.proofs.sessions.Hand.{NothingIsOut, IsRset, idle_out, ua_told, rset_told, nothing_out}
+use Rattle.link_laws.proofs.sessions.Hand.{NothingIsOut, IsRset, ua_told, rset_told, nothing_out}
 use Rattle.link_laws.proofs.sessions.Safe.{Safe, Idle, frame_cases, up_end, safe_swap, safe_lose}
 use Rattle.link_laws.proofs.sessions.Sending.{SafeLink, sans-push_act, fits_keeps, no_rset_out, room, at_most_one}
 use Rattle.link_laws.proofs.sessions.Steps.{passes_act, took, took_other, not_rset, fresh, aged-fresh, sans-aged, safe_fresh, safe_aged, safe_turn, safe_turns}
@@ -134,9 +134,9 @@ resets : (kf : ℕ) (n : Losses) (ts : List ShdlcTurn) (l : ShdlcLink) (w : ℕ)
     → TiedLink (noted_here n l (Reset w ts)) (shdlc_happens_at_controller l (Reset w ts))
 resets kf n ts l w h t =
     by_phase l.controller.side.phase
-    (λ q. by_parts true (waiting_from e) (rw q refl) (rw q refl) (asks n ts l (waiting_from e) true refl (none (λ v. let g = sym q ∙ v in cc))))
+    (λ q. by_parts true (waiting_from e) (rw q refl) (rw q refl) (asks n ts l (waiting_from e) true refl (grind arith)))
     (λ q. by_parts false l.controller.side (rw q refl) (rw q refl) (stays n ts l h.n_due h.n_none t))
-    (λ q. by_parts false (waiting_from e) (rw q refl) (rw q refl) (asks n ts l (waiting_from e) false refl (none (λ v. let g = sym q ∙ v in cc))))
+    (λ q. by_parts false (waiting_from e) (rw q refl) (rw q refl) (asks n ts l (waiting_from e) false refl (grind arith)))
   where
     e : EndState
     e = record l.controller.side { own_window = w }
@@ -146,9 +146,6 @@ resets kf n ts l w h t =
     by_parts b q up is a =
         let P : Bool → EndState → Type 0 = λ c f. Goes n (with_shdlc_ended l c) ts f in
         subst (λ c. P c (reset_with l.controller.side w)) (sym up) (subst (P b) (sym is) a)
-
-    none : (l.controller.side.phase ≡ Waiting → ⊥) → uas (sans l.to_controller) ≡ []
-    none wait = (idle_out h.hand wait).no_ua
 
 silences : (n : Losses) (l : ShdlcLink) (q : EndState) → q.phase ≡ Down → TiedLink n (shdlc_silent l q)
 silences n l q down = grind arith

@@ -383,9 +383,6 @@ acts_then ts (a ∷ acts) s l due t =
     let R : List OnWire → Type 0 = λ u. States l.controller.side.phase l.host.side.phase (sans l.to_controller) u in
     subst R (sym (fits_sans w (not-true (overflows w) parts.1) ∙ sans-push_act l.to_host x refl)) (t parts.0))
 
-ignores : (s : Bool) (ts : List ShdlcTurn) (l : ShdlcLink) → SureLink s l → SureLink (sure_here s l (Ignore ts)) (shdlc_happens_at_controller l (Ignore ts))
-ignores s ts l t = grind arith
-
 none_lost : (w : List OnWire) → loses_aged w ≡ false → aged_wire w ≡ older w
 none_lost [] e = refl
 none_lost (x ∷ xs) e = let h0 = none_lost xs in grind arith
@@ -424,7 +421,7 @@ turns_sure kf (e ∷ es) s l a h t =
 sure_at : (s : Bool) (l : ShdlcLink) (e : ShdlcEndEvent) → SafeLink 0 0 l → SureLink s l → SureLink (sure_here s l e) (shdlc_happens_at_controller l e)
 sure_at s l (Turns ts) h t = stays s ts l h.n_due t
 sure_at s l (Deliver ts) h t = delivers s ts l h t
-sure_at s l (Ignore ts) h t = ignores s ts l t
+sure_at s l (Ignore ts) h t = grind arith
 sure_at s l (Acts acts ts) h t = acts_then ts acts s l h.n_due t
 sure_at s l Lose h t = loses s l t
 sure_at s l (Reset w ts) h t = resets 0 s ts l w h t

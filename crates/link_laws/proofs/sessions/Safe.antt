@@ -78,8 +78,8 @@ module _ {kn kf : ℕ} {n f : NumberedShdlc} {to_n to_f : List OnWire} {r : ℕ}
         hand = hand;
         n_base = of_update (λ k t. Base t (shdlc_session_of f k)) n g on.was_up on.up refl refl h.n_base pair.mine;
         f_base = of_update (λ k t. Base (shdlc_session_of f k) t) n g on.was_up on.up refl refl h.f_base pair.theirs;
-        n_live = n_live;
-        f_live = f_live (live f.side.phase to_f') refl pair.goes;
+        n_live = grind arith;
+        f_live = grind arith;
         n_past = let a : Below (shdlc_number_of n) n.past = rw on.was_up at h.n_past in rw on.up a;
         f_past = h.f_past;
         n_none = λ no. absurd (no on.up);
@@ -93,16 +93,9 @@ module _ {kn kf : ℕ} {n f : NumberedShdlc} {to_n to_f : List OnWire} {r : ℕ}
       g : NumberedShdlc
       g = record n { side = q }
 
-      n_live : OnLive (live q.phase to_n') (session_with g n) (session_with f n)
-      n_live = grind arith
-
       moved : (k m : ℕ) (w : List OnWire) → k ≡ m → OnLive (Some w) (shdlc_session_of f k) (shdlc_session_of g k)
           → OnLive (Some w) (shdlc_session_of f m) (shdlc_session_of g m)
       moved k m w e a = let P : ℕ → Type 0 = λ j. OnLive (Some w) (shdlc_session_of f j) (shdlc_session_of g j) in subst P e a
-
-      f_live : (o : Option (List OnWire)) → live f.side.phase to_f' ≡ o → OnLive o (session_with f n) q.session
-          → OnLive o (session_with f f) (session_with g f)
-      f_live o e lives = grind arith
 
 -- ## Parts of wires with one frame more or less
 
@@ -285,11 +278,10 @@ module _ {kn kf : ℕ} {n f : NumberedShdlc} {to_n to_f : List OnWire} {r : ℕ}
       let gone : ended_session g.past (shdlc_number_of g) ≡ no_session = none_ended (shdlc_number_of g) (shdlc_number_of g) g.past (omega arith) ended.below in
       let n_base : (k : ℕ) → Base (ended_session g.past k) (shdlc_session_of f k) = ended.moves (λ k s. Base s (shdlc_session_of f k)) h.n_base in
       let f_base : (k : ℕ) → Base (shdlc_session_of f k) (ended_session g.past k) = ended.moves (λ k s. Base (shdlc_session_of f k) s) h.f_base in
-      let theirs : Base (session_with f g) (new_session w) = grind arith in
       record {
         hand = hand;
         n_base = begins_at (λ k t. Base t (shdlc_session_of f k)) g new.up n_base (rw new.session (let h0 = (session_with f g) in grind arith));
-        f_base = begins_at (λ k t. Base (shdlc_session_of f k) t) g new.up f_base (rw new.session theirs);
+        f_base = begins_at (λ k t. Base (shdlc_session_of f k) t) g new.up f_base (rw new.session (grind arith));
         n_live = grind arith;
         f_live = grind arith;
         n_past = rw new.up ended.below;
@@ -389,12 +381,8 @@ safe_lose {kn} {n} {f} {x} {to_n} {to_f} {r} h = go (frame_cases x)
     t : Session
     t = session_with f n
 
-    up : n.side.phase ≡ Up → OnLive (live n.side.phase to_n) s t
-    up e =
-        live_to Up n.side.phase to_n s t (sym e) (active_lost x to_n s t (h.n_base (shdlc_number_of n)) (grind arith))
-
     data_live : IsData x.frame → (p : LinkState) → n.side.phase ≡ p → OnLive (live n.side.phase to_n) s t
-    data_live d Up e = up e
+    data_live d Up e = (live_to Up n.side.phase to_n s t (sym e) (active_lost x to_n s t (h.n_base (shdlc_number_of n)) (grind arith)))
     data_live d Down e = live_to Down n.side.phase to_n s t (sym e) tt
     data_live d Waiting e = grind arith
 

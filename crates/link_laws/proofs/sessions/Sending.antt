@@ -160,8 +160,7 @@ put_all-append l (c ∷ cs) ds = put_all-append (shdlc_put l c) cs ds
 
 pub offer_at : (kf : ℕ) (l : ShdlcLink) (fragments : List Fragment) → l.controller.side.phase ≡ Up → SafeLink 0 kf l
     → SafeAt 0 kf l (put_out l.controller.side fragments)
-offer_at kf l fragments q h =
-    up_step l (record { was_up = q; up = q; due = h.n_due; own = refl; peer = refl }) (pair_put fragments (pair_from h q)) h
+offer_at kf l fragments q h = up_step l (record { was_up = q; up = q; due = h.n_due; own = refl; peer = refl }) (pair_put fragments (pair_from h q)) h
 
 pub ready_at : (kf : ℕ) (l : ShdlcLink) (r : Bool) → SafeLink 0 kf l → SafeAt 0 kf l (changed l.controller.side r l.controller.side.due)
 ready_at kf l r h = other (phase_known e.phase)
@@ -174,16 +173,13 @@ ready_at kf l r h = other (phase_known e.phase)
         let p = pair_from h up in
         up_step l (record { was_up = up; up = up; due = h.n_due; own = refl; peer = refl }) (pair_next p.mine.from p.mine.sent refl p) h
     other (inl no_up) =
-        safe_idle h no_up (record { phase = refl; due = refl; session = (grind arith); own = refl; peer = refl }) refl h.hand
+        safe_idle h no_up (record { phase = refl; due = refl; session = grind arith; own = refl; peer = refl }) refl h.hand
 
 pub turn_pending : (kf : ℕ) (l : ShdlcLink) (e : EndState) (t : ShdlcTurn) → Pending kf l e → Pending kf l (shdlc_turn e t)
 turn_pending kf l e (Offer fragments) h =
     by_phase {P = Pending kf l (shdlc_turn e (Offer fragments))} e.phase
-    (λ p. let P : EndState → Type 0 = λ f. Pending kf l f in subst P (sym (rw p refl)) (up p)) (λ p. other (rw p refl)) (λ p. other (rw p refl))
+    (λ p. let P : EndState → Type 0 = λ f. Pending kf l f in subst P (sym (rw p refl)) (up p)) (λ p. grind arith) (λ p. grind arith)
   where
-    other : shdlc_turn e (Offer fragments) ≡ e → Pending kf l (shdlc_turn e (Offer fragments))
-    other q = let P : EndState → Type 0 = λ f. Pending kf l f in subst P (sym q) h
-
     up : e.phase ≡ Up → Pending kf l (put_out e fragments)
     up p =
         let m : ShdlcLink = with_shdlc_controller (shdlc_put_all l (controls e)) (record e { due = [] }) in

@@ -117,12 +117,10 @@ silences kn kf l q down none due windows h =
         subst P is (safe_silent h due windows ended)
 
 cuts : (kn kf : ℕ) (l : ShdlcLink) → SafeLink kn kf l → SafeLink 0 kf (shdlc_silent l (new_end 4))
-cuts kn kf l h =
-    silences kn kf l (new_end 4) refl refl refl (record { own = (omega arith, omega arith); peer = (omega arith, omega arith) }) h
+cuts kn kf l h = silences kn kf l (new_end 4) refl refl refl (record { own = (omega arith, omega arith); peer = (omega arith, omega arith) }) h
 
 stops : (kn kf : ℕ) (l : ShdlcLink) → SafeLink kn kf l → SafeLink 0 kf (shdlc_silent l (stopped l.controller.side))
-stops kn kf l h =
-    silences kn kf l (stopped l.controller.side) refl refl refl (record { own = h.n_windows.own; peer = h.n_windows.peer }) h
+stops kn kf l h = silences kn kf l (stopped l.controller.side) refl refl refl (record { own = h.n_windows.own; peer = h.n_windows.peer }) h
 
 -- ## A tick of the controller's end
 

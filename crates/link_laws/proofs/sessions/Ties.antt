@@ -6,7 +6,7 @@ use Rattle.link_laws.proofs.Words.{arith, cond, core_turned as shdlc_turned, dro
 use Rattle.link_laws.proofs.Words.{is_rnr, length, length-append, min, nat_lt, new_session, noted_all, noted_loss, older, overflows, put_out, refl, sans}
 use Rattle.link_laws.proofs.Words.{shdlc_put, shdlc_put_all, shdlc_turn, subst, suc, sym, true, with_frame, with_shdlc_controller, zero, ℕ, ◌++◌}
 use Rattle.link_laws.proofs.Words.{◌+◌, ◌<◌, ◌||◌, ◌∙◌, ◌∷◌, ◌≡◌, ◌≤◌, ◌⊎◌}
-use Rattle.link_laws.proofs.places.Flows.{AnswersOnly, Whole, flows_new}
+use Rattle.link_laws.proofs.places.Flows.{AnswersOnly}
 use Rattle.link_laws.proofs.places.Joined.{Joined, after_frames_idle, fetch_cases, fetched_idle, idle_after, joined_exchanged, joined_fetched, joined_older}
 use Rattle.link_laws.proofs.places.Joined.{joined_put, joined_ready, left, ready_cases}
 use Rattle.link_laws.proofs.sessions.Wire.{IsData, rsets, uas, behind_ua, live, behind_new, live-older}
@@ -67,9 +67,6 @@ waiting_new e waiting h = rw waiting (grind arith)
 pub none_due : (v : ℕ) → fragment_due (new_session v) ≡ None
 none_due v = grind arith
 
-new_idle : (e : EndState) → IsNew e → frame_due e ≡ None
-new_idle e h = rw (h.due, h.session, none_due h.window) refl
-
 pub new_meets : (n f : EndState) → IsNew n → IsNew f → Meets n f [] []
 new_meets n f g h =
     record {
@@ -82,17 +79,14 @@ new_meets n f g h =
         far_marks = [];
         near_shows = tt;
         far_shows = tt;
-        near_sends = rw (g.session, h.session) (flows_new g.window g.fits.0 g.fits.1);
-        far_sends = rw (g.session, h.session) (flows_new h.window h.fits.0 h.fits.1);
-        near_whole = λ v d. rw (g.session, h.session) (whole g.window f.due);
-        far_whole = λ v d. rw (g.session, h.session) (whole h.window n.due);
+        near_sends = rw (g.session, h.session) (grind arith);
+        far_sends = rw (g.session, h.session) (grind arith);
+        near_whole = λ v d. rw (g.session, h.session) (grind arith);
+        far_whole = λ v d. rw (g.session, h.session) (grind arith);
       };
-      near = new_idle n g;
-      far = new_idle f h;
+      near = (rw (g.due, g.session, none_due g.window) refl);
+      far = (rw (h.due, h.session, none_due h.window) refl);
     }
-  where
-    whole : (w : ℕ) (d : List Due) → Whole (new_session w) [] d [] []
-    whole w d = record { caught = refl; told = λ e. refl; free = refl; acks = tt }
 
 pub tied_new : (W : Type 0) (n f : EndState) (to_n to_f : List OnWire) → IsNew (as_up n.phase n) → IsNew (as_up f.phase f)
     → ((a : List OnWire) → live n.phase to_n ≡ Some a → a ≡ []) → ((b : List OnWire) → live f.phase to_f ≡ Some b → b ≡ []) → Tied W n f to_n to_f
@@ -267,7 +261,7 @@ pub drains : (m : ℕ) → 6 ≤ m → (n : Losses) (ts : List ShdlcTurn) (l : S
 drains m i n ts l e up answers few h =
     let k = turns_keep n ts e l (up, answers, h) in
     tied_drains m n (shdlc_turned e ts) l
-    (k.0, k.1, λ w b q. let r = k.2 w b q in (r.0, r.1, omega (arith, i, (few_turns ts e up few), r.0.near_sends.acked_next, r.0.near_sends.window)))
+    (k.0, k.1, λ w b q. let r = k.2 w b q in (r.0, r.1, omega (arith, i, few_turns ts e up few, r.0.near_sends.acked_next, r.0.near_sends.window)))
 
 -- an end with nothing to send
 pub nothing_sent : (m : ℕ) (e : EndState) → frame_due e ≡ None → frames_of m e ≡ []

@@ -99,20 +99,18 @@ no_ua_step c a r h = grind arith
 
 pub numbered_none : (m : ℕ) (w : List OnWire) → rsets w ≡ [] → Numbered m w
 numbered_none m [] h = tt
-numbered_none m (x ∷ xs) h = ((grind arith), numbered_none m xs (no_rset_step x.frame x.age (rsets xs) h).0)
+numbered_none m (x ∷ xs) h = (grind arith, numbered_none m xs (no_rset_step x.frame x.age (rsets xs) h).0)
 
 pub tail_none : (w : List OnWire) → rsets w ≡ [] → Tail w
 tail_none [] h = tt
 tail_none (x ∷ xs) h =
-    let s = no_rset_step x.frame x.age (rsets xs) h in
-    let h0 = Tail xs in let h1 = tail_none xs s.0 in grind arith
+    let h0 = Tail xs in let h1 = tail_none xs (no_rset_step x.frame x.age (rsets xs) h).0 in grind arith
 
 -- any frame may stand behind frames without an RSET
 pub tail_push : (w : List OnWire) (x : OnWire) → rsets w ≡ [] → Tail (w ++ x ∷ [])
 tail_push [] x h = grind arith
 tail_push (y ∷ w) x h =
-    let s = no_rset_step y.frame y.age (rsets w) h in
-    let h0 = w ++ x ∷ [] in let h1 = Tail (w ++ x ∷ []) in let h2 = tail_push w x s.0 in grind arith
+    let h0 = w ++ x ∷ [] in let h1 = Tail (w ++ x ∷ []) in let h2 = tail_push w x (no_rset_step y.frame y.age (rsets w) h).0 in grind arith
 
 -- a UA may stand behind an RSET where there is none yet
 pub tail_push_ua : (w : List OnWire) (x : OnWire) → x.frame ≡ Ua → uas w ≡ [] → Tail w → Tail (w ++ x ∷ [])
@@ -207,9 +205,6 @@ data_not_rset c h = grind arith
 
 pub data_not_ua : (c : Control) → IsData c → NotUa c
 data_not_ua c h = grind arith
-
-pub not_rset_adds : (c : Control) (a : ℕ) (r : List ℕ) → NotRset c → add_rset c a r ≡ r
-not_rset_adds c a r h = grind arith
 
 pub data_behind : (c : Control) (w : List OnWire) (o : Option (List OnWire)) → IsData c → behind_step c w o ≡ o
 data_behind c w o h = grind arith

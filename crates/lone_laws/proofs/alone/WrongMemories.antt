@@ -1,8 +1,7 @@
 -- Small wrong memories don't keep the commands of a run: one for each fact of `FindsBehind`, of which the others hold.
-use Rattle.std.proofs.Common.{leb, true≢false}
-use Rattle.lone_laws.proofs.Words.{Bool, Command, Counts, CountsAll, FindsBehind, FindsTables, HciTables, IsKeptIn, IsReadyMemory, List, None, [], ap, arith}
-use Rattle.lone_laws.proofs.Words.{close, false, inl, inr, journal, leb-true, length, records, refl, replicate, subst, sym, tables_of, true, ℕ, ◌++◌, ◌+◌}
-use Rattle.lone_laws.proofs.Words.{◌∷◌, ◌≡◌}
+use Rattle.std.proofs.Common.{true≢false}
+use Rattle.lone_laws.proofs.Words.{Bool, Command, Counts, FindsBehind, FindsTables, HciTables, IsKeptIn, IsReadyMemory, List, None, [], ap, arith, close, false}
+use Rattle.lone_laws.proofs.Words.{inl, inr, leb-true, length, refl, replicate, subst, sym, tables_of, true, ℕ, ◌++◌, ◌∷◌, ◌≡◌}
 use Rattle.hci_tables.specs.declared.command.Command.TheVariants as command
 use Rattle.journal_laws.specs.Records.{found_from}
 use Rattle.hci_store.specs.Image.{image_fault}
@@ -25,15 +24,11 @@ head version base snapshot = 90 ∷ version ∷ 0 ∷ 0 ∷ 0 ∷ 1 ∷ 0 ∷ 0 
 abbrev bank : ℕ → ℕ → ℕ → List ℕ
 bank version base snapshot = head version base snapshot ++ replicate 65524 255
 
-counts_all : (m : List ℕ) → leb (journal m).head.snapshot ((journal m).head.base + length (records m)) ≡ true → CountsAll m
-counts_all m enough = leb-true (journal m).head.snapshot ((journal m).head.base + length (records m)) enough
-
 -- ## Other tables
 
 -- a bank with one record, of an identifier, which is said to be of its snapshot: so no command is counted
 abbrev other_record : List ℕ
-other_record =
-    head 2 0 1 ++ 90 ∷ 4 ∷ 0 ∷ 0 ∷ 6 ∷ 2 ∷ 0 ∷ 1 ∷ 255 ∷ replicate 65515 255
+other_record = head 2 0 1 ++ 90 ∷ 4 ∷ 0 ∷ 0 ∷ 6 ∷ 2 ∷ 0 ∷ 1 ∷ 255 ∷ replicate 65515 255
 
 finds_another : IsKeptIn false blank [] other_record → ⊥
 unfolding found_from no_syncs
@@ -50,7 +45,7 @@ other_count = bank 2 5 0
 
 counts_more : IsKeptIn false blank [] other_count → ⊥
 unfolding found_from
-counts_more k = let same : 5 ≡ 0 = (k.counts (counts_all blank refl)).count_is in omega (arith, same)
+counts_more k = let same : 5 ≡ 0 = (k.counts (grind arith)).count_is in omega (arith, same)
 
 count_alone : FindsTables other_count (close (tables_of blank))
 unfolding found_from image_fault

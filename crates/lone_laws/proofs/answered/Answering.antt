@@ -93,11 +93,8 @@ module _ (rest : Core) (number h : ℕ) (some : 1 ≤ h) (most : h ≤ 7) (s : �
     abbrev T : List Entry
     T = t ++ w.entries
 
-    link_k : k ≡ h
-    link_k = same_link rest number h some most s t its w a on k m messages waits
-
     pub its_lack : lack_since F h T m ≡ lacking w k m
-    its_lack = lack_read rest number h some most s t w a its k m link_k
+    its_lack = lack_read rest number h some most s t w a its k m (same_link rest number h some most s t its w a on k m messages waits)
 
     pub its_left : unhandled_in T e ≡ m ∷ messages
     its_left =
@@ -111,7 +108,7 @@ module _ (rest : Core) (number h : ℕ) (some : 1 ≤ h) (most : h ≤ 7) (s : �
         ≡ entries_of_deeds w.core e (session_of_end (own_port rest number h some most s t its w a on k m messages waits)) (deeds_of w.core w.ports k m)
     its_reply =
         let D : List Deed = deeds_of w.core w.ports k m in
-        ap (λ d. noted_since F h T d) (deeds_read rest number h some most s t w a its k m link_k)
+        ap (λ d. noted_since F h T d) (deeds_read rest number h some most s t w a its k m (grind arith))
         ∙ (ap (λ (c : Core). noted_as_reply number h (session_now T e number) c (count_of c.journal) D) (core_read rest number h some most s t w a)
         ∙ (ap (λ o. noted_as_reply number h o w.core (count_of w.core.journal) D) (session_read rest number h some most s t w a)
         ∙ reply_told number h (session_of_end (own_port rest number h some most s t its w a on k m messages waits)) w.core a.known.keeps.node

@@ -6,7 +6,6 @@ use Rattle.lone_laws.proofs.Words.{has_come_so, has_freed, has_synced, input_at,
 use Rattle.lone_laws.proofs.Words.{same_end_itself, started, stopped, sym, syncs_in, times_out, told_at, told_late, true, unless_cut, whole_acked, with_older}
 use Rattle.lone_laws.proofs.Words.{without_notice, ℕ, ◌++◌, ◌∙◌, ◌∷◌, ◌≡◌}
 use Rattle.link_laws.proofs.machine.Reports.{activated_got, moved_got, reset_got, took_got}
-use Rattle.node_laws.proofs.steps.StepWalks.{unless}
 use Rattle.lone_laws.proofs.answered.Reading.{Read, read_all, told_read, reads_of, Alone, read_more, alone_as}
 use Rattle.lone_laws.proofs.answered.Turning.{own_end}
 
@@ -32,8 +31,7 @@ lone_got e Tick a = nothing_more e (after_input e Tick) (let h0 = is_open e.role
 lone_got e (Reset window) a = nothing_more e (after_input e (Reset window)) (reset_got e window)
 lone_got e (Start value) a =
     nothing_more e (started e value) (activated_got (moved e true (stopped e.shdlc)) (ActStart value) ∙ moved_got e true (stopped e.shdlc))
-lone_got e Stop a =
-    nothing_more e (deactivated e) (activated_got (moved e true (stopped e.shdlc)) ActStop ∙ moved_got e true (stopped e.shdlc))
+lone_got e Stop a = nothing_more e (deactivated e) (activated_got (moved e true (stopped e.shdlc)) ActStop ∙ moved_got e true (stopped e.shdlc))
 lone_got e _ a = absurd a
 
 -- it comes to the end
@@ -49,10 +47,6 @@ without_none : (p : Port) → p.desk.notice ≡ None → without_notice p ≡ p
 without_none p q = grind arith
 
 -- ## Before the pass
-
--- doing nothing changes nothing
-undone : (w : Work) → unless_cut (all_done 0 []) w ≡ w
-undone w = unless (λ v. v ≡ w) (all_done 0 []) w (λ v q. q) refl
 
 -- no notice is late
 times_none : (input : NodeInput) (v : Work) (q : Port) → v.ports ≡ q ∷ [] → q.desk.notice ≡ None → times_out input v ≡ v
@@ -114,4 +108,4 @@ module _ (number h : ℕ) (r : Read) (t : List Entry) where
     pass_is =
         ap (λ d. unless_cut (all_done 0 d) (has_synced input w))
         (ap (λ v. all_owed (map (forgets v.ports) v.ports)) came_is ∙ owed_left (all_come input w) came_port came_ports a.none)
-        ∙ (undone (has_synced input w) ∙ ap (all_done 0 (syncs_in input w)) freed_is)
+        ∙ ((grind arith) ∙ ap (all_done 0 (syncs_in input w)) freed_is)

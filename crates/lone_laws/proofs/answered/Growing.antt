@@ -1,16 +1,16 @@
 -- Each session of a node alone has a greater number than those before it: behind each one that waits an RSET went out.
-use Rattle.lone_laws.proofs.Words.{About, ActDue, ActEvent, ActFrame, ActStart, ActStop, ActTake, ActTick, AllByRecursion, Asked, AsksFor, Bool, Clt, Commits}
-use Rattle.lone_laws.proofs.Words.{Control, Deed, Desk, EndState, FetchMessage, Fragment, Give, Hold, I, IsAnswered, Lasts, LinkEnd, LinkInput, LinkState, List}
-use Rattle.lone_laws.proofs.Words.{Message, NodeInput, None, Orders, Port, Rej_due, Release, Releases, Reset, Rnr_due, Rr_due, Rset, Rset_due, S, Sends}
-use Rattle.lone_laws.proofs.Words.{SetAside, SetsErrors, Some, Sound, Start, Stop, Take, TakeUnknown, Tells, Tick, Turn, Ua, Ua_due, Waiting, Work, []}
-use Rattle.lone_laws.proofs.Words.{acknowledged, activated, after_frames, after_input, after_sessions, after_turn, all_changed, all_come, all_map, all_owed}
-use Rattle.lone_laws.proofs.Words.{among, anyone, ap, arith, aside_refusal, asked_at, began_by, by_list, by_option, by_test, cond, done, drop, due_left, eqb}
-use Rattle.lone_laws.proofs.Words.{false, fetched, filter, flat_map, forgets, forgotten, frames_of, frames_out, give_refusal, got_at, heard, if_up, inl, inr}
-use Rattle.lone_laws.proofs.Words.{is_faulty, is_forgotten, is_open, is_over, is_rset, is_some, is_waiting, length, length-append, map, most_frames, moved}
-use Rattle.lone_laws.proofs.Words.{nat_lt, not, notified, noting, place_of, received, received_cases, refl, reset_refusal, reset_with, rest_lasts, rsets_among}
-use Rattle.lone_laws.proofs.Words.{rsets_due, rsets_since, runs_timer, sent_all, steps, stopped, suc, sym, synced, take, take_answer, taken, tick_answer}
-use Rattle.lone_laws.proofs.Words.{ticked, times_out, true, true≢false, turn, turn_at, waiting_from, window_of, with_desk, with_port, with_ready}
-use Rattle.lone_laws.proofs.Words.{without_notice, zero, ℕ, ◌++◌, ◌+◌, ◌-◌, ◌<◌, ◌==◌, ◌∙◌, ◌∷◌, ◌≡◌, ◌≤◌, ◌⊎◌}
+use Rattle.lone_laws.proofs.Words.{About, ActDue, ActFrame, AllByRecursion, Asked, AsksFor, Bool, Clt, Commits, Control, Deed, Desk, EndState, FetchMessage}
+use Rattle.lone_laws.proofs.Words.{Fragment, Give, Hold, I, IsAnswered, Lasts, LinkEnd, LinkInput, LinkState, List, Message, NodeInput, None, Orders, Port}
+use Rattle.lone_laws.proofs.Words.{Rej_due, Release, Releases, Reset, Rnr_due, Rr_due, Rset, Rset_due, S, Sends, SetAside, SetsErrors, Some, Sound, Start, Stop}
+use Rattle.lone_laws.proofs.Words.{Take, TakeUnknown, Tells, Tick, Turn, Ua, Ua_due, Waiting, Work, [], acknowledged, after_frames, after_input, after_sessions}
+use Rattle.lone_laws.proofs.Words.{after_turn, all_changed, all_come, all_map, all_owed, among, anyone, ap, arith, aside_refusal, asked_at, began_by, by_list}
+use Rattle.lone_laws.proofs.Words.{by_option, by_test, cond, done, drop, due_left, eqb, false, fetched, filter, flat_map, forgets, forgotten, frames_of}
+use Rattle.lone_laws.proofs.Words.{frames_out, give_refusal, got_at, heard, if_up, inl, inr, is_faulty, is_forgotten, is_open, is_over, is_rset, is_some}
+use Rattle.lone_laws.proofs.Words.{is_waiting, length, length-append, map, most_frames, moved, nat_lt, not, notified, noting, place_of, received}
+use Rattle.lone_laws.proofs.Words.{received_cases, refl, reset_refusal, reset_with, rest_lasts, rsets_among, rsets_due, rsets_since, runs_timer, sent_all}
+use Rattle.lone_laws.proofs.Words.{steps, suc, sym, synced, take, take_answer, taken, tick_answer, ticked, times_out, true, true≢false, turn, turn_at}
+use Rattle.lone_laws.proofs.Words.{waiting_from, window_of, with_desk, with_port, with_ready, without_notice, zero, ℕ, ◌++◌, ◌+◌, ◌-◌, ◌<◌, ◌==◌, ◌∙◌, ◌∷◌, ◌≡◌}
+use Rattle.lone_laws.proofs.Words.{◌≤◌, ◌⊎◌}
 use Rattle.link_laws.proofs.sessions.Sending.{at_most_one}
 use Rattle.node_machine.specs.Parts.About.{Removed, Waits}
 use Rattle.shdlc_core.specs.declared.answers.Due.{Due}
@@ -131,9 +131,6 @@ moved_asked e b s a = grind arith
 still_asked : (s : EndState) (e : LinkEnd) → e.shdlc ≡ s → IsAsked s e
 still_asked s e q = (same_more s e.shdlc q, λ still. inl (ap is_waiting q ∙ still))
 
-activated_asked : (e : LinkEnd) (event : ActEvent) → IsAsked e.shdlc (activated e event)
-activated_asked e event = grind arith
-
 heard_asked : (e : LinkEnd) (c : Control) → IsAsked e.shdlc (heard e c)
 heard_asked e c = by_test (is_faulty (taken e.shdlc c).session)
     (λ q. rw q (grind arith))
@@ -143,23 +140,19 @@ heard_asked e c = by_test (is_faulty (taken e.shdlc c).session)
 open_asked : (e : LinkEnd) (c : Control) → IsAsked e.shdlc (cond (is_open e.role) (heard e c) e)
 open_asked e c = by_test (is_open e.role) (λ q. rw q (heard_asked e c)) (λ q. rw q (still_asked e.shdlc e refl))
 
--- an end that starts anew or stops
-anew_asked : (s : EndState) (e : LinkEnd) (event : ActEvent) → e.shdlc ≡ stopped s → IsAsked s (activated e event)
-anew_asked s e event q = grind arith
-
 input_asked : (e : LinkEnd) (i : LinkInput) → IsLoneInput i → IsAsked e.shdlc (after_input e i)
-input_asked e (Take (ActFrame act again)) a = activated_asked e (ActTake act again)
+input_asked e (Take (ActFrame act again)) a = grind arith
 input_asked e (Take Clt) a = still_asked e.shdlc (after_input e (Take Clt)) refl
 input_asked e (Take c) a = open_asked e c
 input_asked e TakeUnknown a = still_asked e.shdlc (after_input e TakeUnknown) refl
 input_asked e Tick a = by_test (is_open e.role)
     (λ q. rw q (moved_asked e (is_some (tick_answer e.shdlc).ended) (ticked e.shdlc) (ticked_so e.shdlc)))
-    (λ q. rw q (activated_asked e ActTick))
+    (λ q. rw q (grind arith))
 input_asked e (Reset window) a = by_option (reset_refusal e)
     (λ q. rw q (moved_asked e (is_some (if_up e.shdlc Asked)) (reset_with e.shdlc (window_of e window)) (reset_so e.shdlc (window_of e window))))
     (λ why q. rw q (still_asked e.shdlc e refl))
-input_asked e (Start value) a = anew_asked e.shdlc (moved e true (stopped e.shdlc)) (ActStart value) refl
-input_asked e Stop a = anew_asked e.shdlc (moved e true (stopped e.shdlc)) ActStop refl
+input_asked e (Start value) a = grind arith
+input_asked e Stop a = grind arith
 input_asked e _ a = absurd a
 
 -- ## Each session of a node alone has a greater number than those before it
@@ -179,17 +172,14 @@ pub record IsTurned (s f : LinkEnd) : Type 0 where
 held_turned : (e : EndState) (r : Bool)
     → (is_waiting (with_ready e r) ≡ is_waiting e) × (rsets_among e.due ≤ rsets_among (with_ready e r).due) × (most_due (with_ready e r) ≤ most_due e)
 held_turned e r = go e.ready r e.session.answered_rnr refl refl where
-  same : (f : EndState) → f ≡ e → (is_waiting f ≡ is_waiting e) × (rsets_among e.due ≤ rsets_among f.due) × (most_due f ≤ most_due e)
-  same f q = grind arith
-
   fewer : (b : Bool) → length e.due + 0 ≤ length e.due + cond b 1 0
   fewer b = grind arith
 
   go : (was now noted : Bool) → e.ready ≡ was → e.session.answered_rnr ≡ noted
       → (let f : EndState = with_ready e now in
       (is_waiting f ≡ is_waiting e) × (rsets_among e.due ≤ rsets_among f.due) × (most_due f ≤ most_due e))
-  go true true noted p q = same (with_ready e true) (rw p refl)
-  go false false noted p q = same (with_ready e false) (rw p refl)
+  go true true noted p q = grind arith
+  go false false noted p q = grind arith
   go true false noted p q = grind arith
   go false true true p q =
       let is : with_ready e true ≡ record e { ready = true; due = e.due ++ Rr_due ∷ []; session = record e.session { answered_rnr = false } } =
@@ -306,7 +296,7 @@ among_rsets n [] fs = refl
 among_rsets n (a ∷ acts) fs =
     let k : ℕ = a.behind - n in
     let back = among_rsets a.behind acts (drop k fs) in
-    omega (arith, (rsets-append (take k fs) (ActFrame a.frame false ∷ (among a.behind acts (drop k fs)))), back, (take_and_drop k fs))
+    omega (arith, rsets-append (take k fs) (ActFrame a.frame false ∷ (among a.behind acts (drop k fs))), back, take_and_drop k fs)
 
 frames_rsets : (n : ℕ) (e : EndState) → length e.due ≤ n → rsets_among e.due ≤ rsets_of (frames_of n e)
 frames_rsets zero e few = by_list e.due (λ q. rw q (omega arith)) (λ d ds q. absurd (let z = ap (λ (l : List Due). length l) q in omega (arith, few, z)))
@@ -329,11 +319,6 @@ after_waits : (n : ℕ) (e : EndState) → is_waiting (after_frames n e) ≡ is_
 after_waits zero e = refl
 after_waits (suc n) e = let h0 = after_waits n (fetched e) in grind arith
 
--- ### Sessions that begin
-
-since_more : (i : LinkInput) (rsets : ℕ) → rsets ≤ rsets_since i rsets
-since_more i rsets = grind arith
-
 -- ### Between events
 
 -- All that was due went out; the last session has no greater number than RSETs were put and taken, and a smaller one where the end waits.
@@ -355,7 +340,7 @@ numbered_then e session rsets a sound i may f turned = go (began_by e i) refl wh
   few : length f.shdlc.due ≤ most_frames
   few =
       let less = at_least f.shdlc.session.answered_rnr in
-      omega (arith, input.0, (ap (λ (l : List Due). length l) a.emptied), turned.few, (at_most_one s.shdlc.session.answered_rnr), less)
+      omega (arith, input.0, (ap (λ (l : List Due). length l) a.emptied), turned.few, at_most_one s.shdlc.session.answered_rnr, less)
     where
       at_least : (b : Bool) → 0 ≤ cond b 1 0
       at_least true = omega arith
@@ -368,7 +353,7 @@ numbered_then e session rsets a sound i may f turned = go (began_by e i) refl wh
   waits = after_waits most_frames f.shdlc ∙ turned.waits
 
   more : rsets ≤ rsets_since i rsets
-  more = since_more i rsets
+  more = grind arith
 
   out : rsets_due f ≤ rsets_of (frames_out f)
   out = out_rsets f few

@@ -3,9 +3,9 @@ use Rattle.std.specs.Prelude.{◌+◌, length, Some, None}
 use Rattle.lone_laws.proofs.Words.{AllByRecursion, ComesTo, Commits, Control, Core, Deed, Desk, End, Entry, LinkEnd, LinkInput, List, Lone, LoneCause, Port}
 use Rattle.lone_laws.proofs.Words.{Running, Work, [], after_input, all_come, all_do, all_done, all_synced_hold, ap, append_assoc, arith, by_list, by_test, cond}
 use Rattle.lone_laws.proofs.Words.{done, emits_behind, eqb, errors_found, false, filter, fine_at, frames_behind, frames_out, goes_in, is_rset, lone_arrival}
-use Rattle.lone_laws.proofs.Words.{lone_behind_step, lone_end, lone_input, lpdu_of, map, node_input, own_side, passes, port_at, refl, report}
-use Rattle.lone_laws.proofs.Words.{rsets_since, sent_all, session_with, side_behind, sound_sent, steps_are, subst, sym, syncs_in, told_at, true, true≢false}
-use Rattle.lone_laws.proofs.Words.{whole_acked, ℕ, ◌++◌, ◌∙◌, ◌∷◌, ◌≡◌, ◌≤◌}
+use Rattle.lone_laws.proofs.Words.{lone_behind_step, lone_end, lone_input, lpdu_of, map, node_input, own_side, passes, refl, report, rsets_since, sent_all}
+use Rattle.lone_laws.proofs.Words.{session_with, side_behind, sound_sent, steps_are, subst, sym, syncs_in, told_at, true, true≢false, whole_acked, ℕ, ◌++◌, ◌∙◌}
+use Rattle.lone_laws.proofs.Words.{◌∷◌, ◌≡◌, ◌≤◌}
 use Rattle.trace_model.specs.declared.entry.Entry.TheVariants as entry
 use Rattle.lone_laws.proofs.answered.Reading.{eqb_same, Read, Alone}
 use Rattle.lone_laws.proofs.answered.Coming.{IsLoneInput, pass_is, came_is, came_ports, came_entries}
@@ -145,7 +145,6 @@ module _ (rest : Core) (t : List Entry) (l : Lone) (some : 1 ≤ l.link) (most :
       let side : side_behind l last ≡ talks.port.side = side_is R t l last alone still ∙ ap (λ (p : Port). p.side) (sym ports) in
       let own : eqb talks.port.desk.host l.link ≡ true = ap (λ x. eqb x l.link) talks.host ∙ eqb_same l.link in
       let its_turns : IsTurned (after_input l.side i) talks.port.side = (subst (AreTurned (after_input l.side i)) talks.ports_are last_turned).0 in
-      let here : port_at last.ports l.link ≡ Some talks.port = grind arith in
       subst (λ (x : LinkEnd). LoneTalks (t ++ (last.entries ++ emits)) (record behind { side = sent_all x })) (sym side)
       (record {
         talk =
@@ -158,7 +157,7 @@ module _ (rest : Core) (t : List Entry) (l : Lone) (some : 1 ≤ l.link) (most :
         sound = sound_sent talks.port.side talks.sound;
         aside = talks.aside;
         role = talks.role;
-        clean = (fine_at last.ports l.link talks.port b.known.fine here).clean;
+        clean = (fine_at last.ports l.link talks.port b.known.fine (grind arith)).clean;
       })
 
   errs_behind : last.cut ≡ false → ErrorsAre e (errors_found G) (t ++ (last.entries ++ emits)) (errors_of (map (λ (p : Port). p.desk) last.ports))

@@ -19,8 +19,7 @@ use Rattle.lone_laws.proofs.answered.Coming.{IsLoneInput, came_entries, came_is,
 use Rattle.lone_laws.proofs.answered.Growing.{IsNumbered}
 use Rattle.lone_laws.proofs.answered.Memories.{IsOwnDeed}
 use Rattle.lone_laws.proofs.answered.Reading.{Alone, AreNothing, Read, eqb_same, held_is, left_is, nothing_read, read-append, read_all, reads_of}
-use Rattle.lone_laws.proofs.answered.Talking.{AreSilent, Reads, Talk, input_aside, input_grows, input_kind, input_talk, kind_of, reads_silent, talk_of_side}
-use Rattle.lone_laws.proofs.answered.Talking.{told_reads}
+use Rattle.lone_laws.proofs.answered.Talking.{Reads, Talk, input_aside, input_grows, input_kind, input_talk, kind_of, reads_silent, talk_of_side, told_reads}
 use Rattle.lone_laws.proofs.answered.Rooms.{Talks, talks_desk, talks_does, talks_note, talks_turn}
 use Rattle.lone_laws.proofs.answered.Stepping.{alone_begins, alone_steps, lone_comes, passed, syncs_own}
 use Rattle.lone_laws.proofs.answered.Turning.{IsHere, alone_at, alone_handled, alone_held, alone_here, alone_lasts, link_is, own_deeds, own_end}
@@ -516,9 +515,6 @@ pub record LoneTalks (t : List Entry) (l : Lone) : Type 0 where
   pub role : kind_of l.side.role ≡ Some (eqb l.number 0)
   pub clean : AreSendable l.side.got
 
-arrival_silent : (l : Lone) (c : LoneCause) → AreSilent (lone_arrival l c)
-arrival_silent l c = grind arith
-
 lone_sound : (s : LinkEnd) (i : LinkInput) → IsLoneInput i → Sound s → Sound (after_input s i)
 lone_sound s (Take c) may a = sound_input s (Take c) tt a
 lone_sound s TakeUnknown may a = sound_input s TakeUnknown tt a
@@ -576,7 +572,7 @@ module _ (found : Core) (t : List Entry) (l : Lone) (some : 1 ≤ l.link) (most 
             (whole_acked (after_input l.side i)) (t ++ first) (report l.side i) X
             (λ q. grind arith)
             (λ q. sym (same q)) (λ q. input_grows l.side i may talk.sound k l.session same q)
-            (reads_silent e l.number l.session t first X (arrival_silent l c) talk.talk))));
+            (reads_silent e l.number l.session t first X (grind arith) talk.talk))));
       }
 
   syncs_fine : AllByRecursion IsFine (syncs_in (node_input l.link i) begins)

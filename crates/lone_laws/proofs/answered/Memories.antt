@@ -493,17 +493,11 @@ module _ (E : Type 0) (tables : HciTables) (many : ℕ) (before : List Command) 
       left =
           subst (λ l. FindsMore E tables many l left ⊎ FindsLess E tables many l left) (sym (behind ∙ all_are))
           (either (subst (λ x. FindsIf E x w.core.tables (count_of w.core.journal)
-          ⊎ FindsIf E x (apply w.core.tables c) (count_of (committed w.core.journal w.core.tables (body_of c)))) (sym memory_is)
-          (planned_left E h.memory w.core.journal w.core.tables c h.knows h.sorted h.recordable may room now)));
+          ⊎ FindsIf E x (apply w.core.tables c) (count_of (committed w.core.journal w.core.tables (body_of c)))) (sym (grind arith))
+          (planned_left E h.memory w.core.journal w.core.tables c h.knows h.sorted h.recordable may room (grind arith))));
     } where
-      now : fails_within (length writes) h.memory.plan ≡ true
-      now = ap (fails_within (length writes)) (sym h.plan_is) ∙ fails
-
       left : List ℕ
       left = (after_planned (w.writes ++ writes) old).content
-
-      memory_is : left ≡ (after_planned writes h.memory).content
-      memory_is = ap (λ (m : Memory). m.content) (h.written writes)
 
       behind : before ++ commands_of_entries (begun.entries ++ entry.Cut w.core.node ∷ []) ≡ before ++ commands_of_entries begun.entries
       behind = ap (λ l. before ++ l) (commands_more begun.entries (entry.Cut w.core.node ∷ []) ∙ append-nil (commands_of_entries begun.entries))

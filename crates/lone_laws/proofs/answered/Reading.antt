@@ -1,13 +1,13 @@
 -- What a node with one link keeps in a step is what is read off all entries until there: its tables and its journal, the messages that wait,
 -- and whether the first of them was noted as held.
 use Rattle.std.specs.Prelude.{nat_lt, length, None}
-use Rattle.lone_laws.proofs.Words.{Acked, Active, AllByRecursion, AreTables, AreTables-apply, Bool, Command, Commits, Core, Deed, Down, Drops, End}
-use Rattle.lone_laws.proofs.Words.{Entry, FetchMessage, GaveUp, Give, Got, IsAnswered, IsCommand, JoinTwo, JoinTwo-after, LinkEnd, List, Message}
-use Rattle.lone_laws.proofs.Words.{Noted, Port, Release, Releases, Report, SaysOk, Sends, SetsErrors, Side, Turn, Up, Work, [], after_turn, ap, append-nil}
-use Rattle.lone_laws.proofs.Words.{append_assoc, arith, body_of, by_test, commit, commit_writes, common_steps, cond, core_noted, core_with, done, end_of}
-use Rattle.lone_laws.proofs.Words.{end_of_node, end_of_node_alone, entries_for, eqb, fails_within, false, fold, fold-append, holds_after, if_so, keeps, map}
-use Rattle.lone_laws.proofs.Words.{noted_of, noting, option_map_or, option_to_list, port_at, refl, same_end, sym, told, true, true≢false, turn, turn_at}
-use Rattle.lone_laws.proofs.Words.{unhandled_after, with_port, ℕ, ◌++◌, ◌∙◌, ◌∷◌, ◌≡◌}
+use Rattle.lone_laws.proofs.Words.{Acked, Active, AllByRecursion, AreTables, AreTables-apply, Bool, Command, Commits, Core, Deed, Down, Drops, End, Entry}
+use Rattle.lone_laws.proofs.Words.{FetchMessage, GaveUp, Give, Got, IsAnswered, IsCommand, JoinTwo, JoinTwo-after, List, Message, Noted, Port, Release}
+use Rattle.lone_laws.proofs.Words.{Releases, Report, SaysOk, Sends, SetsErrors, Side, Turn, Up, Work, [], after_turn, ap, append-nil, append_assoc, arith}
+use Rattle.lone_laws.proofs.Words.{body_of, by_test, commit, commit_writes, common_steps, cond, core_noted, core_with, done, end_of, end_of_node}
+use Rattle.lone_laws.proofs.Words.{end_of_node_alone, entries_for, eqb, fails_within, false, fold, fold-append, holds_after, if_so, keeps, map, noted_of}
+use Rattle.lone_laws.proofs.Words.{noting, option_map_or, option_to_list, port_at, refl, same_end, sym, told, true, true≢false, turn_at, unhandled_after}
+use Rattle.lone_laws.proofs.Words.{with_port, ℕ, ◌++◌, ◌∙◌, ◌∷◌, ◌≡◌}
 use Rattle.trace_model.specs.declared.entry.Entry.TheVariants as entry
 use Rattle.lone_laws.proofs.answered.Memories.{IsOwnDeed}
 
@@ -138,11 +138,8 @@ abbrev pub IsNoFetching : Turn → Type 0
 IsNoFetching FetchMessage = ⊥
 IsNoFetching _ = Unit {0}
 
-turn_got : (e : LinkEnd) (x : Turn) → IsNoFetching x → (turn e x).got ≡ e.got
-turn_got e x a = grind arith
-
 turn_same : (x : Turn) → IsNoFetching x → (p : Port) → IsSamePort p (after_turn x p)
-turn_same x a p = record { host = refl; none = λ q. q; got = turn_got p.side x a; holds = refl }
+turn_same x a p = record { host = refl; none = λ q. q; got = grind arith; holds = refl }
 
 module _ (number h : ℕ) (r : Read) (t : List Entry) where
   abbrev pub e : End

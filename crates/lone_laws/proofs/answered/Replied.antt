@@ -199,7 +199,7 @@ module _ (core : Core) (p : Port) (h : ℕ) (host : p.desk.host ≡ h) where
     knows = grind arith
 
     one_deeds : (m : Message) → deeds_of core (p ∷ []) h m ≡ deeds_for (view_with_link core h (end_view p) (spare p.side)) h m
-    one_deeds m = by_test ((eqb core.node 0))
+    one_deeds m = by_test (eqb core.node 0)
         (λ q. deeds_near machine h m q ∙ (same_deeds machine said h knows m ∙ sym (deeds_near said h m q)))
         (λ q. grind arith)
 

@@ -50,8 +50,7 @@ to_turn (x ∷ entries) = if is_own_turn x then [] else x ∷ to_turn entries
 
 -- the node answers so until its next turn
 abbrev pub AnswersOwn : List Entry → List Entry → Type 0
-AnswersOwn entries answers =
-    filter is_own_answer (to_turn entries) ≡ (if list_any is_own_cut (to_turn entries) then to_command answers else answers)
+AnswersOwn entries answers = filter is_own_answer (to_turn entries) ≡ (if list_any is_own_cut (to_turn entries) then to_command answers else answers)
 
 -- a message that has its turn is replied to so
 abbrev pub IsRepliedOwn : Core → ℕ → List Entry → Entry → List Entry → Type 0
@@ -119,7 +118,7 @@ module _ (l : Lone) (its : eqb l.number 0 ≡ false → l.number ≡ l.link) whe
 
   frames_own : (frames : List Control) → AreOwn l.number (map (λ c. entry.Emit (lone_end l) (lpdu_of c)) frames)
   frames_own [] = tt
-  frames_own (c ∷ frames) = ((grind arith), frames_own frames)
+  frames_own (c ∷ frames) = (grind arith, frames_own frames)
 
   fine_own : (w : Work) → Fine l.number w → AreOwn l.number w.entries
   fine_own w (inl r) = r.own
@@ -280,21 +279,12 @@ module _ (number h : ℕ) where
         → IsNotedSo (all_done k (Commits c ∷ Sends to m ∷ SaysOk ∷ []) u).cut (noted_by_deeds k (Commits c ∷ Sends to m ∷ SaysOk ∷ []) u)
         (reads (Commits c ∷ Sends to m ∷ SaysOk ∷ []))
     commit_noted c to m takes = go (goes_in c u) refl where
-      begun : Work
-      begun = noting (entry.Command u.core.node c ∷ []) u
-
       writes : List Write
       writes = commit_writes u.core.journal u.core.tables (body_of c)
 
-      kept : Work
-      kept = keeps c writes begun
-
-      lost : Work
-      lost = loses_power writes begun
-
       by : Bool → Work
-      by true = lost
-      by false = kept
+      by true = (loses_power writes (noting (entry.Command u.core.node c ∷ []) u))
+      by false = (keeps c writes (noting (entry.Command u.core.node c ∷ []) u))
 
       its : (b : Bool) → goes_in c u ≡ b → done k (Commits c) u ≡ by b
       its b q = grind arith
@@ -307,18 +297,14 @@ module _ (number h : ℕ) where
       go true q = grind arith
       go false q = grind arith
 
-    quiet_noted : (d : Deed) → (done k d u).cut ≡ false → noted_by_deeds k (d ∷ []) u ≡ reads (d ∷ [])
-        → IsNotedSo (all_done k (d ∷ []) u).cut (noted_by_deeds k (d ∷ []) u) (reads (d ∷ []))
-    quiet_noted d still same = subst (λ b. IsNotedSo b (noted_by_deeds k (d ∷ []) u) (reads (d ∷ []))) (sym (one_cut k d u still)) same
-
     pub reply_noted : (deeds : List Deed) → IsLoneReply deeds → ((to : ℕ) (m : Message) → lack u.ports (needs k (Sends to m ∷ [])) ≡ None → TakesIt p to m)
         → lack u.ports (needs k deeds) ≡ None → IsNotedSo (all_done k deeds u).cut (noted_by_deeds k deeds u) (reads deeds)
     reply_noted _ IsNone takes room = subst (λ b. IsNotedSo b [] []) (sym on) refl
     reply_noted _ (IsDrop pid) takes room = grind arith
-    reply_noted _ (IsSend to m) takes room = quiet_noted (Sends to m) on (let h0 = takes to m room in grind arith)
+    reply_noted _ (IsSend to m) takes room = grind arith
     reply_noted _ (IsCommit c to m) takes room = commit_noted c to m (takes to m room)
     reply_noted _ (IsSet v to m) takes room = grind arith
-    reply_noted _ IsHeard takes room = quiet_noted IsAnswered on (ap (λ b. cond b [] []) on)
+    reply_noted _ IsHeard takes room = grind arith
 
 -- ### Answers until the next turn
 
@@ -356,7 +342,7 @@ deeds_answer e session (_ ∷ deeds) core = deeds_answer e session deeds core
 
 pub answers_unbooted : (es : List Entry) → AllByRecursion IsAnswerEntry es → AreNoBoots es
 answers_unbooted [] a = tt
-answers_unbooted (x ∷ es) a = ((grind arith), answers_unbooted es a.1)
+answers_unbooted (x ∷ es) a = (grind arith, answers_unbooted es a.1)
 
 -- What is noted as a reply, and then nothing until the next turn, are the answers that are read.
 pub noted_answers : (number h : ℕ) (cut : Bool) (noted reply rest : List Entry) → AllByRecursion IsAnswerEntry reply → IsNotedSo number h cut noted reply

@@ -4,9 +4,9 @@ use Rattle.lone_laws.proofs.Words.{Acked, Active, AllByRecursion, Asked, Bool, C
 use Rattle.lone_laws.proofs.Words.{GaveUp, Got, IsResetAlone, LinkEnd, LinkInput, List, Lone, LoneCause, LpduFault, NodeInput, Noted, Ok, Option, Report}
 use Rattle.lone_laws.proofs.Words.{ResetComes, Result, Running, Side, Some, Sound, StartComes, StopComes, TickComes, Up, Work, [], after_input, all_come, ap}
 use Rattle.lone_laws.proofs.Words.{arith, come_entries, control_of, emits_behind, ended_by, ended_by_reset, entries_for, entry_of, eqb, false, frames_behind}
-use Rattle.lone_laws.proofs.Words.{if_so, is_asked_down, is_reset_alone, is_up, is_up_read, list_any, lone_arrival, lone_end, lone_input, lpdu_input, lpdu_of}
-use Rattle.lone_laws.proofs.Words.{map, node_input, option_to_list, own_side, refl, report, reset_refusal, rest_all, session_with, subst, sym, told, told_at}
-use Rattle.lone_laws.proofs.Words.{whole_acked, ℕ, ◌++◌, ◌||◌, ◌∙◌, ◌∷◌, ◌≡◌, ◌≤◌}
+use Rattle.lone_laws.proofs.Words.{if_so, is_asked_down, is_up, is_up_read, list_any, lone_arrival, lone_end, lone_input, lpdu_input, lpdu_of, map, node_input}
+use Rattle.lone_laws.proofs.Words.{option_to_list, own_side, refl, report, reset_refusal, rest_all, session_with, subst, sym, told, told_at, whole_acked, ℕ}
+use Rattle.lone_laws.proofs.Words.{◌++◌, ◌||◌, ◌∙◌, ◌∷◌, ◌≡◌, ◌≤◌}
 use Rattle.trace_model.specs.declared.entry.Entry.TheVariants as entry
 use Rattle.node_laws.proofs.passes.InSteps.{IsOfStep, step_keeps}
 use Rattle.lone_laws.proofs.answered.Reading.{Alone}
@@ -88,9 +88,6 @@ emits_quiet : (f : End) (frames : List Control) → AreQuiet (map (λ c. entry.E
 emits_quiet f [] = tt
 emits_quiet f (c ∷ frames) = (refl, emits_quiet f frames)
 
-arrival_quiet : (l : Lone) (c : LoneCause) → AreQuiet (lone_arrival l c)
-arrival_quiet l c = grind arith
-
 module _ (rest : Core) (t : List Entry) (l : Lone) (some : 1 ≤ l.link) (most : l.link ≤ 7) (its : eqb l.number 0 ≡ false → l.number ≡ l.link) (n : Running)
     (k : KeepsAll rest t l n) (c : LoneCause) (i : LinkInput) (comes : lone_input c ≡ Some i) where
   abbrev G : Core
@@ -111,7 +108,7 @@ module _ (rest : Core) (t : List Entry) (l : Lone) (some : 1 ≤ l.link) (most :
   came_tells : list_any is_asked_down (all_come input first).entries ≡ resets c (is_up l.side.shdlc.phase)
   came_tells =
       ap (list_any is_asked_down) (came_entries l.number l.link (begin_read G) t i (lone_comes c i comes) first a)
-      ∙ (any_front (lone_arrival l c) (told_at first.core a.port (Some i)) (arrival_quiet l c)
+      ∙ (any_front (lone_arrival l c) (told_at first.core a.port (Some i)) (grind arith)
       ∙ (told_asked a.port.desk.host (own_side first.core) (session_with l i) (whole_acked (after_input l.side i)) (report l.side i)
       ∙ input_asked l.side c i comes k.talks.sound))
 
@@ -125,9 +122,6 @@ module _ (rest : Core) (t : List Entry) (l : Lone) (some : 1 ≤ l.link) (most :
   -- Its session ends by a reset exactly where that is asked for.
   pub reset_in_step : IsResetAlone G l.link t (record { cause = c; entries = last.entries ++ emits_behind l last })
   reset_in_step =
-      any_quiet last.entries (emits_behind l last) (emits_quiet (lone_end l) (frames_behind l last)) ∙ (last_tells ∙ by c) where
+      any_quiet last.entries (emits_behind l last) (emits_quiet (lone_end l) (frames_behind l last)) ∙ (last_tells ∙ (grind arith)) where
         up : is_up l.side.shdlc.phase ≡ is_up_read t l.number l.link
         up = grind arith
-
-        by : (c : LoneCause) → resets c (is_up l.side.shdlc.phase) ≡ is_reset_alone G l.link t c
-        by c = grind arith

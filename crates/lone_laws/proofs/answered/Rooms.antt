@@ -32,10 +32,6 @@ given_talk s m k may sound =
     ap (λ c. record (talk_of_side s k) { sent = s.sent ++ m ∷ []; acked = c })
     (whole_given s.sent m s.shdlc.session.acked (let n = may.1 in omega (arith, n)) (omega (arith, len, sound.is.acked, sound.is.reached)))
 
--- where a message isn't refused the end is up
-given_up : (s : LinkEnd) (m : Message) (k : ℕ) → give_refusal s m ≡ None → (talk_of_side s k).session ≡ Some k
-given_up s m k taken = grind arith
-
 module _ (e : End) (n : ℕ) (who : Side) (h : ℕ) (own : same_end (end_of h who) e ≡ true) (t : List Entry) where
   none_more : (k : ℕ) (s : LinkEnd) → Reads e n k t (talk_of_side s k) → Reads e n k (t ++ []) (talk_of_side s k)
   none_more k s r = subst (λ l. Reads e n k l (talk_of_side s k)) (sym (append-nil t)) r
@@ -44,7 +40,7 @@ module _ (e : End) (n : ℕ) (who : Side) (h : ℕ) (own : same_end (end_of h wh
       → Reads e n k (t ++ entries_for h (turn_entry who k s (Give m))) (talk_of_side (turn s (Give m)) k)
   sent_reads s k m may sound r = by_option (give_refusal s m)
       (λ q. rw q (subst (Reads e n k (t ++ entry.Sent (end_of h who) k m.0 m.1 ∷ [])) (sym (given_talk s m k may sound))
-      (reads_sent e n t (end_of h who) own k (talk_of_side s k) k m.0 m.1 (given_up s m k q) r)))
+      (reads_sent e n t (end_of h who) own k (talk_of_side s k) k m.0 m.1 (grind arith) r)))
       (λ why q. rw q (none_more k s r))
 
   pub turn_reads : (s : LinkEnd) (k : ℕ) (x : Turn) → IsLoneTurn x → Sound s → Reads e n k t (talk_of_side s k)

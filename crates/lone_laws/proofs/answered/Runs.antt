@@ -282,9 +282,6 @@ module _ (rest : Core) (number h : ℕ) (some : 1 ≤ h) (most : h ≤ 7) (its :
 
 -- ### Events
 
-arrival_none : (l : Lone) (c : LoneCause) → commands_of_entries (lone_arrival l c) ≡ []
-arrival_none l c = grind arith
-
 emits_none : (e : End) (frames : List Control) → commands_of_entries (map (λ c. entry.Emit e (lpdu_of c)) frames) ≡ []
 emits_none e [] = refl
 emits_none e (c ∷ frames) = emits_none e frames
@@ -327,7 +324,7 @@ module _ (E : Type 0) (tables : HciTables) (many : ℕ) where
       es = last.entries ++ emits_behind l last
 
       none : before ++ commands_of_entries (lone_arrival l c) ≡ before
-      none = ap (λ x. before ++ x) (arrival_none l c) ∙ append-nil before
+      none = ap (λ x. before ++ x) (grind arith) ∙ append-nil before
 
       told : commands_of_entries (t ++ es) ≡ before ++ commands_of_entries last.entries
       told =
@@ -406,11 +403,9 @@ module _ (E : Type 0) (tables : HciTables) (many : ℕ) where
         ((run_remembers causes) (t ++ (lone_step l c).1) (lone_step l c).0 (each_step rest number h some most its t l c q k).1 (step_remembers t l c q k b))))
         (λ q. let event : LoneEvent = record { cause = c; entries = (lone_step l c).1 } in
         let is : lone_events l (c ∷ causes) ≡ [] = ap (λ b. cond b (event ∷ lone_events (lone_step l c).0 causes) []) q in
-        let same : lone_after l (c ∷ causes) ≡ l = off_stays (c ∷ causes) l (none_of l.node q) in
+        let same : lone_after l (c ∷ causes) ≡ l = off_stays (c ∷ causes) l (grind arith) in
         subst (λ x. AllRemembered E tables many (t ++ entries_of_events_alone x) (lone_after l (c ∷ causes))) (sym is)
-        (subst (λ (x : Lone). AllRemembered E tables many (t ++ []) x) (sym same) (subst (λ x. AllRemembered E tables many x l) (sym (append-nil t)) b))) where
-          none_of : (o : Option Running) → is_some o ≡ false → o ≡ None
-          none_of o q = grind arith
+        (subst (λ (x : Lone). AllRemembered E tables many (t ++ []) x) (sym same) (subst (λ x. AllRemembered E tables many x l) (sym (append-nil t)) b)))
 
 -- ### Its beginning
 

@@ -17,8 +17,7 @@ use Rattle.lone_laws.proofs.answered.Keeping.{core_of, KeepsAll, all_passing}
 
 -- an entry that changes nothing of what is read of a reply
 abbrev pub IsIdle : End → ℕ → Entry → Type 0
-IsIdle e n x =
-    ((c : Core) → core_noted c x ≡ c) × IsSilent x × IsSettled e x × ((ms : List Message) → unhandled_after e ms x ≡ ms)
+IsIdle e n x = ((c : Core) → core_noted c x ≡ c) × IsSilent x × IsSettled e x × ((ms : List Message) → unhandled_after e ms x ≡ ms)
 
 idle_core : (e : End) (n : ℕ) (es : List Entry) → AllByRecursion (IsIdle e n) es → (c : Core) → fold core_noted c es ≡ c
 idle_core e n [] a c = refl

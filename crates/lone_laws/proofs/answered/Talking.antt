@@ -152,11 +152,8 @@ module _ (e : End) where
     same_count : (before : ℕ) (b : Bool) (s : Saying) → acked_after j before (Some s) ≡ before → acked_after j before (cond b (Some s) None) ≡ before
     same_count before b s q = grind arith
 
-    uncounted : (before : ℕ) (x : Entry) → IsUncounted x → acked_after j before (said_of e x) ≡ before
-    uncounted before x a = grind arith
-
     acked_same : (t : List Entry) (x : Entry) → IsUncounted x → acked_in (t ++ x ∷ []) e j ≡ acked_in t e j
-    acked_same t x a = fold-append _ 0 t (x ∷ []) ∙ uncounted (acked_in t e j) x a
+    acked_same t x a = fold-append _ 0 t (x ∷ []) ∙ (grind arith)
 
     acked_one : (t : List Entry) (f : End) (k count : ℕ) → same_end f e ≡ true → eqb k j ≡ true
         → acked_in (t ++ entry.Acked f k count ∷ []) e j ≡ max (acked_in t e j) count
@@ -224,9 +221,6 @@ pub record Reads (e : End) (n s : ℕ) (t : List Entry) (x : Talk) : Type 0 wher
   pub none_acked : (k : ℕ) → s < k → acked_in t e k ≡ 0
   pub unasked : asking_in t e.link ≡ None
 
-apart : (k j : ℕ) → k < j → eqb k j ≡ false
-apart k j less = grind (arith, common_steps)
-
 module _ (e : End) (n : ℕ) where
   silent_one : (s : ℕ) (t : List Entry) (x : Talk) (y : Entry) → IsSilent y → Reads e n s t x → Reads e n s (t ++ y ∷ []) x
   silent_one s t x y a r = record {
@@ -289,7 +283,7 @@ module _ (e : End) (n : ℕ) where
               sent_one e j t f k pid message own (subst (λ z. eqb k z ≡ true) same (eqb_same k)) ∙ ap (λ l. l ++ (pid, message) ∷ []) (r.sent j q);
           acked = λ j q. acked_same e j t y tt ∙ r.acked j q;
           none_sent = λ j q.
-              let most = r.low k now in sent_other e j t f k pid message own (apart k j (omega (arith, q, most))) ∙ r.none_sent j q;
+              let most = r.low k now in sent_other e j t f k pid message own (grind (arith, common_steps)) ∙ r.none_sent j q;
           none_acked = λ j q. acked_same e j t y tt ∙ r.none_acked j q;
           unasked = unasked_more e.link t y tt r.unasked;
         }
@@ -305,14 +299,12 @@ module _ (e : End) (n : ℕ) where
           sent = λ j q. sent_same e j t y tt ∙ r.sent j q;
           acked = λ j q.
               let same : k ≡ j = cc in
-              acked_one e j t f k count own (subst (λ z. eqb k z ≡ true) same (eqb_same k)) ∙ omega (arith, (r.acked j q), more);
+              acked_one e j t f k count own (subst (λ z. eqb k z ≡ true) same (eqb_same k)) ∙ omega (arith, r.acked j q, more);
           none_sent = λ j q. sent_same e j t y tt ∙ r.none_sent j q;
           none_acked = λ j q.
-              let most = r.low k now in acked_other e j t f k count own (apart k j (omega (arith, q, most))) ∙ r.none_acked j q;
+              let most = r.low k now in acked_other e j t f k count own (grind (arith, common_steps)) ∙ r.none_acked j q;
           unasked = unasked_more e.link t y tt r.unasked;
         }
-
--- ### Spare blocks
 
 -- ## The session of an end, the messages sent in it and how many of them are acknowledged are what is read, over what comes to it
 

@@ -18,9 +18,6 @@ pub record IsHere (p : Port) (k : ℕ) (m : Message) (messages : List Message) :
   pub own : eqb p.desk.host k ≡ true
   pub got : p.side.got ≡ m ∷ messages
 
-pub is_here : (p : Port) (k : ℕ) (m : Message) (messages : List Message) → waiting_at (p ∷ []) k ≡ m ∷ messages → IsHere p k m messages
-is_here p k m messages q = grind arith
-
 module _ (number h : ℕ) (some : 1 ≤ h) (most : h ≤ 7) (r : Read) (t : List Entry) where
   abbrev e : End
   e = end_of_node_alone number h
@@ -30,7 +27,7 @@ module _ (number h : ℕ) (some : 1 ≤ h) (most : h ≤ 7) (r : Read) (t : List
 
   -- the end of the link is the one where messages wait
   pub alone_here : (k : ℕ) (m : Message) (messages : List Message) (w : Work) (a : Of w) → waiting_at w.ports k ≡ m ∷ messages → IsHere a.port k m messages
-  alone_here k m messages w a waits = is_here a.port k m messages (ap (λ ps. waiting_at ps k) (sym a.ports_are) ∙ waits)
+  alone_here k m messages w a waits = grind arith
 
   pub link_is : (k : ℕ) (p : Port) → p.desk.host ≡ h → eqb p.desk.host k ≡ true → k ≡ h
   link_is k p host own = sym (eqb-true p.desk.host k own) ∙ host
@@ -40,22 +37,18 @@ module _ (number h : ℕ) (some : 1 ≤ h) (most : h ≤ 7) (r : Read) (t : List
   pub own_deeds : (k : ℕ) (m : Message) (w : Work) (a : Of w) → eqb a.port.desk.host k ≡ true → AreOwnDeeds number (deeds_of w.core w.ports k m)
   own_deeds k m w a own =
       subst (λ ps. AreOwnDeeds number (deeds_of w.core ps k m)) (sym a.ports_are) (go (eqb w.core.node 0) refl) where
-        same : k ≡ h
-        same = link_is k a.port a.host own
-
         go : (b : Bool) → eqb w.core.node 0 ≡ b → AreOwnDeeds number (deeds_of w.core (a.port ∷ []) k m)
         go true q =
             let good : AreTables w.core.tables × JoinTwo w.core.tables.rows = a.good (ap (λ n. eqb n 0) (sym a.node) ∙ q) in
-            rw q (controller_own number w.core a.port k m (eqb-true a.port.desk.host k own) a.none (subst (λ n. 1 ≤ n) (sym same) some)
-            (subst (λ n. n ≤ 7) (sym same) most) good.0 good.1)
+            rw q (controller_own number w.core a.port k m (eqb-true a.port.desk.host k own) a.none (subst (λ n. 1 ≤ n) (sym (grind arith)) some)
+            (subst (λ n. n ≤ 7) (sym (link_is k a.port a.host own)) most) good.0 good.1)
         go false q = rw (q, own) (host_own number (ap (λ n. eqb n 0) (sym a.node) ∙ q) w.core a.port m a.command)
 
   pub alone_takes : (k : ℕ) (m : Message) (messages : List Message) (w : Work) → Of w → waiting_at w.ports k ≡ m ∷ messages → Of (takes_up k m w)
   alone_takes k m messages w a waits =
-      let here : IsHere a.port k m messages = alone_here k m messages w a waits in
       let f : Port → Port = after_turn FetchMessage in
       let g : Port → Port = λ p. record p { desk = record p.desk { holds = false } } in
-      let one : with_port k f (a.port ∷ []) ≡ f a.port ∷ [] = ap (λ b. changed_if b f a.port ∷ []) here.own in
+      let one : with_port k f (a.port ∷ []) ≡ f a.port ∷ [] = ap (λ b. changed_if b f a.port ∷ []) (alone_here k m messages w a waits).own in
       let own : same_end (end_of_node w.core k) e ≡ true = ap (λ x. same_end x e) (grind arith) ∙ same_end_itself e in
       let R : Read = reads_of w.core a.port in
       alone_as a (g (f a.port)) (takes_up k m w).ports (takes_up k m w).entries

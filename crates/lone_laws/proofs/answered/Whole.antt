@@ -1,6 +1,6 @@
 -- Every history of a node alone answers as is read: turns stand in order, and power that is lost is noted.
 use Rattle.std.specs.List.{filter_map}
-use Rattle.std.specs.Prelude.{None, Option, Some, is_none, is_some, length, not, ◌+◌}
+use Rattle.std.specs.Prelude.{None, Option, Some, is_none, is_some, length, not}
 use Rattle.lone_laws.proofs.Words.{AllByRecursion, AllByRecursion-append, AnsweredAlone, AreInTurn, AreNoTurns, AreOwn, AreTables, AreTables-apply}
 use Rattle.lone_laws.proofs.Words.{AreTables-close, AreTables-none, AtEachLoneEvent, AtEachNoted, Bool, Command, Commits, Control, Core, Deed, End, Entry}
 use Rattle.lone_laws.proofs.Words.{ErrorCount, FetchMessage, FrameIsRefused, HciTables, HearsFirstAlone, Hold, IsAscending, IsCommand, IsDueAlone, IsFirstThere}
@@ -60,21 +60,15 @@ turn_noted h x w a q = any_more w.entries (option_map_or (noted_of w.core x) (po
 more_noted : (w v : Work) (es : List Entry) → v.cut ≡ w.cut → v.entries ≡ w.entries ++ es → IsCutNoted w → IsCutNoted v
 more_noted w v es cut entries a q = subst (λ l. list_any is_own_cut l ≡ true) (sym entries) (any_more w.entries es (a (sym cut ∙ q)))
 
-deed_noted : (h : ℕ) (d : Deed) (w : Work) → (done h d w).cut ≡ w.cut → IsCutNoted w → IsCutNoted (done h d w)
-deed_noted h d w cut a = more_noted w (done h d w) (noted_by_deed h d w) cut (deed_notes h d w) a
-
 cut_deed : (h : ℕ) (d : Deed) (w : Work) → Unit {0} → IsCutNoted w → IsCutNoted (done h d w)
 cut_deed h (Commits c) w may a = by_test (fails_within (length (commit_writes w.core.journal w.core.tables (body_of c))) w.plan)
     (λ is. rw is (λ q. any_behind (w.entries ++ entry.Command w.core.node c ∷ []) (entry.Cut w.core.node ∷ []) refl))
     (λ is. rw is (more_noted w (by false) (entry.Command w.core.node c ∷ []) refl refl a)) where
-      begun : Work
-      begun = noting (entry.Command w.core.node c ∷ []) w
-
       by : Bool → Work
-      by true = loses_power (commit_writes w.core.journal w.core.tables (body_of c)) begun
-      by false = keeps c (commit_writes w.core.journal w.core.tables (body_of c)) begun
-cut_deed h (Sends to m) w may a = deed_noted h (Sends to m) w refl a
-cut_deed h d w may a = deed_noted h d w refl a
+      by true = loses_power (commit_writes w.core.journal w.core.tables (body_of c)) (noting (entry.Command w.core.node c ∷ []) w)
+      by false = keeps c (commit_writes w.core.journal w.core.tables (body_of c)) (noting (entry.Command w.core.node c ∷ []) w)
+cut_deed h (Sends to m) w may a = (more_noted w (done h (Sends to m) w) (noted_by_deed h (Sends to m) w) refl (deed_notes h (Sends to m) w) a)
+cut_deed h d w may a = (more_noted w (done h d w) (noted_by_deed h d w) refl (deed_notes h d w) a)
 
 cut_lasts : Lasts IsCutNoted (λ d. Unit {0}) (λ h m. Unit {0})
 cut_lasts = record {
@@ -129,9 +123,6 @@ own_ascend e es each n = same_ascend e.link (filter_map (turn_link n) es) (links
 
 -- ### What comes
 
-arrival_unanswered : (l : Lone) (c : LoneCause) → AreUnanswered (lone_arrival l c)
-arrival_unanswered l c = grind arith
-
 emits_unheard : (e : End) (frames : List Control) → AreUnheard (map (λ c. entry.Emit e (lpdu_of c)) frames)
 emits_unheard e [] = tt
 emits_unheard e (c ∷ frames) = (refl, emits_unheard e frames)
@@ -143,7 +134,7 @@ heard_in_step : (l : Lone) (c : LoneCause) (input : NodeInput) (w : Work) → w.
 heard_in_step l c input w begins e frames front behind x q n =
     let emits : List Entry = map (λ c. entry.Emit e (lpdu_of c)) frames in
     let parted : IsParted ((steps input w).entries ++ emits) =
-    step_parted input w emits (subst AreUnanswered (sym begins) (arrival_unanswered l c)) (emits_unheard e frames) in
+    step_parted input w emits (subst AreUnanswered (sym begins) (grind arith)) (emits_unheard e frames) in
     first_heard n ((steps input w).entries ++ emits) front behind x (parted_for n ((steps input w).entries ++ emits) parted) q
 
 -- ## Every history of a node alone answers as is read
@@ -375,8 +366,7 @@ fine_one t (Some c) may fine = (AreTables-apply t c (may c refl) fine.0, JoinTwo
 
 fine_fold : (t : HciTables) (bodies : List (List ℕ)) → AreTables t × JoinTwo t.rows → AreTables (fold applied t bodies) × JoinTwo (fold applied t bodies).rows
 fine_fold t [] fine = fine
-fine_fold t (body ∷ bodies) fine =
-    fine_fold (applied t body) bodies (fine_one t (command_of body) (λ c e. command_read (spelled_by body) c e) fine)
+fine_fold t (body ∷ bodies) fine = fine_fold (applied t body) bodies (fine_one t (command_of body) (λ c e. command_read (spelled_by body) c e) fine)
 
 fine_tables : (content : List ℕ) → AreTables (close (tables_of content)) × JoinTwo (close (tables_of content)).rows
 fine_tables content =

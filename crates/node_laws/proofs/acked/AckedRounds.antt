@@ -1,20 +1,20 @@
 -- In rounds and in whatever happens in a world, an end that takes a frame has a window of fragments more acknowledged at most.
 use Rattle.node_laws.proofs.Words.{AcksAtMost, Activates, AllAllowed, AllAtController, AllAtHost, AllByRecursion, AreDifferent, AreHosts, ArePlayable}
 use Rattle.node_laws.proofs.Words.{AreSendableTurns, AreTakenInTurn, Arms, AsksReset, AtController, AtEnd, AtHost, Bool, Boots, CanCome, Comes, CutOff, Deed}
-use Rattle.node_laws.proofs.Words.{End, Ending, FollowsNodes, Gives, GoesOnLink, Good, Happening, Header, Inits, IsAckedWithin, IsCut, IsEvent, IsLine, Line}
-use Rattle.node_laws.proofs.Words.{Link, LinkEvent, List, Lose, Loses, Loss, Memory, NextFrame, NoInput, NodeHistory, NodeWorld, None, NumberedEnd, Occurrence}
-use Rattle.node_laws.proofs.Words.{Reached, Resets, Running, Site, Some, Start, Starts, Step, TakeNoFrames, Takes, TakesNoFrame, TimePassing, Turn, Work, []}
-use Rattle.node_laws.proofs.Words.{after_host, after_link_events, after_planned, all_happen, ap, append_assoc, arith, beginning, begins_with, boot_found}
-use Rattle.node_laws.proofs.Words.{boot_writes, boot_written, boots, by_boot, by_coming, by_controller, by_host, by_loss, by_memory, by_option, by_power}
-use Rattle.node_laws.proofs.Words.{by_running, by_test, can_happen, changed_if, comes_at, comes_to, cond, controller_does, controller_takes, controller_work}
-use Rattle.node_laws.proofs.Words.{core_of, counts, end_c, end_h, end_takes_all, ending_of, ends_events, ends_in_order, ends_take_all, eqb-true, events_on}
-use Rattle.node_laws.proofs.Words.{exchanged, false, frame_lost, frames_at, from_start, happenings, happens, host_cut, host_does, host_work, hosts_in, length}
-use Rattle.node_laws.proofs.Words.{link_after_controller, link_events_in, link_to, loses_power_at, map, memory_at, near_end_in, new_line, new_site, new_world}
-use Rattle.node_laws.proofs.Words.{occurrences_in, reached, refl, replicate, round_events, rounds_of_world, sending, site_at, site_lost, steps, subst, suc, sym}
-use Rattle.node_laws.proofs.Words.{true, turns_at, with_memory, with_node, with_site, work_of, world_after_round, world_behind, world_step, zero, ℕ, ◌*◌, ◌++◌}
-use Rattle.node_laws.proofs.Words.{◌+◌, ◌==◌, ◌∙◌, ◌∷◌, ◌≡◌, ◌≤◌}
-use Rattle.node_laws.specs.acked.AckedRounds.{AllMayCome, AreAckedWithin, HostAcksAtMost, Leg, MayCome as LegMayCome, amid_round, frames_taken, rounds_gone}
-use Rattle.node_laws.specs.acked.AckedRounds.{taken_in, world_after_legs}
+use Rattle.node_laws.proofs.Words.{End, Ending, FollowsNodes, Gives, GoesOnLink, Good, Happening, Header, Inits, IsAckedWithin, IsCut, IsLine, Line, Link}
+use Rattle.node_laws.proofs.Words.{LinkEvent, List, Loses, Loss, Memory, NextFrame, NoInput, NodeHistory, NodeWorld, None, NumberedEnd, Occurrence, Reached}
+use Rattle.node_laws.proofs.Words.{Resets, Running, Site, Some, Start, Starts, Step, TakeNoFrames, Takes, TimePassing, Turn, Work, [], after_host}
+use Rattle.node_laws.proofs.Words.{after_link_events, after_planned, all_happen, ap, append_assoc, arith, beginning, begins_with, boot_found, boot_writes}
+use Rattle.node_laws.proofs.Words.{boot_written, boots, by_boot, by_coming, by_controller, by_host, by_loss, by_memory, by_option, by_power, by_running}
+use Rattle.node_laws.proofs.Words.{by_test, can_happen, changed_if, comes_at, comes_to, cond, controller_does, controller_work, core_of, counts, end_c, end_h}
+use Rattle.node_laws.proofs.Words.{end_takes_all, ending_of, ends_events, ends_in_order, ends_take_all, eqb-true, events_on, exchanged, false, frame_lost}
+use Rattle.node_laws.proofs.Words.{frames_at, from_start, happenings, happens, host_cut, host_does, host_work, hosts_in, length, link_after_controller}
+use Rattle.node_laws.proofs.Words.{link_events_in, link_to, loses_power_at, map, memory_at, near_end_in, new_line, new_site, new_world, occurrences_in, reached}
+use Rattle.node_laws.proofs.Words.{refl, replicate, round_events, rounds_of_world, sending, site_at, site_lost, steps, subst, suc, sym, true, turns_at}
+use Rattle.node_laws.proofs.Words.{with_memory, with_node, with_site, work_of, world_after_round, world_behind, world_step, zero, ℕ, ◌*◌, ◌++◌, ◌+◌, ◌==◌, ◌∙◌}
+use Rattle.node_laws.proofs.Words.{◌∷◌, ◌≡◌, ◌≤◌}
+use Rattle.node_laws.specs.acked.AckedRounds.{AllMayCome, AreAckedWithin, HostAcksAtMost, Leg, amid_round, frames_taken, rounds_gone, taken_in}
+use Rattle.node_laws.specs.acked.AckedRounds.{world_after_legs}
 use Rattle.node_laws.specs.acked.AckedRounds.Leg.{Comes as LegComes, Rounds}
 use Rattle.node_laws.specs.acked.InTurn.{CountsFit, CountsWithin}
 use Rattle.node_laws.proofs.acked.InTurn.{far_acks, front_acks, in_turn_acks, near_acks, none_acks, whole_few}
@@ -22,7 +22,7 @@ use Rattle.node_laws.proofs.links.Works.{AreFine, IsFineWork, all_done_fine, ste
 use Rattle.node_laws.proofs.links.Worlds.{AreFineSites, AtHostOnly, CanReach, IsFineNode, IsFineSite, IsFineWorld, KeepsFine, MayHappen, fine_clean, may_here}
 use Rattle.node_laws.proofs.links.Worlds.{memory_fine, near_clean, near_end_clean, plain_reach, ports_fine, sending_fine, starts_fine, starts_then, step_fine}
 use Rattle.node_laws.proofs.links.Worlds.{turns_fine, world_fine}
-use Rattle.node_laws.proofs.links.Sites.{IsFineLink, MayCome, can_end, uicc_line}
+use Rattle.node_laws.proofs.links.Sites.{IsFineLink, MayCome}
 use Rattle.node_laws.proofs.order.Lines.{history_so, step_kept}
 use Rattle.node_laws.proofs.rounds.Allowing.{AreOthers, ArePassing, Split, all_go, ends-append, ends_go, ends_of, events-append, fine_there, order_is}
 use Rattle.node_laws.proofs.rounds.Allowing.{round_allowed, round_goes, split, takes_allowed, takes_go, takes_pass, ticks_allowed, ticks_go}
@@ -33,10 +33,6 @@ use Rattle.trace_model.specs.declared.line.Line.TheVariants as line
 -- ## In a round of a world the ends of each link take frames one after the other: first the controller's, then the host's
 
 -- ### One frame
-
--- at the end of another link it takes none on this one
-near_none : (h : ℕ) (w : NodeWorld) (k : ℕ) → (h == k) ≡ false → TakeNoFrames (controller_takes h w k)
-near_none h w k other = grind arith
 
 pub near_takes : (h k : ℕ) (w : NodeWorld) → AllAtController (link_events_in h w (Takes (end_c k)))
 near_takes h k w = by_option (site_at w.sites h) (λ q. rw q tt) (λ s q. rw q (grind arith))
@@ -49,14 +45,13 @@ other_near : (h k : ℕ) → (h == k) ≡ false → (w : NodeWorld) → TakeNoFr
 other_near h k other w = by_option (site_at w.sites h)
     (λ q. rw q tt)
     (λ s q. rw q (let number : s.host ≡ h = site_host w.sites h s q in
-    near_none s.host w k (ap (λ n. n == k) number ∙ other)))
+    (grind arith)))
 
 other_far : (h k : ℕ) → (h == k) ≡ false → (w : NodeWorld) → link_events_in h w (Takes (end_h k)) ≡ []
 other_far h k other w = by_option (site_at w.sites h)
     (λ q. rw q refl)
     (λ s q. rw q (let number : s.host ≡ h = site_host w.sites h s q in
-    let not_own : (s.host == k) ≡ false = ap (λ n. n == k) number ∙ other in
-    rw not_own refl))
+    rw (ap (λ n. n == k) number ∙ other) refl))
 
 -- ### Many frames
 
@@ -110,11 +105,6 @@ others P joins h near (k ∷ ks) w a =
     joins.both first (second ++ rest) (many P joins h (end_c k) (near k a.0) (length (frames_at w (end_c k))) w)
     (joins.both second rest (many P joins h (end_h k) none (length (frames_at v (end_h k))) v) (others P joins h near ks o a.1))
 
--- ### A tick
-
-time_none : (h : ℕ) (w : NodeWorld) → TakeNoFrames (link_events_in h w TimePassing)
-time_none h w = grind arith
-
 -- ### A round
 
 round_in_turn : (w : NodeWorld) (h : ℕ) (s : Site) → AreDifferent (hosts_in w.sites) → site_at w.sites h ≡ Some s → AreTakenInTurn (round_events h w)
@@ -138,7 +128,6 @@ round_in_turn w h s different q =
     let parts : round_events h w ≡ (f1 ++ f2) ++ (f3 ++ (f4 ++ time)) =
     ap (λ es. es ++ time) (is ∙ sym (append_assoc f1 f2 (f3 ++ f4)))
     ∙ (append_assoc (f1 ++ f2) (f3 ++ f4) time ∙ ap (λ es. (f1 ++ f2) ++ es) (append_assoc f3 f4 time)) in
-    let passes : TakeNoFrames time = none_joins.both (link_events_in h v TimePassing) [] (time_none h v) tt in
     record {
       near = f1 ++ f2;
       far = f3;
@@ -147,7 +136,7 @@ round_in_turn w h s different q =
       at_controller = near_joins.both f1 f2 (others AllAtController near_joins h (λ k z u. near_takes h k u) p.before w p.first)
           (many AllAtController near_joins h (end_c h) (near_takes h h) (length (frames_at w1 (end_c h))) w1);
       at_host = many AllAtHost far_joins h (end_h h) (far_takes h h) (length (frames_at w2 (end_h h))) w2;
-      none_taken = none_joins.both f4 time (others TakeNoFrames none_joins h (λ k z u. other_near h k z u) p.behind w3 p.last) passes;
+      none_taken = none_joins.both f4 time (others TakeNoFrames none_joins h (λ k z u. other_near h k z u) p.behind w3 p.last) (grind arith);
     }
 
 -- ## Rounds of a world have at most a window of fragments more count as acknowledged at each end of each link, for each round
@@ -175,8 +164,7 @@ sound_ends (e ∷ ends) w s =
     sound_ends ends (end_takes_all w e).0 (sound_many (happenings w (line.Deliver e None)) w (takes_pass (length (frames_at w e)) e) s)
 
 pub sound_round : (w : NodeWorld) → IsSound w → IsSound (world_after_round w)
-sound_round w s =
-    sound_many (TimePassing ∷ []) (ends_take_all w (ends_in_order w)).0 tt (sound_ends (ends_in_order w) w s)
+sound_round w s = sound_many (TimePassing ∷ []) (ends_take_all w (ends_in_order w)).0 tt (sound_ends (ends_in_order w) w s)
 
 sound_rounds : (r : ℕ) (w : NodeWorld) → IsSound w → IsSound (rounds_of_world r w).0
 sound_rounds zero w s = s
@@ -209,11 +197,10 @@ rounds_acks zero w h s a q = record { later = s; is = q; acks = record { control
 rounds_acks (suc r) w h s a q =
     let one = round_acks w h s a q in
     let more = rounds_acks r (world_after_round w) h one.later (sound_round w a) one.is in
-    let c1 = one.acks.controller in
     let h1 = one.acks.host in
     let c2 = more.acks.controller in
     let h2 = more.acks.host in
-    record { later = more.later; is = more.is; acks = record { controller = omega (arith, c1, c2); host = omega (arith, h1, h2) } }
+    record { later = more.later; is = more.is; acks = record { controller = omega (arith, one.acks.controller, c2); host = omega (arith, h1, h2) } }
 
 -- ### In the midst of a round
 
@@ -240,14 +227,12 @@ pub amid_acks : (w : NodeWorld) (h : ℕ) (s : Site) → IsSound w → site_at w
     → ends_in_order w ≡ front ++ e ∷ back → k ≤ length (frames_at (ends_take_all w front).0 e) → HostAcksAtMost 4 h s (amid_round w front e k)
 amid_acks w h s a q front back e k order few =
     let v : NodeWorld = (ends_take_all w front).0 in
-    let n : ℕ = length (frames_at v e) in
-    let u : NodeWorld = (end_takes_all v e).0 in
     let f1 : List LinkEvent = ends_events h w front in
     let f2 : List LinkEvent = events_on h v (replicate k (Takes e)) in
     let g = ends_go front w h s q in
     let f = all_go (replicate k (Takes e)) v h g.later (takes_pass k e) g.is in
-    let cut = first_of h e k n v few in
-    let rest : List LinkEvent = ends_events h u back in
+    let cut = first_of h e k (length (frames_at v e)) v few in
+    let rest : List LinkEvent = ends_events h ((end_takes_all v e).0) back in
     let time : List LinkEvent = events_on h (ends_take_all w (ends_in_order w)).0 (TimePassing ∷ []) in
     let behind : List LinkEvent = cut.0 ++ (rest ++ time) in
     let taken : ends_events h w (ends_in_order w) ≡ f1 ++ ((f2 ++ cut.0) ++ rest) =
@@ -299,10 +284,9 @@ all_within more b w v s same each a = all_found (λ (t : Site). IsAckedWithin (b
         let k = each h x was.1 in
         let is : k.later ≡ t = (let z : Some k.later ≡ Some t = sym k.is ∙ q in cc) in
         let c1 = before.controller in
-        let h1 = before.host in
         let c2 = k.acks.controller in
         let h2 = k.acks.host in
-        let there : IsAckedWithin (b + more) k.later.link = record { controller = omega (arith, c1, c2); host = omega (arith, h1, h2) } in
+        let there : IsAckedWithin (b + more) k.later.link = record { controller = omega (arith, c1, c2); host = omega (arith, before.host, h2) } in
         subst (λ (y : Site). IsAckedWithin (b + more) y.link) is there
 
 -- hosts stay as frames are taken and time passes
@@ -332,8 +316,7 @@ each_rounds r w b s a = all_within (4 * r) b w (rounds_of_world r w).0 s (rounds
 pub each_amid : (w : NodeWorld) (b : ℕ) → IsSound w → (front back : List End) (e : End) (k : ℕ) → ends_in_order w ≡ front ++ e ∷ back
     → k ≤ length (frames_at (ends_take_all w front).0 e) → AreAckedWithin b w → AreAckedWithin (b + 4) (amid_round w front e k)
 each_amid w b s front back e k order few a =
-    let v : NodeWorld = (ends_take_all w front).0 in
-    all_within 4 b w (amid_round w front e k) s (many_kept (replicate k (Takes e)) v (takes_pass k e) ∙ ends_kept front w)
+    all_within 4 b w (amid_round w front e k) s (many_kept (replicate k (Takes e)) ((ends_take_all w front).0) (takes_pass k e) ∙ ends_kept front w)
     (λ h x q. amid_acks w h x s q front back e k order few) a
 
 -- ### Whole messages
@@ -345,12 +328,9 @@ counts_within w h s a q =
 
 -- ### Worlds that go through rounds
 
-may_come : (w : NodeWorld) (c : Happening) → LegMayCome w c → MayHappen w c
-may_come w c m = grind arith
-
 sound_legs : (legs : List Leg) (w : NodeWorld) → AllMayCome w legs → IsSound w → IsSound (world_after_legs w legs)
 sound_legs [] w m s = s
-sound_legs (LegComes c ∷ legs) w m s = sound_legs legs (world_step w c).0 m.1 (sound_step w c (may_come w c m.0) s)
+sound_legs (LegComes c ∷ legs) w m s = sound_legs legs (world_step w c).0 m.1 (sound_step w c (grind arith) s)
 sound_legs (Rounds r ∷ legs) w m s = sound_legs legs (rounds_of_world r w).0 m (sound_rounds r w s)
 
 pub sound_new : (hosts : List ℕ) → AreDifferent hosts → IsSound (new_world hosts)
@@ -378,37 +358,22 @@ sound_of header lines t follows are p front back q =
 within_after : (b : ℕ) (l m : Link) → AcksAtMost 0 0 l m → IsAckedWithin b l → IsAckedWithin b m
 within_after b l m k a = grind arith
 
-within_more : (b c : ℕ) (l : Link) → b ≤ c → IsAckedWithin b l → IsAckedWithin c l
-within_more b c l q a = grind arith
-
 -- what begins a step is no frame
 abbrev IsNoFrame : Comes → Type 0
 IsNoFrame NextFrame = ⊥
 IsNoFrame _ = Unit {0}
 
-takes_none : (comes : Comes) (ts : List Turn) (ending : Ending) → IsNoFrame comes → TakesNoFrame (Step comes ts ending)
-takes_none comes ts ending n = grind arith
-
-none_here : (h : ℕ) (comes : Comes) (k : ℕ) → IsNoFrame comes → IsNoFrame (comes_to h comes k)
-none_here h comes k n = by_test (k == h) (λ q. rw q n) (λ q. rw q tt)
-
 near_quiet : (b : ℕ) (l : Link) (comes : Comes) (ts : List Turn) (ending : Ending) → IsNoFrame comes → MayCome comes → AreSendableTurns ts → IsFineLink l
     → IsAckedWithin b l → IsAckedWithin b (happens l (AtController (Step comes ts ending)))
 near_quiet b l comes ts ending n may send fine a =
     let e : LinkEvent = AtController (Step comes ts ending) in
-    let can : IsEvent l e = grind arith in
-    within_after b l (happens l e) (none_acks (e ∷ []) l (can, tt) (good_line l fine) (takes_none comes ts ending n, tt)) a
+    within_after b l (happens l e) (none_acks (e ∷ []) l (grind arith, tt) (good_line l fine) (grind arith, tt)) a
 
 far_quiet : (b : ℕ) (l : Link) (comes : Comes) (ts : List Turn) (ending : Ending) → IsNoFrame comes → CanCome (exchanged l) comes → AreSendableTurns ts
     → IsFineLink l → IsAckedWithin b l → IsAckedWithin b (happens l (AtHost (Step comes ts ending)))
 far_quiet b l comes ts ending n can send fine a =
     let e : LinkEvent = AtHost (Step comes ts ending) in
-    let may : IsEvent l e = (can, (send, can_end l.host.side.role ending (uicc_line l.host.side.role fine.line.uicc))) in
-    within_after b l (happens l e) (none_acks (e ∷ []) l (may, tt) (good_line l fine) (takes_none comes ts ending n, tt)) a
-
-lost_quiet : (b : ℕ) (l : Link) (at_host : Bool) (why : Loss) → IsFineLink l → IsAckedWithin b l
-    → IsAckedWithin b (happens l (cond at_host (AtHost (Lose why)) (AtController (Lose why))))
-lost_quiet b l at_host why fine a = grind arith
+    within_after b l (happens l e) (none_acks (e ∷ []) l (grind arith, tt) (good_line l fine) (grind arith, tt)) a
 
 -- ### Sites
 
@@ -456,7 +421,7 @@ module _ (b : ℕ) where
       (ports_fine near_ends (λ j. near_end_clean (link_to w.sites j) (comes_to h comes j) (near_clean w.sites j (fine_clean w.sites fine.sites)))
       r.desks (subst IsFineNode is fine.controller)) in
       each_site (link_after_controller h comes k)
-      (λ s g c. near_quiet b s.link (comes_to h comes s.host) (turns_at k s.host) (ending_of k) (none_here h comes s.host n) (may_here h comes s.host may)
+      (λ s g c. near_quiet b s.link (comes_to h comes s.host) (turns_at k s.host) (ending_of k) (grind arith) (may_here h comes s.host may)
       (turns_fine k s.host done) g.link c) w.sites fine.sites a)
 
   host_quiet : (w : NodeWorld) (h : ℕ) (comes : Comes) (f : Work → Work) → IsNoFrame comes → AllByRecursion (AtHostOnly (CanReach comes) h) w.sites
@@ -512,9 +477,9 @@ module _ (b : ℕ) where
   lost_quiet_all : (w : NodeWorld) (e : End) (why : Loss) → IsFineWorld w → AreAckedWithin b w → AreAckedWithin b (frame_lost w e why).0
   lost_quiet_all w e why fine a =
       by_loss (λ p. AreAckedWithin b p.0) w e why
-      (λ q. any_site e.link (λ s. record (site_lost e why s) { node = counts why e.link s.node }) (λ s g c. lost_quiet b s.link e.at_host why g.link c)
+      (λ q. any_site e.link (λ s. record (site_lost e why s) { node = counts why e.link s.node }) (λ s g c. grind arith)
       w.sites fine.sites a)
-      (λ q. any_site e.link (site_lost e why) (λ s g c. lost_quiet b s.link e.at_host why g.link c) w.sites fine.sites a)
+      (λ q. any_site e.link (site_lost e why) (λ s g c. grind arith) w.sites fine.sites a)
 
 -- ### A frame, and time
 
@@ -542,7 +507,7 @@ time_acks : (w : NodeWorld) (h : ℕ) (s : Site) → IsSound w → site_at w.sit
 time_acks w h s a q =
     let events : List LinkEvent = link_events_in h w TimePassing in
     of_goes 0 (world_step w TimePassing).0 h s events (ticks_go w h s q)
-    (none_acks events s.link (ticks_allowed w h s a.fine q) (good_of w h s a q) (time_none h w))
+    (none_acks events s.link (ticks_allowed w h s a.fine q) (good_of w h s a q) (grind arith))
 
 -- ### Whatever happens
 
@@ -551,7 +516,7 @@ within_longer b c w q a = go w.sites a
   where
     go : (sites : List Site) → AckedOn b sites → AckedOn c sites
     go [] a = tt
-    go (s ∷ sites) a = (within_more b c s.link q a.0, go sites a.1)
+    go (s ∷ sites) a = (grind arith, go sites a.1)
 
 pub step_acks : (b : ℕ) (w : NodeWorld) (c : Happening) → MayHappen w c → IsSound w → AreAckedWithin b w
     → AreAckedWithin (b + 4 * taken_in c) (world_step w c).0
@@ -595,7 +560,7 @@ legs_acks : (legs : List Leg) (b : ℕ) (w : NodeWorld) → AllMayCome w legs �
 legs_acks [] b w m s a = within_longer b (b + 4 * (0 + 0)) w (omega arith) a
 legs_acks (LegComes c ∷ legs) b w m s a =
     let v : NodeWorld = (world_step w c).0 in
-    let may : MayHappen w c = may_come w c m.0 in
+    let may : MayHappen w c = grind arith in
     let n : ℕ = taken_in c in
     let t : ℕ = frames_taken legs in
     let r : ℕ = rounds_gone legs in

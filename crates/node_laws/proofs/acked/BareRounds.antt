@@ -63,8 +63,7 @@ bare_rounds_acks (suc r) h l k =
     let h1 = one.host in
     let c2 = more.controller in
     let h2 = more.host in
-    let both : AcksAtMost (4 * suc r) (4 * suc r) l (link_after_all m later) = grind arith in
-    subst (AcksAtMost (4 * suc r) (4 * suc r) l) (sym (all-append now later l)) both
+    subst (AcksAtMost (4 * suc r) (4 * suc r) l) (sym (all-append now later l)) (grind arith)
 
 -- ## Four fragments more may indeed count as acknowledged in one round
 

@@ -1,16 +1,16 @@
 -- How many fragments count as acknowledged at the ends of a link: none more while no end takes a frame, a window where one end acts or both
 -- take turns.
 use Rattle.node_laws.proofs.Words.{AcksAtMost, Activate, Acts, AllAllowed, AllAtController, AllAtHost, AllShdlcAllowed, AreSendable, AreTakenInTurn, AreTurns}
-use Rattle.node_laws.proofs.Words.{AtController, AtHost, Bool, Control, CoreEndEvent, CoreLink, Deliver, EndEvent, EndState, Ending, Good, Ignore, Link}
-use Rattle.node_laws.proofs.Words.{LinkEnd, LinkEvent, LinkState, List, Message, None, NumberedEnd, NumberedShdlc, OnWire, Option, Reached, SafeLink, Session}
-use Rattle.node_laws.proofs.Words.{ShdlcEndEvent, ShdlcLink, ShdlcLinkEvent, ShdlcTurn, Some, TakeNoFrames, TakesNoFrame, TicksWithout, Turn, Turns, Up}
-use Rattle.node_laws.proofs.Words.{Waiting, [], acked_at_controller, act_frame, after_link_events, ap, append-nil, arith, by_test, core_event, core_here}
-use Rattle.node_laws.proofs.Words.{core_of, core_tick_rest, ended_session, exchanged, false, frames_of, happens, inl, is_rset, is_some, is_up, is_waiting}
-use Rattle.node_laws.proofs.Words.{length, map, most_frames, nat_le, new_end, no_session, packet_count, refl, reset_with, safe_reached, shdlc_after}
-use Rattle.node_laws.proofs.Words.{shdlc_aged, shdlc_all_at_controller, shdlc_becomes, shdlc_exchanged, shdlc_happens, shdlc_happens_at_controller}
-use Rattle.node_laws.proofs.Words.{shdlc_number_of, shdlc_put, shdlc_put_all, shdlc_session_of, shdlc_silent, shdlc_ticks_at_controller, shdlc_turned}
-use Rattle.node_laws.proofs.Words.{stopped, subst, sym, take_answer, taken, tick_answer, ticked, ticks_if_waiting, ticks_or_cut, took_with}
-use Rattle.node_laws.proofs.Words.{true, whole_acked, whole_among, with_shdlc_ended, ℕ, ◌++◌, ◌+◌, ◌-◌, ◌==◌, ◌∙◌, ◌∷◌, ◌≡◌, ◌≤◌, ◌⊎◌}
+use Rattle.node_laws.proofs.Words.{AtController, AtHost, Bool, Control, CoreEndEvent, CoreLink, Deliver, EndState, Ending, Good, Ignore, Link, LinkEnd}
+use Rattle.node_laws.proofs.Words.{LinkEvent, LinkState, List, Message, None, NumberedEnd, NumberedShdlc, OnWire, Option, Reached, SafeLink, Session}
+use Rattle.node_laws.proofs.Words.{ShdlcEndEvent, ShdlcLink, ShdlcLinkEvent, ShdlcTurn, Some, TakeNoFrames, TicksWithout, Turn, Turns, Up, Waiting, []}
+use Rattle.node_laws.proofs.Words.{acked_at_controller, act_frame, after_link_events, ap, append-nil, arith, by_test, core_event, core_here, core_of}
+use Rattle.node_laws.proofs.Words.{core_tick_rest, ended_session, exchanged, false, frames_of, happens, inl, is_rset, is_some, is_up, is_waiting, length, map}
+use Rattle.node_laws.proofs.Words.{most_frames, nat_le, new_end, no_session, packet_count, refl, reset_with, safe_reached, shdlc_after, shdlc_aged}
+use Rattle.node_laws.proofs.Words.{shdlc_all_at_controller, shdlc_becomes, shdlc_exchanged, shdlc_happens, shdlc_happens_at_controller, shdlc_number_of}
+use Rattle.node_laws.proofs.Words.{shdlc_put, shdlc_put_all, shdlc_session_of, shdlc_silent, shdlc_ticks_at_controller, shdlc_turned, stopped, subst, sym}
+use Rattle.node_laws.proofs.Words.{take_answer, taken, tick_answer, ticked, ticks_if_waiting, ticks_or_cut, took_with, true, whole_acked, whole_among}
+use Rattle.node_laws.proofs.Words.{with_shdlc_ended, ℕ, ◌++◌, ◌+◌, ◌-◌, ◌==◌, ◌∙◌, ◌∷◌, ◌≡◌, ◌≤◌, ◌⊎◌}
 use Rattle.link_laws.proofs.entries.Stepping.{fetched_acked}
 use Rattle.link_laws.proofs.messages.Project.{Tells}
 use Rattle.link_laws.proofs.messages.Runs.{run, sendable}
@@ -63,9 +63,6 @@ becomes_alone l m e a =
 ended_alone : (l : ShdlcLink) (b : Bool) → ActsAlone l (with_shdlc_ended l b)
 ended_alone l b = grind arith
 
-silent_alone : (l : ShdlcLink) (e : EndState) → ActsAlone l (shdlc_silent l e)
-silent_alone l e = grind arith
-
 happens_alone : (l : ShdlcLink) (e : ShdlcEndEvent) → ActsAlone l (shdlc_happens_at_controller l e)
 happens_alone l (Turns ts) = becomes_alone l l (shdlc_turned l.controller.side ts) (stays l)
 happens_alone l (Deliver ts) = go l.to_controller
@@ -83,9 +80,8 @@ happens_alone l (Deliver ts) = go l.to_controller
         let b : Bool = is_some (take_answer l.controller.side x.frame).ended in
         let k : ShdlcLink = record l { to_controller = xs } in
         let m : ShdlcLink = with_shdlc_ended k b in
-        let one : ActsAlone l m = (let z = ended_alone k b in record { host = z.host; past = z.past }) in
         let n : ShdlcLink = record m { controller = record m.controller { took = took_with l.controller.took x } } in
-        becomes_alone l n (shdlc_turned (taken l.controller.side x.frame) ts) (beside l m n refl refl one)
+        becomes_alone l n (shdlc_turned (taken l.controller.side x.frame) ts) (beside l m n refl refl (grind arith))
 happens_alone l (Ignore ts) = go l.controller.side.phase l.to_controller
   where
     by : LinkState → List OnWire → ShdlcLink
@@ -109,8 +105,8 @@ happens_alone l CoreLose = record { host = refl; past = inl refl }
 happens_alone l (Reset w ts) =
     becomes_alone l (with_shdlc_ended l (is_up l.controller.side.phase)) (shdlc_turned (reset_with l.controller.side w) ts)
     (ended_alone l (is_up l.controller.side.phase))
-happens_alone l Cut = silent_alone l (new_end 4)
-happens_alone l Stop = silent_alone l (stopped l.controller.side)
+happens_alone l Cut = grind arith
+happens_alone l Stop = grind arith
 
 -- ### Room for acknowledgements
 
@@ -125,10 +121,6 @@ acked_here l = l.controller.side.session.acked
 -- a window at most was sent and isn't acknowledged, and no more is accepted
 room_first : (kn kf : ℕ) (l : ShdlcLink) → SafeLink kn kf l → HasRoom (acked_here l + 4) l
 room_first kn kf l h up = grind arith
-
--- what is acknowledged was accepted
-room_holds : (kn kf b : ℕ) (l : ShdlcLink) → SafeLink kn kf l → HasRoom b l → acked_here l ≤ b
-room_holds kn kf b l h room = grind arith
 
 -- in a session that begins the other end has accepted nothing
 room_then : (kn kf jn jf b : ℕ) (l m : ShdlcLink) → SafeLink kn kf l → SafeLink jn jf m → ActsAlone l m → HasRoom b l → HasRoom b m
@@ -149,8 +141,7 @@ room_then kn kf jn jf b l m h k a room up = go l.controller.side.phase (n == shd
     began q =
         let fits = (h.n_base n).fits in
         let size = ap (λ (s : Session). length s.acc) there in
-        let nothing = ap (λ (s : Session). s.reached) (q ∙ none) in
-        omega (arith, fits, size, nothing)
+        omega (arith, fits, size, (ap (λ (s : Session). s.reached) (q ∙ none)))
 
     go : (p : LinkState) (c : Bool) → l.controller.side.phase ≡ p → (n == shdlc_number_of l.controller) ≡ c → length (shdlc_session_of m.host n).acc ≤ b
     go Up true p c = grind arith
@@ -173,7 +164,7 @@ AllFar (_ ∷ es) = ⊥
 
 near_in_room : (b : ℕ) (es : List ShdlcLinkEvent) (l : ShdlcLink) → AllShdlcAllowed es → AllNear es → SafeLink 0 0 l → HasRoom b l
     → (acked_here (shdlc_after l es) ≤ b) × ((shdlc_after l es).host ≡ l.host)
-near_in_room b [] l a near h room = (room_holds 0 0 b l h room, refl)
+near_in_room b [] l a near h room = (grind arith, refl)
 near_in_room b (CoreAtController e ∷ es) l a near h room =
     let m : ShdlcLink = shdlc_happens_at_controller l e in
     let s = safe_event l (CoreAtController e) es a h in
@@ -184,7 +175,7 @@ near_in_room b (_ ∷ es) l a near h room = absurd near
 
 far_in_room : (b : ℕ) (es : List ShdlcLinkEvent) (l : ShdlcLink) → AllShdlcAllowed es → AllFar es → SafeLink 0 0 l → HasRoom b (shdlc_exchanged l)
     → (acked_here (shdlc_exchanged (shdlc_after l es)) ≤ b) × ((shdlc_after l es).controller ≡ l.controller)
-far_in_room b [] l a far h room = (room_holds 0 0 b (shdlc_exchanged l) (safe_exchanged 0 0 l h) room, refl)
+far_in_room b [] l a far h room = (grind arith, refl)
 far_in_room b (CoreAtHost e ∷ es) l a far h room =
     let k : ShdlcLink = shdlc_exchanged l in
     let m : ShdlcLink = shdlc_happens_at_controller k e in
@@ -198,19 +189,15 @@ far_in_room b (_ ∷ es) l a far h room = absurd far
 
 far_alone : (es : List ShdlcLinkEvent) (l : ShdlcLink) → AllShdlcAllowed es → AllFar es → SafeLink 0 0 l
     → (acked_here (shdlc_exchanged (shdlc_after l es)) ≤ acked_here (shdlc_exchanged l) + 4) × ((shdlc_after l es).controller ≡ l.controller)
-far_alone es l a far h =
-    far_in_room (acked_here (shdlc_exchanged l) + 4) es l a far h (room_first 0 0 (shdlc_exchanged l) (safe_exchanged 0 0 l h))
+far_alone es l a far h = far_in_room (acked_here (shdlc_exchanged l) + 4) es l a far h (room_first 0 0 (shdlc_exchanged l) (safe_exchanged 0 0 l h))
 
 -- ## While no end of a link takes a frame, no more fragments count as acknowledged
 
 -- ### What an end becomes
 
-turn_acked : (e : EndState) (t : ShdlcTurn) → (shdlc_turn e t).session.acked ≡ e.session.acked
-turn_acked e t = grind arith
-
 turned_acked : (ts : List ShdlcTurn) (e : EndState) → (shdlc_turned e ts).session.acked ≡ e.session.acked
 turned_acked [] e = refl
-turned_acked (t ∷ ts) e = turned_acked ts (shdlc_turn e t) ∙ turn_acked e t
+turned_acked (t ∷ ts) e = turned_acked ts (shdlc_turn e t) ∙ (grind arith)
 
 becomes_acked : (l : ShdlcLink) (ts : List ShdlcTurn) (e : EndState) → acked_here (shdlc_becomes l (shdlc_turned e ts)) ≡ e.session.acked
 becomes_acked l ts e = fetched_acked most_frames (shdlc_turned e ts) ∙ turned_acked ts e
@@ -244,8 +231,7 @@ none_here l (Ignore ts) d = go l.controller.side.phase l.to_controller
     go : (p : LinkState) (w : List OnWire) → acked_here (by p w) ≤ acked_here l
     go Down (x ∷ xs) =
         let n : ShdlcLink = record l { to_controller = xs; controller = record l.controller { took = took_with l.controller.took x } } in
-        let z = becomes_acked n ts l.controller.side in
-        omega (arith, z)
+        omega (arith, becomes_acked n ts l.controller.side)
     go Down [] = omega arith
     go Up w = omega arith
     go Waiting w = omega arith
@@ -254,8 +240,7 @@ none_here l (Acts acts ts) d =
 none_here l CoreLose d = omega arith
 none_here l (Reset w ts) d =
     let z = becomes_acked (with_shdlc_ended l (is_up l.controller.side.phase)) ts (reset_with l.controller.side w) in
-    let r = reset_acked l.controller.side w in
-    omega (arith, z, r)
+    omega (arith, z, reset_acked l.controller.side w)
 none_here l Cut d = let z = silent_acked l (new_end 4) refl in omega (arith, z)
 none_here l Stop d = let z = silent_acked l (stopped l.controller.side) refl in omega (arith, z)
 
@@ -279,12 +264,9 @@ turns_add (e ∷ es) l a =
 tick_adds : (l : ShdlcLink) (ts : List ShdlcTurn) → AddsNone l (shdlc_ticks_at_controller l ts)
 tick_adds l ts =
     let m : ShdlcLink = with_shdlc_ended l (is_some (tick_answer l.controller.side).ended) in
-    let e : EndState = shdlc_turned (ticked l.controller.side) ts in
-    let z = becomes_acked m ts (ticked l.controller.side) in
-    let t = ticked_acked l.controller.side in
     record {
-      acked = omega (arith, z, t);
-      host = (becomes_alone l m e (ended_alone l (is_some (tick_answer l.controller.side).ended))).host;
+      acked = omega (arith, becomes_acked m ts (ticked l.controller.side), ticked_acked l.controller.side);
+      host = (becomes_alone l m (shdlc_turned (ticked l.controller.side) ts) (ended_alone l (is_some (tick_answer l.controller.side).ended))).host;
     }
 
 tick_or_cut_adds : (b : Option (List ShdlcTurn)) (l : ShdlcLink) → AddsNone l (ticks_or_cut b l)
@@ -311,9 +293,6 @@ record NoneAdded (l m : ShdlcLink) : Type 0 where
 both_add : (l m k : ShdlcLink) → AddsNone l m → AddsNone (shdlc_exchanged m) k → NoneAdded l (shdlc_exchanged k)
 both_add l m k a b = grind arith
 
-nothing_added : (l : ShdlcLink) → AddsNone l l
-nothing_added l = record { acked = omega arith; host = refl }
-
 ticks_add : (l near : ShdlcLink) (turns : List ShdlcEndEvent) (d : Option (List ShdlcTurn)) → AreTurns turns → AddsNone l near
     → NoneAdded l (shdlc_exchanged (ticks_or_cut d (shdlc_exchanged (shdlc_all_at_controller near turns))))
 ticks_add l near turns d a one =
@@ -325,15 +304,13 @@ event_adds_none : (l : ShdlcLink) (e : ShdlcLinkEvent) (es : List ShdlcLinkEvent
 event_adds_none l (CoreAtController e) es a d = let h0 = adds_here l e d.0 in grind arith
 event_adds_none l (CoreAtHost e) es a d =
     let k : ShdlcLink = shdlc_exchanged l in
-    (both_add l l (shdlc_happens_at_controller k e) (nothing_added l) (adds_here k e d.0), a.1, d.1)
+    (both_add l l (shdlc_happens_at_controller k e) (grind arith) (adds_here k e d.0), a.1, d.1)
 event_adds_none l (Tick c turns h) es a d =
     let old : ShdlcLink = shdlc_aged l in
-    let one : AddsNone l (ticks_or_cut c old) = (let z = tick_or_cut_adds c old in record { acked = z.acked; host = z.host }) in
-    (ticks_add l (ticks_or_cut c old) turns h a.0 one, a.1, d)
+    (ticks_add l (ticks_or_cut c old) turns h a.0 (let z = tick_or_cut_adds c old in record { acked = z.acked; host = z.host }), a.1, d)
 event_adds_none l (TickWithout turns h) es a d =
     let old : ShdlcLink = shdlc_aged l in
-    let one : AddsNone l (ticks_if_waiting old) = (let z = tick_if_waiting_adds old in record { acked = z.acked; host = z.host }) in
-    (ticks_add l (ticks_if_waiting old) turns h a.0 one, a.1, d)
+    (ticks_add l (ticks_if_waiting old) turns h a.0 (let z = tick_if_waiting_adds old in record { acked = z.acked; host = z.host }), a.1, d)
 
 none_added : (es : List ShdlcLinkEvent) (l : ShdlcLink) → AllShdlcAllowed es → NoneDelivered es → NoneAdded l (shdlc_after l es)
 none_added [] l a d = record { near = omega arith; far = omega arith }
@@ -385,9 +362,6 @@ abbrev DeliverNone : List CoreEndEvent → Type 0
 DeliverNone [] = Unit {0}
 DeliverNone (e ∷ es) = DeliversNone e × DeliverNone es
 
-here_none : (l : Link) (e : EndEvent) → TakesNoFrame e → DeliverNone (core_here l e)
-here_none l e t = grind arith
-
 rest_none : (e : LinkEnd) (ts : List Turn) (ending : Ending) → DeliverNone (core_tick_rest e ts ending)
 rest_none e ts ending = grind arith
 
@@ -409,10 +383,10 @@ none_core : (es : List LinkEvent) (l : Link) → TakeNoFrames es → NoneDeliver
 none_core [] l t = tt
 none_core (AtController e ∷ es) l t =
     none-append (map CoreAtController (core_here l e)) (core_events (happens l (AtController e)) es)
-    (none_near (core_here l e) (here_none l e t.0)) (none_core es (happens l (AtController e)) t.1)
+    (none_near (core_here l e) (grind arith)) (none_core es (happens l (AtController e)) t.1)
 none_core (AtHost e ∷ es) l t =
     none-append (map CoreAtHost (core_here (exchanged l) e)) (core_events (happens l (AtHost e)) es)
-    (none_far (core_here (exchanged l) e) (here_none (exchanged l) e t.0)) (none_core es (happens l (AtHost e)) t.1)
+    (none_far (core_here (exchanged l) e) (grind arith)) (none_core es (happens l (AtHost e)) t.1)
 none_core (Ticks c events h ∷ es) l t =
     let h0 = core_event l (Ticks c events h) in let h1 = happens l (Ticks c events h) in let h2 = none_core es (happens l (Ticks c events h)) t in grind arith
 none_core (TicksWithout events h ∷ es) l t =
@@ -433,16 +407,14 @@ near_acks es l a k at =
     let r = run es l a k.0 k.1 in
     let c : CoreLink = core_of l in
     let p = near_in_room (acked_here c + 4) (core_events l es) c r.allowed (near_core es l at) (safe_reached c k.1) (room_first 0 0 c (safe_reached c k.1)) in
-    let far = ap (λ h. h.side.session.acked) p.1 in
-    so_of 4 0 l (after_link_events l es) (core_after c (core_events l es)) r.core p.0 (omega (arith, far))
+    so_of 4 0 l (after_link_events l es) (core_after c (core_events l es)) r.core p.0 (omega (arith, (ap (λ h. h.side.session.acked) p.1)))
 
 pub far_acks : (es : List LinkEvent) (l : Link) → AllAllowed l es → Good l × Reached (core_of l) → AllAtHost es → AcksAtMost 0 4 l (after_link_events l es)
 far_acks es l a k at =
     let r = run es l a k.0 k.1 in
     let c : CoreLink = core_of l in
     let p = far_alone (core_events l es) c r.allowed (far_core es l at) (safe_reached c k.1) in
-    let near = ap (λ h. h.side.session.acked) p.1 in
-    so_of 0 4 l (after_link_events l es) (core_after c (core_events l es)) r.core (omega (arith, near)) p.0
+    so_of 0 4 l (after_link_events l es) (core_after c (core_events l es)) r.core (omega (arith, (ap (λ h. h.side.session.acked) p.1))) p.0
 
 pub none_acks : (es : List LinkEvent) (l : Link) → AllAllowed l es → Good l × Reached (core_of l) → TakeNoFrames es → AcksAtMost 0 0 l (after_link_events l es)
 none_acks es l a k t =
@@ -472,15 +444,13 @@ in_turn_acks es l a k t =
     let one = allowed_parts near (far ++ rest) l (subst (AllAllowed l) t.parts a) in
     let two = allowed_parts far rest m one.1 in
     let km : Good m × Reached (core_of m) = good_after near l one.0 k in
-    let kn : Good n × Reached (core_of n) = good_after far m two.0 km in
     let a1 = near_acks near l one.0 k t.at_controller in
     let a2 = far_acks far m two.0 km t.at_host in
-    let a3 = none_acks rest n two.1 kn t.none_taken in
+    let a3 = none_acks rest n two.1 (good_after far m two.0 km) t.none_taken in
     let end : after_link_events l es ≡ after_link_events n rest =
     ap (after_link_events l) t.parts ∙ (after-append near (far ++ rest) l ∙ after-append far rest m) in
-    let c : acked_at_controller (after_link_events n rest) ≤ acked_at_controller l + 4 = omega (arith, a1.controller, a2.controller, a3.controller) in
     let h : acked_at_host (after_link_events n rest) ≤ acked_at_host l + 4 = omega (arith, a1.host, a2.host, a3.host) in
-    subst (AcksAtMost 4 4 l) (sym end) (record { controller = c; host = h })
+    subst (AcksAtMost 4 4 l) (sym end) (record { controller = omega (arith, a1.controller, a2.controller, a3.controller); host = h })
 
 -- ### The first of them
 

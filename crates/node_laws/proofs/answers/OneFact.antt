@@ -219,14 +219,11 @@ abbrev pub finds_none : NodeWorld → List Line → Bool
 finds_none w [] = true
 finds_none w (l ∷ lines) = is_none (misread_in w l) && finds_none (line_step w l).0 lines
 
-none_is : {X : Type 0} (o : Option X) → is_none o ≡ true → o ≡ None
-none_is o is = grind arith
-
 surely : (lines : List Line) (w : NodeWorld) → finds_none w lines ≡ true → NoneIsMisread w lines
 surely [] w found = tt
 surely (l ∷ lines) w found =
     let both = and_parts (is_none (misread_in w l)) (finds_none (line_step w l).0 lines) found in
-    (none_is (misread_in w l) both.0, surely lines (line_step w l).0 both.1)
+    (grind arith, surely lines (line_step w l).0 both.1)
 
 -- the header of a world with these hosts
 abbrev pub header_of_hosts : List ℕ → Header
@@ -374,8 +371,7 @@ module _ (Found : Fact → Type 0) where
 
   -- all other facts are found
   abbrev pub AllOthers : Fact → Type 0
-  AllOthers f =
-      One f InTurn × One f Replied × One f Held × One f Done × One f Short × One f Due × One f Reset × One f Ascending × One f Heard
+  AllOthers f = One f InTurn × One f Replied × One f Held × One f Done × One f Short × One f Due × One f Reset × One f Ascending × One f Heard
 
 module _ (Holds : Fact → Type 0) where
   -- this fact doesn't hold, and each other one does

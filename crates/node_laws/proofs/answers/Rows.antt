@@ -1,10 +1,10 @@
 -- What a controller or a host does with a message is what the first row says that applies.
-use Rattle.node_laws.proofs.Words.{Bool, Decision, Deed, EndView, Err, IsResponse, List, Message, MessageFault, MessageKind, NodeView, None, Ok}
-use Rattle.node_laws.proofs.Words.{Option, OwnView, PipeRow, Response, Result, Some, [], administration, answers, ap, arith, body_in, by_option, by_test}
-use Rattle.node_laws.proofs.Words.{carried_out, closing, cond, controller_deeds, controller_rows, decided, deeds_by_relay, deeds_far, deeds_for, deeds_near}
-use Rattle.node_laws.proofs.Words.{eqb, eqb-true, false, far_end, far_host, first_of, first_row, gate_of_pipe, header_of, host_deeds, host_rows, instruction_in}
-use Rattle.node_laws.proofs.Words.{is_gate, is_opened, is_order, is_relayed, kind_deeds, length, ne_eqb, opening, option_map_or, own_deeds, pipe_named_in, refl}
-use Rattle.node_laws.proofs.Words.{relay_deeds, relayed_to, sym, tests_of_pipe, true, unless_refused, unrelayed, ℕ, ◌&&◌, ◌||◌, ◌∙◌, ◌∷◌, ◌≡◌}
+use Rattle.node_laws.proofs.Words.{Bool, Decision, Deed, EndView, Err, IsResponse, List, Message, MessageFault, MessageKind, NodeView, None, Ok, Option}
+use Rattle.node_laws.proofs.Words.{OwnView, Response, Result, Some, [], administration, answers, ap, arith, body_in, by_option, by_test, carried_out, closing}
+use Rattle.node_laws.proofs.Words.{cond, controller_deeds, controller_rows, decided, deeds_by_relay, deeds_far, deeds_for, deeds_near, eqb, eqb-true, false}
+use Rattle.node_laws.proofs.Words.{far_end, far_host, first_of, first_row, gate_of_pipe, header_of, host_deeds, host_rows, instruction_in, is_gate, is_opened}
+use Rattle.node_laws.proofs.Words.{is_order, is_relayed, kind_deeds, length, ne_eqb, opening, option_map_or, own_deeds, refl, relay_deeds, relayed_to, sym}
+use Rattle.node_laws.proofs.Words.{tests_of_pipe, true, unless_refused, unrelayed, ℕ, ◌&&◌, ◌∙◌, ◌∷◌, ◌≡◌}
 use Rattle.hcp_packet.specs.declared.MessageKind.TheVariants.{Command as IsCommand, Event as IsEvent}
 use Rattle.node_laws.specs.answers.Rows.{answer_rows}
 use Rattle.gate_answers.specs.declared.response.Response.TheVariants as response
@@ -18,10 +18,6 @@ header_is message k n is = grind arith
 module _ (v : NodeView) (h : ℕ) (m : Message) where
   abbrev AsRow : Type 0
   AsRow = controller_deeds v h m ≡ first_row (controller_rows v h m)
-
-  -- a pipe whose other end isn't the controller isn't pipe 01
-  not_one : (end : ℕ × ℕ) → far_end v.own.tables h m.0 ≡ Some end → eqb end.0 0 ≡ false → eqb m.0 1 ≡ false
-  not_one end f off = grind arith
 
   -- what is relayed goes over an opened pipe to the host at its other end, and isn't its opening or closing
   record IsRelayed (other : ℕ) : Type 0 where
@@ -80,7 +76,7 @@ module _ (v : NodeView) (h : ℕ) (m : Message) where
     off = rw (so.opened, so.not_opening, so.not_closing, so.far, so.host) (rw so.same down)
 
     one : eqb m.0 1 ≡ false
-    one = not_one so.end so.far so.host
+    one = grind arith
 
     by : (b : Bool) → v.up h ≡ b → unrelayed (v.up h) h m ≡ first_row (controller_rows v h m)
     by false up = rw (off, up) refl
@@ -123,9 +119,6 @@ module _ (v : NodeView) (h : ℕ) (m : Message) where
             → decided v.own.tables (v.links h) h m.0 (instruction_in m.1) (body_in m.1) ≡ d
         passed d is p3 p4 a b done = grind arith
 
-        stranger : far_end v.own.tables h m.0 ≡ None → OfCommand
-        stranger f = grind arith
-
         module _ (end : ℕ × ℕ) (f : far_end v.own.tables h m.0 ≡ Some end) where
           shut : is_opened v.own.tables h m.0 ≡ false → eqb (instruction_in m.1) 3 ≡ false → OfCommand
           shut o a = grind arith
@@ -137,20 +130,16 @@ module _ (v : NodeView) (h : ℕ) (m : Message) where
               → eqb (length (body_in m.1)) 0 ≡ l → OfCommand
           closes o a b l e = grind arith
 
-          gated : is_opened v.own.tables h m.0 ≡ true → eqb (instruction_in m.1) 3 ≡ false → eqb (instruction_in m.1) 4 ≡ false
-              → eqb end.0 0 ≡ true → OfCommand
-          gated o a b c = grind arith
-
           at_end : (o p3 p4 e0 : Bool) → is_opened v.own.tables h m.0 ≡ o → eqb (instruction_in m.1) 3 ≡ p3 → eqb (instruction_in m.1) 4 ≡ p4
               → eqb end.0 0 ≡ e0 → OfCommand
           at_end o true p4 e0 is e3 e4 z = opens e3 o (eqb (length (body_in m.1)) 0) is refl
           at_end false false p4 e0 is e3 e4 z = shut is e3
           at_end true false true e0 is e3 e4 z = closes is e3 e4 (eqb (length (body_in m.1)) 0) refl
-          at_end true false false true is e3 e4 z = gated is e3 e4 z
+          at_end true false false true is e3 e4 z = grind arith
           at_end true false false false is e3 e4 z = let y = rw (is, x, e3, e4, f, z) at none in absurd (cc y)
 
         by_end : (o : Option (ℕ × ℕ)) → far_end v.own.tables h m.0 ≡ o → OfCommand
-        by_end None f = stranger f
+        by_end None f = grind arith
         by_end (Some end) f =
             at_end end f (is_opened v.own.tables h m.0) (eqb (instruction_in m.1) 3) (eqb (instruction_in m.1) 4) (eqb end.0 0) refl refl refl refl
 
@@ -214,9 +203,6 @@ module _ (own : OwnView) (e : EndView) (m : Message) where
   module _ (up : e.up ≡ true) where
     module _ (x : header_of m.1 ≡ Ok (IsCommand, instruction_in m.1)) where
       module _ (one : eqb m.0 1 ≡ true) where
-        created : eqb (instruction_in m.1) 18 ≡ true → (o : Option PipeRow) → pipe_named_in (body_in m.1) ≡ o → AsHostRow
-        created a o is = grind arith
-
         deleted : eqb (instruction_in m.1) 18 ≡ false → eqb (instruction_in m.1) 19 ≡ true → (body : List ℕ) → body_in m.1 ≡ body → AsHostRow
         deleted e18 e19 [] is = rw (up, x, one, e18, e19, is) refl
         deleted e18 e19 (pid ∷ []) is = grind arith
@@ -229,7 +215,7 @@ module _ (own : OwnView) (e : EndView) (m : Message) where
         cleared e18 e19 e21 (host ∷ y ∷ more) is = rw (up, x, one, e18, e19, e21, is, two host y more) refl
 
         noticed : (b18 b19 b21 : Bool) → eqb (instruction_in m.1) 18 ≡ b18 → eqb (instruction_in m.1) 19 ≡ b19 → eqb (instruction_in m.1) 21 ≡ b21 → AsHostRow
-        noticed true b19 b21 e18 e19 e21 = created e18 (pipe_named_in (body_in m.1)) refl
+        noticed true b19 b21 e18 e19 e21 = grind arith
         noticed false true b21 e18 e19 e21 = deleted e18 e19 (body_in m.1) refl
         noticed false false true e18 e19 e21 = cleared e18 e19 e21 (body_in m.1) refl
         noticed false false false e18 e19 e21 = rw (up, x, one, e18, e19, e21) refl
@@ -238,8 +224,7 @@ module _ (own : OwnView) (e : EndView) (m : Message) where
       at_gate one z g zero five = grind arith
 
       ordered : (b : Bool) → eqb m.0 1 ≡ b → AsHostRow
-      ordered true one =
-          noticed one (eqb (instruction_in m.1) 18) (eqb (instruction_in m.1) 19) (eqb (instruction_in m.1) 21) refl refl refl
+      ordered true one = noticed one (eqb (instruction_in m.1) 18) (eqb (instruction_in m.1) 19) (eqb (instruction_in m.1) 21) refl refl refl
       ordered false one = at_gate one (eqb m.0 0) (is_gate 5 (gate_of_pipe own m.0)) refl refl
 
     posted : (n : ℕ) → header_of m.1 ≡ Ok (IsEvent, n) → (p g b : Bool) → eqb n 2 ≡ p → is_gate 4 (gate_of_pipe own m.0) ≡ g → eqb m.0 1 ≡ b → AsHostRow

@@ -5,9 +5,9 @@ use Rattle.node_laws.proofs.Words.{accepts, administration, and_parts, answer_of
 use Rattle.node_laws.proofs.Words.{by_option, by_test, closing, commit_deeds, commits, cond, cond_both, controller_rows, decided_as_allowed, decides, deeds_far}
 use Rattle.node_laws.proofs.Words.{deeds_for, deeds_near, drop, eqb, false, far_end, far_host, filter_map, filter_map-append, first_row, fold-append, got_entry}
 use Rattle.node_laws.proofs.Words.{has, host_rows, hosts_where, if◌then◌else◌, init_deeds, inl, instruction_in, is_command_message, is_none, is_opened}
-use Rattle.node_laws.proofs.Words.{is_order, is_relayed, learned, link_deeds, link_served, map, node_of, not, oldest, opening, option_map_or, others_opened}
-use Rattle.node_laws.proofs.Words.{param_in, pipe_named_in, refl, same_end, same_end_itself, since_boot, subst, sym, true, turn_entry_at, unhandled_after}
-use Rattle.node_laws.proofs.Words.{unhandled_in, ℕ, ◌&&◌, ◌++◌, ◌==◌, ◌||◌, ◌∙◌, ◌∷◌, ◌≡◌}
+use Rattle.node_laws.proofs.Words.{is_order, is_relayed, learned, link_served, map, node_of, not, oldest, opening, option_map_or, others_opened, param_in}
+use Rattle.node_laws.proofs.Words.{pipe_named_in, refl, same_end, same_end_itself, since_boot, subst, sym, true, turn_entry_at, unhandled_after, unhandled_in}
+use Rattle.node_laws.proofs.Words.{ℕ, ◌&&◌, ◌++◌, ◌==◌, ◌∙◌, ◌∷◌, ◌≡◌}
 use Rattle.node_machine.specs.HostReplies.{created_by, deleted_by}
 use Rattle.node_laws.specs.answers.Rows.{leads_to_gate}
 use Rattle.node_laws.specs.answers.Rules.{IsAskedAsAllowed, IsSentAsAllowed, commits_first}
@@ -53,9 +53,6 @@ module _ (v : NodeView) (h : ℕ) (m : Message) where
       (λ q. rw q (inl refl, tt))
   decided_fine (Ask dest notice c answer) = (tt, tt)
 
-  counted_fine : (answer : List ℕ × Option ℕ) → Fine (link_deeds h m.0 answer)
-  counted_fine answer = by_option answer.1 (λ q. rw q (inl refl, tt)) (λ errors q. rw q (tt, (inl refl, tt)))
-
   relayed_fine : is_relayed v h m ≡ true → Fine (Sends (far_host v h m) m ∷ [])
   relayed_fine on = grind arith
 
@@ -85,7 +82,7 @@ module _ (v : NodeView) (h : ℕ) (m : Message) where
                         λ _. (
                           λ _. decided_fine (administration v.own.tables (v.links h) h (instruction_in m.1) (body_in m.1)),
                           λ _. (
-                            λ _. counted_fine (link_served (v.links h).errors (instruction_in m.1) (body_in m.1)),
+                            λ _. (grind arith),
                             λ _. (grind arith),
                           ),
                         ),

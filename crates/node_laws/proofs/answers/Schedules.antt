@@ -42,13 +42,11 @@ forgotten_lines =
 
 -- the link of the host that is asked is reset, and another one asks in vain
 abbrev pub asked_reset_lines : List Line
-asked_reset_lines =
-    asked ++ line.Reset (end_c 1) None ∷ line.Deliver (end_h 2) None ∷ line.Deliver (end_c 2) None ∷ sends 2 9 (64 ∷ [])
+asked_reset_lines = asked ++ line.Reset (end_c 1) None ∷ line.Deliver (end_h 2) None ∷ line.Deliver (end_c 2) None ∷ sends 2 9 (64 ∷ [])
 
 -- the power of the controller is cut while a creation waits
 abbrev pub cut_while_asked_lines : List Line
-cut_while_asked_lines =
-    asked ++ line.Cut 0 ∷ line.Boot 0 ∷ line.Tick (Some 3) ∷ line.Deliver (end_h 1) None ∷ connects 2
+cut_while_asked_lines = asked ++ line.Cut 0 ∷ line.Boot 0 ∷ line.Tick (Some 3) ∷ line.Deliver (end_h 1) None ∷ connects 2
 
 -- host 01 has no room for its answer to a notice, until its link is reset; its answer comes too late then
 abbrev pub host_held_lines : List Line

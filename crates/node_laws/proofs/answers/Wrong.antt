@@ -60,8 +60,7 @@ turn_without_reply a = true≢false (ap is_empty (a.replied begins [] (takes (go
 answer_before_command : Answered (told (begins ++ takes (got ∷ turn ∷ Sent (end_c 2) 1 1 (128 ∷ 0 ∷ []) ∷ Command 0 (command.SetOpened 2 1 true) ∷
     []) ∷ [])) → ⊥
 unfolding found_from hosts_where lowest_free
-answer_before_command a =
-    true≢false (ap begins_with_sent (a.replied begins [] (takes (got ∷ turn ∷ answers)) (got ∷ []) answers turn refl refl).1)
+answer_before_command a = true≢false (ap begins_with_sent (a.replied begins [] (takes (got ∷ turn ∷ answers)) (got ∷ []) answers turn refl refl).1)
   where
     answers : List Entry
     answers = Sent (end_c 2) 1 1 (128 ∷ 0 ∷ []) ∷ Command 0 (command.SetOpened 2 1 true) ∷ []
@@ -77,8 +76,7 @@ answer_before_command a =
 -- a message is held that didn't come
 pub held_without_message : Answered (told (begins ++ takes (Held (end_c 2) 2 1 ∷ []) ∷ [])) → ⊥
 unfolding found_from hosts_where lowest_free
-held_without_message a =
-    true≢false (sym (ap is_some (a.held begins [] (takes (Held (end_c 2) 2 1 ∷ [])) [] [] (Held (end_c 2) 2 1) refl refl).1))
+held_without_message a = true≢false (sym (ap is_some (a.held begins [] (takes (Held (end_c 2) 2 1 ∷ [])) [] [] (Held (end_c 2) 2 1) refl refl).1))
 
 -- a message is held, and there is room
 held_with_room : Answered (told (begins ++ takes (got ∷ Held (end_c 2) 2 1 ∷ []) ∷ [])) → ⊥
@@ -115,5 +113,4 @@ got_behind_answer a =
 -- a node whose power is cut puts a frame on its wire
 emits_behind_cut : CutsEndParts (told (begins ++ takes (Cut 0 ∷ Emit (end_c 2) (193 ∷ []) ∷ []) ∷ [])) → ⊥
 unfolding found_from hosts_where lowest_free
-emits_behind_cut a =
-    true≢false ((a begins [] (takes (Cut 0 ∷ Emit (end_c 2) (193 ∷ []) ∷ [])) [] (Emit (end_c 2) (193 ∷ []) ∷ []) 0 refl refl).0)
+emits_behind_cut a = true≢false ((a begins [] (takes (Cut 0 ∷ Emit (end_c 2) (193 ∷ []) ∷ [])) [] (Emit (end_c 2) (193 ∷ []) ∷ []) 0 refl refl).0)

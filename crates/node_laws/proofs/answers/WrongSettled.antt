@@ -1,8 +1,7 @@
 -- A small wrong history of a link that settles isn't legal, and the law of what has settled refuses it too.
-use Rattle.node_laws.proofs.Words.{AsksReset, AtController, AtHost, Bare, Clf, GoesOut, HasSettled, IsActive, IsRunOf, IsSettled, IsUpheld, LegalWorld, Link}
-use Rattle.node_laws.proofs.Words.{LinkEvent, List, NextFrame, None, NumberedEnd, Occurrence, PowerMode, Ready, Resets, Role, Some, Starts, Step, Uicc, []}
-use Rattle.node_laws.proofs.Words.{ap, end_c, end_h, entries_in, is_some, new_line, new_link_end, refl, sure_of, sym, true≢false, ℕ, ◌++◌}
-use Rattle.node_laws.proofs.Words.{◌∙◌, ◌∷◌, ◌≡◌}
+use Rattle.node_laws.proofs.Words.{AsksReset, AtController, AtHost, Bare, Clf, GoesOut, HasSettled, IsActive, IsRunOf, IsUpheld, LegalWorld, Link, LinkEvent}
+use Rattle.node_laws.proofs.Words.{List, NextFrame, None, NumberedEnd, Occurrence, PowerMode, Ready, Resets, Role, Some, Starts, Step, Uicc, [], ap, arith}
+use Rattle.node_laws.proofs.Words.{end_c, end_h, entries_in, is_some, new_link_end, refl, sym, true≢false, ℕ, ◌++◌, ◌∙◌, ◌∷◌, ◌≡◌}
 use Rattle.trace_model.specs.declared.entry.LostCause.TheVariants as lost
 use Rattle.trace_model.specs.declared.entry.Entry.TheVariants.{Up, Emit, Took, Lost}
 use Rattle.journal_laws.specs.Records.{found_from}
@@ -66,7 +65,7 @@ world_makes_it = refl
 
 refused_by_law : HasSettled (entries_in settles) 2 (site settles).link → ⊥
 unfolding found_from hosts_where lowest_free
-refused_by_law law = true≢false (sym (ap is_some (law happened run settled).up.host))
+refused_by_law law = true≢false (sym (ap is_some (law happened run (grind arith)).up.host))
   where
     run : IsRunOf happened (site settles).link
     run = record {
@@ -85,6 +84,3 @@ refused_by_law law = true≢false (sym (ap is_some (law happened run settled).up
       );
       is = (refl) ∙ sym world_makes_it;
     }
-
-    settled : IsSettled (site settles).link (sure_of new_line happened)
-    settled = record { undisturbed = refl; to_controller = refl; to_host = refl }

@@ -1,7 +1,7 @@
 -- Small wrong histories of nodes aren't legal: one for each fact of `LegalWorld`. Where other facts refuse one too, that is said.
-use Rattle.node_laws.proofs.Words.{AnyOk, Booted, Boots, Dropped, Entry, FindsCommands, Gives, HciTables, Held, IsCut, IsStillInSession, LegalWorld, LineStep}
-use Rattle.node_laws.proofs.Words.{List, NodeHistory, None, Occurred, Occurrence, PipeRow, Takes, ToldTables, [], ap, arith, end_c, end_h, entries_in, false}
-use Rattle.node_laws.proofs.Words.{no_tables, refl, sym, true≢false, ℕ, ◌++◌, ◌∷◌, ◌≡◌, ◌≤◌}
+use Rattle.node_laws.proofs.Words.{AnyOk, Booted, Boots, Dropped, Entry, FindsCommands, Gives, HciTables, Held, IsCut, LegalWorld, LineStep, List, NodeHistory}
+use Rattle.node_laws.proofs.Words.{None, Occurred, Occurrence, PipeRow, Takes, ToldTables, [], ap, arith, end_c, end_h, entries_in, false, no_tables, refl, sym}
+use Rattle.node_laws.proofs.Words.{true≢false, ℕ, ◌++◌, ◌∷◌, ◌≡◌, ◌≤◌}
 use Rattle.swp_base.specs.declared.link_terms.Cause.TheVariants as cause
 use Rattle.trace_model.specs.declared.entry.Entry.TheVariants.{Acked, Command, Cut, Down, Emit, Got, Sent, Took, Turn, Up}
 use Rattle.trace_model.specs.declared.line.Line.TheVariants as line
@@ -57,16 +57,14 @@ abbrev unsent : List Occurrence
 unsent = begins ++ takes (got 2 ∷ turn 2 ∷ dropped 2 ∷ []) ∷ []
 
 got_what_no_host_sent : LegalWorld (told unsent) → ⊥
-got_what_no_host_sent w =
-    true≢false (sym (ap is_empty ((w.legal.in_order (entries_in unsent) [] refl).delivered (end_h 2) 1).1))
+got_what_no_host_sent w = true≢false (sym (ap is_empty ((w.legal.in_order (entries_in unsent) [] refl).delivered (end_h 2) 1).1))
 
 -- the controller hasn't got it yet
 abbrev early : List Occurrence
 early = both_up ++ gives 2 (sent 2 ∷ emitted 2 ∷ []) ∷ host_takes (Acked (end_h 2) 1 1 ∷ []) ∷ []
 
 acknowledged_before_it_is_got : LegalWorld (told early) → ⊥
-acknowledged_before_it_is_got w =
-    true≢false (sym (ap is_empty ((w.legal.in_order (entries_in early) [] refl).acknowledged (end_h 2) 1).1))
+acknowledged_before_it_is_got w = true≢false (sym (ap is_empty ((w.legal.in_order (entries_in early) [] refl).acknowledged (end_h 2) 1).1))
 
 -- nothing was sent; the controller's end isn't up, so the link isn't quiet
 abbrev acked : List Occurrence
@@ -83,9 +81,7 @@ abbrev frameless : List Occurrence
 frameless = both_up ++ gives 2 (sent 2 ∷ []) ∷ []
 
 quiet_and_not_delivered : LegalWorld (told frameless) → ⊥
-quiet_and_not_delivered w = true≢false (ap is_empty ((w.legal.complete.delivered frameless [] refl 2).to_controller 1 still).got) where
-  still : IsStillInSession frameless 2 1
-  still = record { up = record { controller = refl; host = refl }; lossless = refl; ready = refl; to_controller = refl; to_host = refl }
+quiet_and_not_delivered w = true≢false (ap is_empty ((w.legal.complete.delivered frameless [] refl 2).to_controller 1 (grind arith)).got)
 
 -- a session ends by packets that can't be joined
 ends_by_packets_that_dont_join : LegalWorld (told (begins ++ takes (Down (end_c 2) cause.Chain ∷ []) ∷ [])) → ⊥
@@ -247,5 +243,4 @@ abbrev late : Occurrence
 late = gives 2 (sent 2 ∷ Up (end_h 2) 1 ∷ [])
 
 came_up_behind_an_answer : LegalWorld (told (host_alone ++ late ∷ [])) → ⊥
-came_up_behind_an_answer w =
-    true≢false (w.answered.heard host_alone [] late [] (Up (end_h 2) 1 ∷ []) (sent 2) refl refl 2 refl).0
+came_up_behind_an_answer w = true≢false (w.answered.heard host_alone [] late [] (Up (end_h 2) 1 ∷ []) (sent 2) refl refl 2 refl).0

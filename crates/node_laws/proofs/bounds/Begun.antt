@@ -230,9 +230,8 @@ module _ (hosts : List ℕ) (most : length hosts ≤ 7) (all : ℕ) (os : List O
   -- messages came in order until the step
   before : AreFronts (entries_in os)
   before e n =
-      let order = in_order_so hosts os w a.so (entries_in os) [] (sym (append-nil (entries_in os))) in
       subst (λ (f : End). IsFrontOf (got_in (entries_in os) f n) (good_of (sent_in (entries_in os) (other_end e) n))) (other_twice e)
-      (order.delivered (other_end e) n)
+      ((in_order_so hosts os w a.so (entries_in os) [] (sym (append-nil (entries_in os)))).delivered (other_end e) n)
 
   module _ (h : ℕ) where
     abbrev taking : Work
@@ -290,10 +289,9 @@ module _ (hosts : List ℕ) (most : length hosts ≤ 7) (all : ℕ) (os : List O
         let es : List Entry = entries_for h (arrival Controller (link_to w.sites h) comes) in
         let start : Work = controller_begins w r h comes in
         let left : ℕ = syncs_told (AtEnd h i) start.ports in
-        let long = length-map w.sites (λ (s : Site). s.host) in
         let start_owes : Owes Controller left (node_holds (Some r) + left) start =
         begins_so Controller 0 (hosts_in w.sites) r w.memory.plan near_ends es left (controller_side r (hosts_in w.sites) has) has
-        (omega (arith, long, few)) (arrival_free Controller h (link_to w.sites h) comes) in
+        (omega (arith, (length-map w.sites (λ (s : Site). s.host)), few)) (arrival_free Controller h (link_to w.sites h) comes) in
         let apart : AreDifferent (hosts_of_ends start.ports) =
         subst AreDifferent (sym (hosts_same near_ends r.desks ∙ has.ends)) a.so.well.orderly.different in
         let once = told_once h i start.ports apart in

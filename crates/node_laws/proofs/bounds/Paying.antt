@@ -19,7 +19,7 @@ use Rattle.node_laws.proofs.bounds.Worlds.{event_paid, sites_hold, world_holds}
 use Rattle.node_laws.proofs.order.Lines.{IsSo, history_so, next_so, of_none}
 use Rattle.node_laws.proofs.order.Sessions.{in_order_so}
 use Rattle.node_laws.proofs.reply_passes.Ordered.{in_turn_of}
-use Rattle.node_laws.proofs.schedules.Ranges.{count, ends_same, fewer, hosts_are, hosts_few, one_at, playable}
+use Rattle.node_laws.proofs.schedules.Ranges.{count, fewer, hosts_are, hosts_few, one_at, playable}
 use Rattle.node_laws.proofs.telling.Lasting.{AllMay, damaged_may, events_of_steps, lines_caused, occurs, repeated_may, stands_none}
 use Rattle.node_laws.proofs.turns.Worlds.{Waiting, events_move, none_wait}
 use Rattle.node_laws.proofs.turns.Passing.{goes-append}
@@ -76,10 +76,9 @@ module _ (e : End) where
   at_end_of_moving [] since are = let now = are [] [] refl in omega (arith, now)
   at_end_of_moving (entry.Booted node k ∷ t) since are = by_test (node == node_number e)
       (λ q. let fresh : AreFewer [] t = (λ front back is. let z = are (x ∷ front) back (ap (λ l. x ∷ l) is) in rw q at z) in
-      omega (arith, at_end_of_moving t [] fresh, (are [] (x ∷ t) refl)))
+      omega (arith, at_end_of_moving t [] fresh, are [] (x ∷ t) refl))
       (λ q. let on : AreFewer (since ++ x ∷ []) t = (λ front back is. let z = are (x ∷ front) back (ap (λ l. x ∷ l) is) in rw q at z) in
-      let b = gots-append since (x ∷ []) in
-      omega (arith, (at_end_of_moving t (since ++ entry.Booted node k ∷ [])) on, turns-append since (x ∷ []), b)) where
+      omega (arith, (at_end_of_moving t (since ++ entry.Booted node k ∷ [])) on, turns-append since (x ∷ []), gots-append since (x ∷ []))) where
         x : Entry
         x = entry.Booted node k
   at_end_of_moving (x ∷ t) since are =
@@ -128,8 +127,7 @@ hits k w (suc n) = worth w (k == n) + hits k w n
 
 not_yet : (k w n : ℕ) → n ≤ k → hits k w n ≡ 0
 not_yet k w zero below = refl
-not_yet k w (suc n) below =
-    omega (arith, ap (worth w) (ne_eqb k n (λ is. omega (arith, below, is))), not_yet k w n (omega (arith, below)))
+not_yet k w (suc n) below = omega (arith, ap (worth w) (ne_eqb k n (λ is. omega (arith, below, is))), not_yet k w n (omega (arith, below)))
 
 hits_most : (k w n : ℕ) → hits k w n ≤ w
 hits_most k w zero = omega arith
@@ -277,14 +275,13 @@ module _ (e : End) where
     none_below zero = omega arith
     none_below (suc n) = let rest = none_below n in omega (arith, rest)
   all_sent (entry.Sent f k pid m ∷ t) n = by_test (same_end f (other_end e))
-      (λ q. let is : f ≡ other_end e = ends_same f (other_end e) q in
+      (λ q. let is : f ≡ other_end e = grind arith in
       let many = count_on e (other_end f) c (sent_list t) (ap (λ g. same_end g e) (ap other_end is ∙ other_twice e) ∙ same_end_itself e) in
       let more = sent_more e (entry.Sent f k pid m) t n in
       let most = hits_most k (message_cost (not e.at_host) pid m) n in
-      omega (arith, many, ap (λ (g : End). message_cost g.at_host pid m) is, more, hit_sent f k pid m n q, most, (all_sent t n)))
+      omega (arith, many, ap (λ (g : End). message_cost g.at_host pid m) is, more, hit_sent f k pid m n q, most, all_sent t n))
       (λ q. let more = sent_more e (entry.Sent f k pid m) t n in
-      let none = miss_sent f k pid m n q in
-      omega (arith, more, none, count_more e (other_end f) c (sent_list t), (all_sent t n))) where
+      omega (arith, more, miss_sent f k pid m n q, count_more e (other_end f) c (sent_list t), all_sent t n)) where
         c : ℕ
         c = message_cost f.at_host pid m
   all_sent (x ∷ t) n = let rest = all_sent t n in let more = sent_more e x t n in let none = none_sent x tt n in omega (arith, rest, more, none)
@@ -373,19 +370,17 @@ module _ (hosts : List ℕ) (most : length hosts ≤ 7) where
       let is : occurs w o.cause ≡ o = ap (λ es. let made : Occurrence = record { cause = o.cause; entries = es } in made) (sym are.0) in
       let next : PaidSo hosts (all + commands_by o.cause) (os ++ o ∷ []) (world_step w o.cause).0 =
       subst (λ x. PaidSo hosts (all + commands_by o.cause) (os ++ x ∷ []) (world_step w o.cause).0) is (more_so all os w o.cause a are.1) in
-      let rest = all_events events (all + commands_by o.cause) (os ++ o ∷ []) (world_step w o.cause).0 next are.2 in
       let same : commands_noted (entries_in ((os ++ o ∷ []) ++ events)) ≡ commands_noted (entries_in (os ++ (o ∷ events))) =
       ap (λ l. commands_noted (entries_in l)) (append_assoc os (o ∷ []) events) in
-      omega (arith, rest, same)
+      omega (arith, all_events events (all + commands_by o.cause) (os ++ o ∷ []) (world_step w o.cause).0 next are.2, same)
 
 -- a world in which nothing has happened yet
 new_so : (hosts : List ℕ) → AreHosts hosts → PaidSo hosts 0 [] (new_world hosts)
 new_so hosts are =
     let header : Header = record { hci = true; hosts = record { items = hosts } } in
     let t : NodeHistory = record { header = header; steps = [] } in
-    let follows : FollowsNodes header [] t = record { nodes = refl; header_is = refl; steps_are = refl; sure = tt } in
     record {
-      so = history_so header [] t follows are tt [] [] refl;
+      so = history_so header [] t (record { nodes = refl; header_is = refl; steps_are = refl; sure = tt }) are tt [] [] refl;
       waiting = λ b h. record { messages = []; goes = refl; waits = none_wait hosts b h };
       paid = omega (arith, new_hold hosts);
     }
@@ -409,10 +404,9 @@ paid_behind : (hosts : List ℕ) (most : length hosts ≤ 7) (events : List Occu
     → PaidSo hosts all os w → AreCausedSo w events → PaidSo hosts (all + commands_by_events events) (os ++ events) (world_behind w events)
 paid_behind hosts most [] all os w a are = let h0 = append-nil os in grind arith
 paid_behind hosts most (o ∷ events) all os w a are =
-    let is : occurs w o.cause ≡ o = ap (λ es. let made : Occurrence = record { cause = o.cause; entries = es } in made) (sym are.0) in
     let v : NodeWorld = (world_step w o.cause).0 in
     let next : PaidSo hosts (all + commands_by o.cause) (os ++ o ∷ []) v =
-    subst (λ x. PaidSo hosts (all + commands_by o.cause) (os ++ x ∷ []) v) is (more_so hosts most all os w o.cause a are.1) in
+    subst (λ x. PaidSo hosts (all + commands_by o.cause) (os ++ x ∷ []) v) (grind arith) (more_so hosts most all os w o.cause a are.1) in
     let rest : PaidSo hosts ((all + commands_by o.cause) + commands_by_events events) ((os ++ o ∷ []) ++ events) (world_behind v events) =
     paid_behind hosts most events (all + commands_by o.cause) (os ++ o ∷ []) v next are.2 in
     let paid = rest.paid in
@@ -436,7 +430,7 @@ line_may w (line.Reset e window) p q = (p, tt)
 line_may w (line.Busy e) p q = tt
 line_may w (line.Ready e) p q = tt
 line_may w (line.Boot n) p q = (stands_none (node_at w n) q, tt)
-line_may w (line.Activate host sync power) p q = ((grind arith), tt)
+line_may w (line.Activate host sync power) p q = (grind arith, tt)
 line_may w (line.Tables n) p q = tt
 line_may w (line.Settle n) p q = tt
 line_may w _ p q = (tt, tt)

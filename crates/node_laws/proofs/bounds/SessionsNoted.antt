@@ -1,21 +1,21 @@
 -- What a node notes in a step is paid for, and the numbers of sessions that are noted are no greater than how many RSETs were made.
 use Rattle.node_laws.proofs.Words.{Activate, AllByRecursion, AreHosts, ArePlayable, AsksReset, AtController, AtEnd, AtHost, Bool, Comes, Control, Controller}
 use Rattle.node_laws.proofs.Words.{Core, Creation, CutOff, Deed, EndEvent, Ending, Entry, FetchMessage, FollowsNodes, GoesOut, HasTick, Header, Hold, Host}
-use Rattle.node_laws.proofs.Words.{IsLine, IsLinkTold, IsStart, Line, Link, LinkEnd, LinkEvent, LinkInput, List, Lose, Loss, Message, NextFrame, NoInput, Node}
-use Rattle.node_laws.proofs.Words.{NodeHistory, NodeInput, None, NumberedEnd, Occurrence, OnWire, Option, Port, Releases, Reset, Response, Site, Some}
-use Rattle.node_laws.proofs.Words.{Start, Starts, Step, Stop, Stops, Take, TicksWithout, TimePasses, TooMany, Turn, Work, [], after_input, after_link_events}
-use Rattle.node_laws.proofs.Words.{after_sessions, after_turn, aged, aged_entries, all_at_controller, all_come, all_done, all_owed, ap, arith, asked_at}
-use Rattle.node_laws.proofs.Words.{begins_with, by_list, by_option, by_test, comes_to_pass, cond, cond_both, controller_deeds, deactivated, deeds_of}
-use Rattle.node_laws.proofs.Words.{end_of_node, end_view, ended_by, ending_entries, entries, entries_for, entries_in, entries_of_events, entry_of, eqb}
-use Rattle.node_laws.proofs.Words.{event_entries, event_of, exchanged, false, far, filter, filter_map, finished, first_lost, flat_map, forgets, forgotten}
-use Rattle.node_laws.proofs.Words.{frames_out, goes_through_ends, handles, happens, happens_at_controller, has_come, has_input, has_restarted, has_taken}
-use Rattle.node_laws.proofs.Words.{have_turns, here_entries, host_deeds, input_at, input_entries, is_late, is_over, is_over_at, is_rset, is_some, is_up, lack}
-use Rattle.node_laws.proofs.Words.{left_after, length, length-map, link_after_all, map, nat_lt, needs, new_line, new_world, not, noting, number_of}
-use Rattle.node_laws.proofs.Words.{occurrences_in, of_link, option_map, option_map_or, owed, own_side, own_view, passes, port_at, pushed_out, put, put_all}
-use Rattle.node_laws.proofs.Words.{put_entries, puts_entries, refl, report, reset_late, rest_entries, restart_entries, silent, site_at, started, step_entries}
-use Rattle.node_laws.proofs.Words.{steps, steps_at_controller, subst, sym, synced, taken_entries, tick_entries, ticks_at_controller, times_out, told, told_at}
-use Rattle.node_laws.proofs.Words.{told_late, told_of, took_with, true, turn, turn_at, turn_entries, turn_entry, turned, unless_cut, view_of, whole_acked}
-use Rattle.node_laws.proofs.Words.{wire_with, with_desk, with_ended, with_older, without_notice, world_behind, ℕ, ◌++◌, ◌+◌, ◌==◌, ◌∙◌, ◌∷◌, ◌≡◌, ◌≤◌}
+use Rattle.node_laws.proofs.Words.{IsLine, IsLinkTold, IsStart, Line, Link, LinkEnd, LinkEvent, LinkInput, List, Lose, Message, NextFrame, NoInput, Node}
+use Rattle.node_laws.proofs.Words.{NodeHistory, NodeInput, None, NumberedEnd, Occurrence, OnWire, Option, Port, Releases, Reset, Site, Some, Start, Starts}
+use Rattle.node_laws.proofs.Words.{Step, Stop, Stops, Take, TicksWithout, TimePasses, Turn, Work, [], after_input, after_link_events, after_sessions}
+use Rattle.node_laws.proofs.Words.{after_turn, aged, aged_entries, all_at_controller, all_come, all_done, all_owed, ap, arith, asked_at, begins_with, by_list}
+use Rattle.node_laws.proofs.Words.{by_option, by_test, comes_to_pass, cond, cond_both, controller_deeds, deactivated, deeds_of, end_of_node, end_view, ended_by}
+use Rattle.node_laws.proofs.Words.{ending_entries, entries, entries_for, entries_in, entries_of_events, entry_of, eqb, event_entries, event_of, exchanged}
+use Rattle.node_laws.proofs.Words.{false, far, filter, filter_map, finished, flat_map, forgets, forgotten, frames_out, goes_through_ends, handles, happens}
+use Rattle.node_laws.proofs.Words.{happens_at_controller, has_come, has_input, has_restarted, has_taken, have_turns, here_entries, host_deeds, input_at}
+use Rattle.node_laws.proofs.Words.{input_entries, is_late, is_over, is_over_at, is_rset, is_some, is_up, lack, left_after, length-map, link_after_all, map}
+use Rattle.node_laws.proofs.Words.{nat_lt, needs, new_line, new_world, not, noting, number_of, occurrences_in, of_link, option_map, option_map_or, owed}
+use Rattle.node_laws.proofs.Words.{own_side, own_view, passes, port_at, put, put_all, put_entries, puts_entries, refl, report, reset_late, rest_entries}
+use Rattle.node_laws.proofs.Words.{restart_entries, silent, site_at, started, step_entries, steps, steps_at_controller, subst, sym, synced, taken_entries}
+use Rattle.node_laws.proofs.Words.{tick_entries, ticks_at_controller, times_out, told, told_at, told_late, told_of, took_with, true, turn, turn_at}
+use Rattle.node_laws.proofs.Words.{turn_entries, turn_entry, turned, unless_cut, view_of, whole_acked, with_desk, with_ended, with_older, without_notice}
+use Rattle.node_laws.proofs.Words.{world_behind, ℕ, ◌++◌, ◌+◌, ◌==◌, ◌∙◌, ◌∷◌, ◌≡◌, ◌≤◌}
 use Rattle.history.proofs.RsetsInBareWorlds.{numbers_in_bare}
 use Rattle.history.proofs.legal.Sessions.{IsRun, is_run, link_events, run_entries}
 use Rattle.history.specs.BareRsets.{rsets_by_all_bare}
@@ -113,9 +113,6 @@ releases_weigh side (c ∷ cs) = let rest = releases_weigh side cs in omega (ari
 forgotten_weigh : (side : Side) (ports : List Port) → weights side (forgotten ports) ≡ 0
 forgotten_weigh side ports = releases_weigh side (filter (λ (c : Creation). is_over_at ports c.asker) (filter_map asked_at ports))
 
-owed_weigh : (side : Side) (r : Response) (o : Option Creation) → weights side (owed r o) ≡ 0
-owed_weigh side r o = grind arith
-
 flat_weigh : {X : Type 0} (side : Side) (f : X → List Deed) → ((x : X) → weights side (f x) ≡ 0) → (xs : List X) → weights side (flat_map f xs) ≡ 0
 flat_weigh side f one [] = refl
 flat_weigh side f one (x ∷ xs) = omega (arith, weights-append side (f x) (flat_map f xs), one x, flat_weigh side f one xs)
@@ -126,9 +123,8 @@ all_owed_weigh side ports =
     let late : List Port = filter (λ p. p.late) ports in
     let both =
     weights-append side (flat_map (λ p. owed response.NotConnected (asked_at p)) ended) (flat_map (λ p. owed response.Timeout (asked_at p)) late) in
-    let first = flat_weigh side (λ p. owed response.NotConnected (asked_at p)) (λ p. owed_weigh side response.NotConnected (asked_at p)) ended in
-    let rest = flat_weigh side (λ p. owed response.Timeout (asked_at p)) (λ p. owed_weigh side response.Timeout (asked_at p)) late in
-    omega (arith, both, first, rest)
+    let first = flat_weigh side (λ p. owed response.NotConnected (asked_at p)) (λ p. grind arith) ended in
+    omega (arith, both, first, (flat_weigh side (λ p. owed response.Timeout (asked_at p)) (λ p. grind arith) late))
 
 -- how many ends tell of an identifier of a UICC
 abbrev pub syncs_told : NodeInput → List Port → ℕ
@@ -232,38 +228,26 @@ module _ (side : Side) (all : ℕ) where
 
 -- ### Lists
 
-within_more : (m n : ℕ) → m ≤ n → (x : LinkEntry) → NotedWithin m x → NotedWithin n x
-within_more m n q x a = grind arith
-
 more : (m n : ℕ) (t : List LinkEntry) → m ≤ n → AreNotedWithin m t → AreNotedWithin n t
 more m n [] q a = tt
-more m n (x ∷ t) q a = (within_more m n q x a.0, more m n t q a.1)
+more m n (x ∷ t) q a = (grind arith, more m n t q a.1)
 
 -- ### What comes, and turns
 
 input_told : (n : ℕ) (who : End) (h : NumberedEnd) (i : LinkInput) → number_of h ≤ n → AreNotedWithin n (told_of who h i)
 input_told n who h i q = told_all (NotedWithin n) who (number_of h) (whole_acked (after_input h.side i)) q tt (λ t. tt) q (λ m. q) (λ c. tt) (report h.side i)
 
-turn_within : (n : ℕ) (who : End) (k : ℕ) (e : LinkEnd) (t : Turn) → k ≤ n → AreNotedWithin n (turn_entry who k e t)
-turn_within n who k e t q = grind arith
-
 turns_within : (n : ℕ) (who : End) (k : ℕ) (ts : List Turn) (e : LinkEnd) → k ≤ n → AreNotedWithin n (turn_entries who k e ts)
 turns_within n who k [] e q = tt
 turns_within n who k (t ∷ ts) e q =
-    each_append (NotedWithin n) (turn_entry who k e t) (turn_entries who k (turn e t) ts) (turn_within n who k e t q) (turns_within n who k ts (turn e t) q)
+    each_append (NotedWithin n) (turn_entry who k e t) (turn_entries who k (turn e t) ts) (grind arith) (turns_within n who k ts (turn e t) q)
 
 -- ### Frames
-
-lost_within : (n : ℕ) (who : End) (why : Loss) (wire : List OnWire) → AreNotedWithin n (first_lost who why wire)
-lost_within n who why wire = grind arith
-
-pushed_within : (n : ℕ) (who : End) (wire : List OnWire) → AreNotedWithin n (pushed_out who wire)
-pushed_within n who wire = by_test (nat_lt 64 (length wire)) (λ q. rw q (lost_within n who TooMany wire)) (λ q. rw q tt)
 
 puts_within : (n : ℕ) (who : End) (cs : List Control) (l : Link) → AreNotedWithin n (puts_entries who l cs)
 puts_within n who [] l = tt
 puts_within n who (c ∷ cs) l =
-    each_append (NotedWithin n) (put_entries who l c) (puts_entries who (put l c) cs) (tt, pushed_within n (far who) (wire_with l c))
+    each_append (NotedWithin n) (put_entries who l c) (puts_entries who (put l c) cs) (tt, grind arith)
     (puts_within n who cs (put l c))
 
 ending_within : (n : ℕ) (who : End) (l : Link) (e : LinkEnd) (ending : Ending) → AreNotedWithin n (ending_entries who l e ending)
@@ -331,12 +315,11 @@ step_within who l NextFrame ts ending a = by_list l.to_controller (λ q. rw q tt
 step_within who l (AsksReset window) ts ending a = input_within who l (Reset window) ts ending a
 step_within who l (Starts value) ts ending a = restart_within who l (Start value) ts ending a
 step_within who l Stops ts ending a = restart_within who l Stop ts ending a
-step_within who l NoInput ts ending a =
-    rest_within l.resets who l l.controller.side ts ending (number_low l.resets l.controller a.controller)
+step_within who l NoInput ts ending a = rest_within l.resets who l l.controller.side ts ending (number_low l.resets l.controller a.controller)
 
 here_within : (who : End) (l : Link) (e : EndEvent) → HasLowNumbers l → AreNotedWithin l.resets (here_entries who l e)
 here_within who l (Step comes ts ending) a = step_within who l comes ts ending a
-here_within who l (Lose why) a = lost_within l.resets who why l.to_controller
+here_within who l (Lose why) a = grind arith
 
 -- ### The numbers grow
 
@@ -362,8 +345,7 @@ input_grows l i ts ending =
 taken_grows : (l : Link) (x : OnWire) (xs : List OnWire) (ts : List Turn) (ending : Ending) → l.resets ≤ (has_taken l x xs ts ending).resets
 taken_grows l x xs ts ending =
     let z = finished_grows (left_after l x xs) (turned (after_input l.controller.side (Take x.frame)) ts) ending in
-    let r = ended_resets (record l { to_controller = xs }) (is_some (ended_by l.controller.side (Take x.frame))) in
-    omega (arith, z, r)
+    omega (arith, z, ended_resets (record l { to_controller = xs }) (is_some (ended_by l.controller.side (Take x.frame))))
 
 restarted_grows : (l : Link) (e : LinkEnd) (ts : List Turn) (ending : Ending) → l.resets ≤ (has_restarted l e ts ending).resets
 restarted_grows l e ts ending = let z = finished_grows (silent l e) (turned e ts) ending in let r = silent_resets l e in omega (arith, z, r)
@@ -391,8 +373,7 @@ event_grows l (Ticks c events h) =
     let y = all_grow events near in
     omega (arith, input_grows (aged l) HasTick c.turns c.ending, y, input_grows (exchanged (all_at_controller near events)) HasTick h.turns h.ending)
 event_grows l (TicksWithout events h) =
-    let y = all_grow events (aged l) in
-    omega (arith, y, input_grows (exchanged (all_at_controller (aged l) events)) HasTick h.turns h.ending)
+    omega (arith, all_grow events (aged l), input_grows (exchanged (all_at_controller (aged l) events)) HasTick h.turns h.ending)
 event_grows l (Activate power c id h) =
     let y = step_grows (exchanged (steps_at_controller l (Starts power) c.turns c.ending)) (Starts id) h.turns h.ending in
     omega (arith, step_grows l (Starts power) c.turns c.ending, y)
@@ -434,11 +415,10 @@ event_within l (Ticks c events h) a =
     let n : ℕ = (happens l (Ticks c events h)).resets in
     let b : HasLowNumbers (aged l) = aged_numbered l a in
     let d : HasLowNumbers near = tick_numbered (aged l) c.turns c.ending b in
-    let y : near.resets ≤ k.resets = all_grow events near in
     let z : k.resets ≤ n = input_grows (exchanged k) HasTick h.turns h.ending in
     let middle = more k.resets n (entries_of_events Controller near events) z (all_within events Controller near d) in
     let last = tick_within n Host (exchanged k) h z (exchanged_numbered k (all_numbered events near d)) in
-    let first = tick_within n Controller (aged l) c (omega (arith, input_grows (aged l) HasTick c.turns c.ending, y, z)) b in (
+    let first = tick_within n Controller (aged l) c (omega (arith, input_grows (aged l) HasTick c.turns c.ending, all_grow events near, z)) b in (
       tt,
       behind_aged n l _ (each_append (NotedWithin n) (tick_entries Controller (aged l) c) _ first
           (each_append (NotedWithin n) (entries_of_events Controller near events) _ middle last)),
@@ -474,12 +454,9 @@ run_within l start events = events_within events l (start_numbered l start)
 
 -- ### As entries of a transcript
 
-one_entry : (h n : ℕ) (x : LinkEntry) → NotedWithin n x → AreSessionsWithin n (entry_of h x)
-one_entry h n x a = grind arith
-
 entries_within : (h n : ℕ) (t : List LinkEntry) → AreNotedWithin n t → AreSessionsWithin n (entries_for h t)
 entries_within h n [] a = tt
-entries_within h n (x ∷ t) a = each_append (SessionWithin n) (entry_of h x) (entries_for h t) (one_entry h n x a.0) (entries_within h n t a.1)
+entries_within h n (x ∷ t) a = each_append (SessionWithin n) (entry_of h x) (entries_for h t) (grind arith) (entries_within h n t a.1)
 
 -- ## The sessions that histories note have numbers no greater than two for each tick and one for each reset that was asked for
 

@@ -88,9 +88,6 @@ with_due : (o : Option Act) (e : LinkEnd) → syncs_due (with_act o e).acts ≡ 
 with_due None e = omega arith
 with_due (Some act) e = let both = due-append e.acts (record { frame = act; behind = length e.shdlc.due } ∷ []) in omega (arith, both)
 
-with_role : (o : Option Act) (e : LinkEnd) → (with_act o e).role ≡ e.role
-with_role o e = grind arith
-
 moved_sends : (e : LinkEnd) (b : Bool) (s : EndState) → may_send (moved e b s) ≡ may_send e
 moved_sends e true s = ap (λ n. n + tries_of e.role) (due_front e.acts)
 moved_sends e false s = refl
@@ -107,9 +104,6 @@ down_due true e = by e.shdlc.phase where
   by Up = due_front e.acts
   by _ = due_front e.acts
 
-down_role : (b : Bool) (e : LinkEnd) → (put_down b e).role ≡ e.role
-down_role b e = grind arith
-
 activated_sends : (e : LinkEnd) (event : ActEvent) → IsUicc e.role → IsOnce event → may_send (activated e event) ≤ may_send e + start_event event
 activated_sends e event is once = by e.role refl is where
   out : ActOut
@@ -122,7 +116,7 @@ activated_sends e event is once = by e.role refl is where
   by Bare q is = absurd is
   by (Clf s) q is = absurd is
   by (Uicc s) q is =
-      let one : tries_of (with_act out.send f).role ≡ tries_of (role_after e.role event) = ap tries_of (with_role out.send f) in
+      let one : tries_of (with_act out.send f).role ≡ tries_of (role_after e.role event) = ap tries_of (grind arith) in
       let two : tries_of (role_after e.role event) ≡ tries_left (uicc_step s event).0.phase = ap (λ r. tries_of (role_after r event)) q in
       let three : sync_act out.send ≡ sync_act (uicc_step s event).1.send = ap (λ r. sync_act (act_answer r event).send) q in
       let most = uicc_sends s event once in
@@ -144,7 +138,7 @@ ComesOnce _ = Unit {0}
 heard_sends : (e : LinkEnd) (c : Control) → may_send (heard e c) ≤ may_send e
 heard_sends e c =
     cond_both (is_faulty (taken e.shdlc c).session) (put_down true e) _ (λ (f : LinkEnd). may_send f ≤ may_send e)
-    (λ _. let dues = down_due true e in let role : tries_of (put_down true e).role ≡ tries_of e.role = ap tries_of (down_role true e) in
+    (λ _. let dues = down_due true e in let role : tries_of (put_down true e).role ≡ tries_of e.role = ap tries_of (grind arith) in
     omega (arith, dues, role))
     (λ _. let same = moved_sends e (is_some (take_answer e.shdlc c).ended) (taken e.shdlc c) in omega (arith, same))
 
@@ -201,10 +195,6 @@ input_sync _ = 0
 pub near_tells : (e : LinkEnd) (i : LinkInput) → sync_told (report e i).sync ≤ input_sync i
 near_tells e i = grind arith
 
--- that of a host never does
-pub far_tells : (e : LinkEnd) (i : LinkInput) → IsUicc e.role → sync_told (report e i).sync ≡ 0
-far_tells e i is = grind arith
-
 -- ## Identifiers of UICCs on a link: those on the wire and those that the host may still send, over what happens there
 
 -- ### Wires
@@ -258,11 +248,9 @@ among_syncs n [] cs none = none_in cs none
 among_syncs n (a ∷ acts) cs none =
     let front : List Control = take (a.behind - n) cs in
     let back : List Control = drop (a.behind - n) cs in
-    let both = in-append front (ActFrame a.frame false ∷ among a.behind acts back) in
     let one = none_in front (take_none (a.behind - n) cs none) in
     let rest = among_syncs a.behind acts back (drop_none (a.behind - n) cs none) in
-    let own = act_frame_is a in
-    omega (arith, both, one, rest, own)
+    omega (arith, in-append front (ActFrame a.frame false ∷ among a.behind acts back), one, rest, act_frame_is a)
 
 put_syncs : (l : Link) (c : Control) → syncs_on (put l c).to_host ≤ syncs_on l.to_host + sync_frame c
 put_syncs l c = by_test (is_rset c) (λ q. rw q (pushed (l.resets + 1))) (λ q. rw q (pushed 0)) where
@@ -337,15 +325,12 @@ module _ (l : Link) (rests : Rests l) where
       let b : Bool = is_some (ended_by l.controller.side (Take x.frame)) in
       let wire : syncs_on (with_ended (record l { to_controller = xs }) b).to_host ≡ syncs_on l.to_host =
       ap syncs_on (ended_out (record l { to_controller = xs }) b) in
-      let most = input_out (left_after l x xs) l.controller.side (Take x.frame) ts ending rests.uicc once in
-      omega (arith, most, wire, now)))
+      omega (arith, input_out (left_after l x xs) l.controller.side (Take x.frame) ts ending rests.uicc once, wire, now)))
   step_out (AsksReset window) ts ending once = has_out (Reset window) ts ending tt
   step_out (Starts value) ts ending once =
-      let most = input_out (silent l (started l.controller.side value)) l.controller.side (Start value) ts ending rests.uicc tt in
-      omega (arith, most, now)
+      omega (arith, input_out (silent l (started l.controller.side value)) l.controller.side (Start value) ts ending rests.uicc tt, now)
   step_out Stops ts ending once =
-      let most = input_out (silent l (deactivated l.controller.side)) l.controller.side Stop ts ending rests.uicc tt in
-      omega (arith, most, now)
+      omega (arith, input_out (silent l (deactivated l.controller.side)) l.controller.side Stop ts ending rests.uicc tt, now)
   step_out NoInput ts ending once = omega (arith, finished_out l (turned l.controller.side ts) ending, turned_sends l.controller.side ts, now)
 
 -- ### The wire to an end
@@ -371,8 +356,7 @@ step_in l NextFrame ts ending = by_list l.to_controller
     (λ q. rw q (let same : syncs_on l.to_controller ≡ 0 = ap syncs_on q in omega (arith, same)))
     (λ x xs q. rw q (let b : Bool = is_some (ended_by l.controller.side (Take x.frame)) in
     let same : syncs_on (with_ended (record l { to_controller = xs }) b).to_controller ≡ syncs_on xs = grind arith in
-    let most = finished_in (left_after l x xs) (turned (after_input l.controller.side (Take x.frame)) ts) ending in
-    omega (arith, most, same)))
+    omega (arith, finished_in (left_after l x xs) (turned (after_input l.controller.side (Take x.frame)) ts) ending, same)))
 step_in l (AsksReset window) ts ending = let most = input_in l (Reset window) ts ending in omega (arith, most)
 step_in l (Starts value) ts ending =
     let most = finished_in (silent l (started l.controller.side value)) (turned (started l.controller.side value) ts) ending in omega (arith, most)

@@ -2,7 +2,7 @@
 use Rattle.std.proofs.lemmas.Option.{slice_get_within}
 use Rattle.node_laws.proofs.Words.{AllByRecursion, Answer, Ask, Asks, Bool, Command, Commit, Commits, Controller, Core, Creation, Decision, Deed, Desk, Drops}
 use Rattle.node_laws.proofs.Words.{Ends, Entry, Give, GoesOn, Hears, Host, Init, InitFailed, InitMade, InitSame, IsAnswered, List, Message, None, Noted, Notice}
-use Rattle.node_laws.proofs.Words.{Ok, Option, Orders, Port, Refused, Release, Releases, Removed, Report, Response, Running, SaysOk, Sends, Sent, Set, SetAside}
+use Rattle.node_laws.proofs.Words.{Ok, Option, Orders, Port, Refused, Release, Releases, Removed, Report, Running, SaysOk, Sends, Sent, Set, SetAside}
 use Rattle.node_laws.proofs.Words.{SetsErrors, Some, Tells, Turn, Waits, Work, Write, [], after_turn, agreed, all_done, answer_of, answers_on, ap, arith}
 use Rattle.node_laws.proofs.Words.{asked_at, body_in, body_of, by_option, by_test, changed_if, commit, commit_writes, cond, cond_both, controller_deeds}
 use Rattle.node_laws.proofs.Words.{controller_holds, count_of, creation_in, decided, decision_deeds, done, end_of_node, end_view, entries_for, entry_of, eqb}
@@ -72,15 +72,11 @@ is_host_side Host = true
 plain_free : (b : Bool) (pid : ℕ) (m : List ℕ) → is_command_message m ≡ false → message_cost b pid m ≡ 0
 plain_free b pid m off = grind arith
 
--- no message costs more
-worth_most : (b : Bool) (n : ℕ) → worth n b ≤ n
-worth_most b n = grind arith
-
 near_most : (pid : ℕ) (m : List ℕ) → message_cost false pid m ≤ 1
-near_most pid m = worth_most (eqb pid 1 && is_command_message m) 1
+near_most pid m = grind arith
 
 pub far_most : (pid : ℕ) (m : List ℕ) → message_cost true pid m ≤ 16
-far_most pid m = worth_most (is_command_message m) 16
+far_most pid m = grind arith
 
 -- ### Of a link
 
@@ -167,14 +163,11 @@ pub map_less : (f : Port → Port) → HoldsLess f → (ports : List Port) → p
 map_less f less [] = omega arith
 map_less f less (p ∷ ports) = let one = less p in let rest = map_less f less ports in omega (arith, one, rest)
 
-if_less : (b : Bool) (f : Port → Port) → HoldsLess f → HoldsLess (changed_if b f)
-if_less b f less p = grind arith
-
 if_more : (b : Bool) (f : Port → Port) → HoldsMore f → HoldsMore (changed_if b f)
 if_more b f more p = grind arith
 
 pub with_less : (h : ℕ) (f : Port → Port) → HoldsLess f → (ports : List Port) → ports_hold (with_port h f ports) ≤ ports_hold ports
-with_less h f less ports = map_less (λ p. changed_if (eqb p.desk.host h) f p) (λ p. if_less (eqb p.desk.host h) f less p) ports
+with_less h f less ports = map_less (λ p. changed_if (eqb p.desk.host h) f p) (λ p. grind arith) ports
 
 with_more : (h : ℕ) (f : Port → Port) → HoldsMore f → (ports : List Port)
     → ports_hold (with_port h f ports) ≤ ports_hold ports + 2 * length ports
@@ -383,14 +376,6 @@ module _ (side : Side) (all : ℕ) where
 
 -- ### Messages that cost nothing
 
--- an answer is no command
-pub answer_plain : (r : Response) (value : List ℕ) → is_command_message (answer_of r value) ≡ false
-answer_plain r value = grind arith
-
--- nor is an event
-event_plain : (m : List ℕ) (n : ℕ) → header_of m ≡ Ok (IsEvent, n) → is_command_message m ≡ false
-event_plain m n is = rw is refl
-
 -- a command costs what it may bring about
 far_cost : (pid : ℕ) (m : List ℕ) (n : ℕ) → header_of m ≡ Ok (IsCommand, n) → message_cost true pid m ≡ 16
 far_cost pid m n is = rw is refl
@@ -452,9 +437,9 @@ module _ (all : ℕ) (core : Core) (ports : List Port) (h : ℕ) (m : Message) w
     drops = λ pid none. weighed_near (Drops pid ∷ []) (omega arith);
     goes_on = λ to off. weighed_near (Sends to m ∷ []) (let free = ap (λ c. worth 1 (c && is_command_message m.1)) off in omega (arith, free));
     goes_back = λ n event.
-        weighed_near (Sends h m ∷ []) (let free = plain_free false m.0 m.1 (event_plain m.1 n event) in omega (arith, free));
+        weighed_near (Sends h m ∷ []) (let free = plain_free false m.0 m.1 (rw event refl) in omega (arith, free));
     refuses = λ r off free.
-        weighed_near (answers_on h m.0 (answer_of r [])) (let none = plain_free false m.0 (answer_of r []) (answer_plain r []) in omega (arith, none));
+        weighed_near (answers_on h m.0 (answer_of r [])) (let none = plain_free false m.0 (answer_of r []) (grind arith) in omega (arith, none));
     names = λ n served gate.
         weighed_near (answers_on h m.0 (identity_served gates n (body_in m.1)))
         (let one = near_most m.0 (identity_served gates n (body_in m.1)) in let pays = far_cost m.0 m.1 n served.command in omega (arith, one, pays));
@@ -473,14 +458,10 @@ module _ (all : ℕ) (core : Core) (ports : List Port) (h : ℕ) (m : Message) w
 
 -- what a host does with a command on pipe 01, or on another one
 ordered_weighs : (core : Core) (errors pipe n : ℕ) (body : List ℕ) → weights Host (ordered_deeds (own_view core) errors pipe n body) ≤ 1
-ordered_weighs core errors pipe n body = ordered_holds (λ deeds. weights Host deeds ≤ 1) core errors pipe n body ((grind arith))
+ordered_weighs core errors pipe n body = ordered_holds (λ deeds. weights Host deeds ≤ 1) core errors pipe n body (grind arith)
 
 ordered_free : (core : Core) (errors pipe n : ℕ) (body : List ℕ) → eqb pipe 1 ≡ false → weights Host (ordered_deeds (own_view core) errors pipe n body) ≡ 0
 ordered_free core errors pipe n body off = grind arith
-
--- a commit leaves the init
-commit_init : (c : Command) (w : Work) → (commit c w).core.init ≡ w.core.init
-commit_init c w = by_test (fails_within (length (commit_writes w.core.journal w.core.tables (body_of c))) w.plan) (λ q. rw q refl) (λ q. rw q refl)
 
 module _ (all : ℕ) (core : Core) (h : ℕ) where
   -- what is left to do of an init costs one command, where its commands that are left are counted
@@ -528,7 +509,7 @@ module _ (all : ℕ) (core : Core) (h : ℕ) where
       commits : (c : Command) → IsLearned (Commits c ∷ [])
       commits c rest later w is a =
           and_then Host all 0 1 h (Commits c) rest w (omega arith) (committed Host all 1 c w (less Host all 2 (1 + 1) w (omega arith) a))
-          (λ v made b. later v (ap (λ (x : Work). x.core.init) made ∙ (commit_init c w ∙ is)) b)
+          (λ v made b. later v (ap (λ (x : Work). x.core.init) made ∙ ((grind arith) ∙ is)) b)
 
 -- what holds of what a host does with a message in each case, and what goes back is an event
 module _ (P : List Deed → Type 0) (core : Core) (p : Port) (m : Message) (none : P []) (drops : P (Drops m.0 ∷ []))
@@ -569,5 +550,5 @@ module _ (all : ℕ) (core : Core) (h : ℕ) (m : Message) where
 
   pub host_pays : (p : Port) → IsPaidFar (host_deeds (own_view core) (end_view p) m)
   host_pays p = host_walks IsPaidFar core p m (weighed_far [] (omega arith)) (weighed_far (Drops m.0 ∷ []) (omega arith))
-      (λ n is. let free = plain_free true m.0 m.1 (event_plain m.1 n is) in weighed_far (Sends core.node m ∷ []) (omega (arith, free)))
+      (λ n is. let free = plain_free true m.0 m.1 (rw is refl) in weighed_far (Sends core.node m ∷ []) (omega (arith, free)))
       (λ n is. ordered_paid p.desk.errors n is (eqb m.0 1) refl) heard_paid

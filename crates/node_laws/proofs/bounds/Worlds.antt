@@ -1,29 +1,29 @@
 -- What is noted of an event of a world of nodes is paid for, with what its nodes keep, but for what comes of its cause.
 use Rattle.node_laws.proofs.Words.{Activates, AllByRecursion, AreDifferent, Arms, AsksReset, AtController, AtEnd, Bare, Bool, Boots, Broken, Comes, Controller}
-use Rattle.node_laws.proofs.Words.{CutOff, Deed, Desk, End, Entry, Gives, GoesOut, Happening, HasEnds, Host, IfItRuns, Inits, IsCut, IsOrderly, IsUicc}
-use Rattle.node_laws.proofs.Words.{Link, LinkEnd, LinkInput, List, Loses, Loss, Memory, NextFrame, NoInput, NodeInput, NodeWorld, None, NumberedEnd}
-use Rattle.node_laws.proofs.Words.{OnWire, Option, Plan, Port, Reset, Resets, Running, Site, Some, Start, Starts, Step, Stop, Stops, Take, Takes, Tick, Ticks}
-use Rattle.node_laws.proofs.Words.{TimePasses, Work, [], activates, after_host, after_planned, aged, aged_entries, all_aged, ap, arith, arrival, beginning}
-use Rattle.node_laws.proofs.Words.{begins_with, boot_found, boot_writes, boot_written, boots, by_boot, by_coming, by_controller, by_controller_tick, by_host}
-use Rattle.node_laws.proofs.Words.{by_host_tick, by_list, by_loss, by_memory, by_option, by_power, by_running, by_test, changed_if, comes_at, comes_to}
-use Rattle.node_laws.proofs.Words.{commands_by, cond, cond_both, controller_does, controller_ticks, controller_work, counts, end_c, end_h, ending_entries}
-use Rattle.node_laws.proofs.Words.{ending_of, entries_for, eq-eqb, eqb, eqb-true, exchanged, false, first_lost, flat_map, frame_lost, frames_noted, happens}
-use Rattle.node_laws.proofs.Words.{host_cut, host_does, host_tick, host_ticks, hosts_in, hosts_of_ends, hosts_tick, input_at, input_of, is_late_at, length}
-use Rattle.node_laws.proofs.Words.{length-map, link_after_controller, link_to, links_of, loses_power_at, map, memory_at, min, near_end_in, near_tick, new_desk}
-use Rattle.node_laws.proofs.Words.{new_link, option_map_or, own_side, port_at, port_for, refl, report, runs_on, sending, site_at, site_lost, site_ticked}
-use Rattle.node_laws.proofs.Words.{site_unticked, steps, subst, sym, true≢false, turns_at, wires_for, with_error, with_memory, with_node, with_site, work_of}
-use Rattle.node_laws.proofs.Words.{world_step, world_ticks, ℕ, ◌*◌, ◌++◌, ◌+◌, ◌==◌, ◌∙◌, ◌∷◌, ◌≡◌, ◌≤◌}
+use Rattle.node_laws.proofs.Words.{CutOff, Deed, Desk, End, Entry, Gives, GoesOut, Happening, HasEnds, Host, IfItRuns, Inits, IsCut, IsOrderly, IsUicc, Link}
+use Rattle.node_laws.proofs.Words.{LinkEnd, LinkInput, List, Loses, Loss, Memory, NextFrame, NoInput, NodeInput, NodeWorld, None, NumberedEnd, Option, Plan}
+use Rattle.node_laws.proofs.Words.{Port, Reset, Resets, Running, Site, Some, Start, Starts, Step, Stop, Stops, Take, Takes, Tick, Ticks, TimePasses, Work, []}
+use Rattle.node_laws.proofs.Words.{activates, after_host, after_planned, aged, aged_entries, all_aged, ap, arith, arrival, beginning, begins_with, boot_found}
+use Rattle.node_laws.proofs.Words.{boot_writes, boot_written, boots, by_boot, by_coming, by_controller, by_controller_tick, by_host, by_host_tick, by_list}
+use Rattle.node_laws.proofs.Words.{by_loss, by_memory, by_option, by_power, by_running, by_test, changed_if, comes_at, comes_to, commands_by, cond, cond_both}
+use Rattle.node_laws.proofs.Words.{controller_does, controller_ticks, controller_work, counts, end_c, end_h, ending_entries, ending_of, entries_for, eq-eqb}
+use Rattle.node_laws.proofs.Words.{eqb, eqb-true, exchanged, false, first_lost, flat_map, frame_lost, frames_noted, happens, host_cut, host_does, host_tick}
+use Rattle.node_laws.proofs.Words.{host_ticks, hosts_in, hosts_of_ends, hosts_tick, input_at, input_of, is_late_at, length, length-map, link_after_controller}
+use Rattle.node_laws.proofs.Words.{link_to, links_of, loses_power_at, map, memory_at, min, near_end_in, near_tick, new_desk, new_link, option_map_or, own_side}
+use Rattle.node_laws.proofs.Words.{port_at, port_for, refl, report, runs_on, sending, site_at, site_lost, site_ticked, site_unticked, steps, subst, sym}
+use Rattle.node_laws.proofs.Words.{true≢false, turns_at, wires_for, with_error, with_memory, with_node, with_site, work_of, world_step, world_ticks, ℕ, ◌*◌}
+use Rattle.node_laws.proofs.Words.{◌++◌, ◌+◌, ◌==◌, ◌∙◌, ◌∷◌, ◌≡◌, ◌≤◌}
 use Rattle.std.proofs.lemmas.List.{length-append}
 use Rattle.link_laws.specs.entries.Entries.{End as Side}
 use Rattle.node_laws.proofs.telling.Events.{comes_goes, hosts_same_of_nodes as hosts_same, link_is, site_host, site_is}
 use Rattle.node_laws.proofs.links.Sites.{here_host}
 use Rattle.node_laws.proofs.telling.WorldTicks.{aged_orderly, near_orderly}
-use Rattle.node_laws.proofs.telling.Ticks.{ending_all, lost_all, wires_all}
+use Rattle.node_laws.proofs.telling.Ticks.{ending_all, wires_all}
 use Rattle.node_laws.proofs.bounds.Turns.{IsNoSent, Owes, core_holds, costs, costs-append, desks_are, desks_hold, less, node_holds, notes_free}
 use Rattle.node_laws.proofs.bounds.Turns.{notice_holds, pays, pays-append, ports_hold, weights, worth}
-use Rattle.node_laws.proofs.bounds.Syncs.{FirstOnce, IsCalm, IsResting, aged_holds, all_resting, far_cut_holds, far_holds, far_tells, far_tick_holds}
-use Rattle.node_laws.proofs.bounds.Syncs.{input_sync, link_holds, lost_holds, near_holds, near_tells, near_tick_holds, near_tick_host, start_by, still_rest}
-use Rattle.node_laws.proofs.bounds.Syncs.{sync_frame, sync_told, taken_by, ticked_holds, ticked_host}
+use Rattle.node_laws.proofs.bounds.Syncs.{FirstOnce, IsCalm, IsResting, aged_holds, all_resting, far_cut_holds, far_holds, far_tick_holds, input_sync}
+use Rattle.node_laws.proofs.bounds.Syncs.{link_holds, lost_holds, near_holds, near_tells, near_tick_holds, near_tick_host, start_by, still_rest, sync_frame}
+use Rattle.node_laws.proofs.bounds.Syncs.{sync_told, taken_by, ticked_holds, ticked_host}
 use Rattle.node_laws.proofs.bounds.SessionsNoted.{begins_owe, flat_costs, steps_owe, syncs_told}
 use Rattle.node_laws.proofs.readings.Sites.{near_end_side}
 
@@ -56,12 +56,9 @@ sites_less : (g : Site → Site) → ((s : Site) → site_holds (g s) ≤ site_h
 sites_less g less [] = omega arith
 sites_less g less (s ∷ sites) = let one = less s in let rest = sites_less g less sites in omega (arith, one, rest)
 
-if_less : (b : Bool) (g : Site → Site) (s : Site) → site_holds (g s) ≤ site_holds s → site_holds (changed_if b g s) ≤ site_holds s
-if_less b g s less = grind arith
-
 with_less : (h : ℕ) (g : Site → Site) → ((s : Site) → site_holds (g s) ≤ site_holds s) → (sites : List Site)
     → sites_hold (with_site h g sites) ≤ sites_hold sites
-with_less h g less sites = sites_less (λ s. changed_if (eqb s.host h) g s) (λ s. if_less (eqb s.host h) g s (less s)) sites
+with_less h g less sites = sites_less (λ s. changed_if (eqb s.host h) g s) (λ s. grind arith) sites
 
 -- what is taken of each is left out
 abbrev pub all_taken : (Site → ℕ) → List Site → ℕ
@@ -160,7 +157,7 @@ told_once h i (p ∷ ports) apart = by_test (eqb p.desk.host h)
     (λ q. let off : AllByRecursion (λ k. (k == h) ≡ false) (hosts_of_ends ports) =
     subst (λ n. AllByRecursion (λ k. (k == n) ≡ false) (hosts_of_ends ports)) (eqb-true p.desk.host h q) apart.0 in
     omega (arith, none_told h i ports off, one_told h i p, ap (worth (input_sync i)) q))
-    (λ q. omega (arith, one_told h i p, ap (worth (input_sync i)) q, (told_once h i ports apart.1)))
+    (λ q. omega (arith, one_told h i p, ap (worth (input_sync i)) q, told_once h i ports apart.1))
 
 -- nothing tells of one in a tick
 pub ticks_told : (ports : List Port) → syncs_told TimePasses ports ≡ 0
@@ -173,7 +170,7 @@ hosts_told input [] are = refl
 hosts_told input (p ∷ ports) are = let one = by (input_at input p) in let rest = hosts_told input ports are.1 in omega (arith, one, rest) where
   by : (o : Option LinkInput) → option_map_or (λ i. sync_told (report p.side i).sync) o 0 ≡ 0
   by None = refl
-  by (Some i) = far_tells p.side i are.0
+  by (Some i) = grind arith
 
 -- an identifier that comes to the controller's end of this link was on the wire
 pub came_from : (sites : List Site) (h : ℕ) (comes : Comes) (i : LinkInput) → input_of (link_to sites h) comes ≡ Some i
@@ -481,19 +478,16 @@ lost_paid : (w : NodeWorld) (e : End) (why : Loss) → IsPaid 0 w (frame_lost w 
 lost_paid w e why =
     by_loss (IsPaid 0 w) w e why
     (λ q.
-    let none = notes_free e.link (first_lost Host why (link_to w.sites e.link).to_host) (losses Host (link_to w.sites e.link).to_host) in
+    let none = notes_free e.link (first_lost Host why (link_to w.sites e.link).to_host) (grind arith) in
     let less =
     with_less e.link (λ s. record (site_lost e why s) { node = counts why e.link s.node })
     (λ s. let same = counts_hold why e.link s.node in let link = lost_holds s.link why e.at_host in omega (arith, same, link)) w.sites in
     omega (arith, none, less))
     (λ q.
     let none =
-    notes_free e.link (first_lost Controller why (link_to w.sites e.link).to_controller) (losses Controller (link_to w.sites e.link).to_controller) in
+    notes_free e.link (first_lost Controller why (link_to w.sites e.link).to_controller) (grind arith) in
     let less = with_less e.link (site_lost e why) (λ s. let link = lost_holds s.link why e.at_host in omega (arith, link)) w.sites in
     omega (arith, none, less, counts_hold why e.link w.controller))
-  where
-    losses : (who : Side) (xs : List OnWire) → AllByRecursion IsNoSent (first_lost who why xs)
-    losses who xs = lost_all IsNoSent (λ w c why. tt) who why xs
 
 -- ## Events
 

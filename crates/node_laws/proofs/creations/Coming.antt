@@ -63,9 +63,6 @@ module _ (n : ℕ) (l : List Creation) (p : Port) (fresh : IsFresh p) where
   not_over : is_over p ≡ false
   not_over = rw (fresh.0, fresh.1) refl
 
-  come_over : (i : LinkInput) → is_over (has_come p (Some i)) ≡ is_some (ended_by p.side i)
-  come_over i = ap (λ c. is_some (ended_by p.side i) || c) fresh.1 ∙ or-false (is_some (ended_by p.side i))
-
   come_is : (o : Option LinkInput) (r : Option (List ℕ)) → ((i : LinkInput) → o ≡ Some i → IsComing i) → EndHas n l p.side
       → IsCome n l r (option_map_or (λ i. cond (is_some (ended_by p.side i)) None r) o r) (Some (has_come p o))
   come_is None r coming a = (record { within = a.within; aside = a.aside; up = λ off some. a.up some }, ap (λ b. cond b None r) (sym not_over))
@@ -73,9 +70,9 @@ module _ (n : ℕ) (l : List Creation) (p : Port) (fresh : IsFresh p) where
     record {
       within = input_within p.side i a.within;
       aside = input_aside p.side i (coming i refl) ∙ a.aside;
-      up = λ off some. stays_up p.side i (coming i refl) (a.up some) (sym (come_over i) ∙ off);
+      up = λ off some. stays_up p.side i (coming i refl) (a.up some) (sym (grind arith) ∙ off);
     },
-    ap (λ b. cond b None r) (sym (come_over i)),
+    ap (λ b. cond b None r) (sym (grind arith)),
   )
 
 older_asked : (p : Port) → asked_at (with_older p) ≡ asked_at p
@@ -205,9 +202,6 @@ module _ (x : ℕ) (before : List Entry) (hosts : List ℕ) (asked : Asked) (n :
     old_hosts : map (λ (p : Port). p.desk.host) olds ≡ hosts
     old_hosts = hosts_map with_older (λ q. refl) ticked_of_coming ∙ come_hosts TimePasses tt
 
-    last_hosts : map (λ (p : Port). p.desk.host) (map reset_late olds) ≡ hosts
-    last_hosts = hosts_map reset_late late_host olds ∙ old_hosts
-
     late_same : (p : Port) (s : Option (List ℕ)) → asks x (told_late w.core p) s ≡ reads x (told_late w.core p) s
     late_same p s = by_test (is_late p) (λ q. rw q (told_same x w.core p (Some (Reset None)) s side)) (λ q. rw q refl)
 
@@ -227,12 +221,10 @@ module _ (x : ℕ) (before : List Entry) (hosts : List ℕ) (asked : Asked) (n :
         b))
         (λ p e. rw e (let b = rw e at (subst (IsCome n list r first) (at_all w.ports x (come TimePasses tt) (λ q. come_host q (Some Tick)))
         (come_at TimePasses tt)) in
-        let u = rw e at up in
         let q : Port = come TimePasses tt p in
-        let f : IsFresh p = at_port IsFresh w.ports x p fresh e in
         subst (λ s. IsCome n list r s (Some (reset_late (with_older q)))) (sym (read_late (with_older q) (at_host w.ports x p e)))
-        (late_is n list (with_older q) r first f.1
-        (λ going some. stays_up p.side Tick tt (up_is p.side.shdlc.phase (u (grind arith))) going)
+        (late_is n list (with_older q) r first (at_port IsFresh w.ports x p fresh e).1
+        (λ going some. stays_up p.side Tick tt (up_is p.side.shdlc.phase ((rw e at up) (grind arith))) going)
         (input_shut p.side Tick (at_port (λ (z : Port). IsShut z.side) w.ports x p shut e))
         (b.0, b.1)))))))
       where
@@ -242,17 +234,17 @@ module _ (x : ℕ) (before : List Entry) (hosts : List ℕ) (asked : Asked) (n :
 
     flags_last : (ports : List Port) → AllByRecursion IsFresh ports → AreFlagged (map reset_late (map with_older (map (come TimePasses tt) ports)))
     flags_last [] f = tt
-    flags_last (p ∷ ports) f = ((grind arith), flags_last ports f.1)
+    flags_last (p ∷ ports) f = (grind arith, flags_last ports f.1)
 
     pub came_tick : HasCome (times_out TimePasses (all_come TimePasses w))
     came_tick = record {
       core = refl;
       on = a.on;
-      hosts_are = last_hosts;
+      hosts_are = (hosts_map reset_late late_host olds ∙ old_hosts);
       asked_are = asked_map reset_late late_host reset_asked olds ∙ (asked_map with_older (λ q. refl) older_asked ticked_of_coming ∙ come_asks TimePasses tt);
       book = book_plain (w.entries ++ noted TimePasses tt) late (plain_flat (told_late w.core) plain_late olds) (come_book TimePasses tt);
       read = ask_more x before (w.entries ++ noted TimePasses tt) late ∙ (ap (asks x late) (ask_more x before w.entries (noted TimePasses tt))
-          ∙ (last_at.1 ∙ ap (λ b. cond b None r) (sym (over_is (map reset_late olds) last_hosts))));
+          ∙ (last_at.1 ∙ ap (λ b. cond b None r) (sym (over_is (map reset_late olds) (hosts_map reset_late late_host olds ∙ old_hosts)))));
       end = last_at.0;
       flags = flags_last w.ports fresh;
     }
@@ -314,8 +306,7 @@ module _ (x : ℕ) (before : List Entry) (hosts : List ℕ) where
       let u : Work = turn_at c.asker Release w in
       let n : ℕ = length (owes x (c ∷ cs)) + j in
       let first : IsOn x before hosts asked owing (cond (eqb c.asker x) (n - 1) n) u = released x before hosts asked owing n c.asker w a in
-      let less : cond (eqb c.asker x) (n - 1) n ≡ length (owes x cs) + j = by_test (eqb c.asker x) (λ e. rw e (omega arith)) (λ e. rw e refl) in
-      let next : IsOn x before hosts asked owing (length (owes x cs) + j) u = subst (λ k. IsOn x before hosts asked owing k u) less first in
+      let next : IsOn x before hosts asked owing (length (owes x cs) + j) u = subst (λ k. IsOn x before hosts asked owing k u) (grind arith) first in
       subst (IsOn x before hosts asked owing j) (sym (on_is x before hosts (all_done 0 (map (λ (c : Creation). Releases c.asker) cs)) u next.on))
       (frees asked owing j cs u next)
 
@@ -324,16 +315,10 @@ module _ (x : ℕ) (before : List Entry) (hosts : List ℕ) where
   IsKept (Commits c) = IsProperCommand c
   IsKept _ = ⊥
 
-  kept_append : (ds es : List Deed) → AllByRecursion IsKept ds → AllByRecursion IsKept es → AllByRecursion IsKept (ds ++ es)
-  kept_append ds es a b = all_joined IsKept ds es a b
-
-  synced_kept : (core : Core) (input : NodeInput) (p : Port) → AllByRecursion IsKept (synced core input p)
-  synced_kept core input p = grind arith
-
   pub all_kept : (core : Core) (input : NodeInput) (ports : List Port) → AllByRecursion IsKept (flat_map (synced core input) ports)
   all_kept core input [] = tt
   all_kept core input (p ∷ ports) =
-      kept_append (synced core input p) (flat_map (synced core input) ports) (synced_kept core input p) (all_kept core input ports)
+      all_joined IsKept (synced core input p) (flat_map (synced core input) ports) (grind arith) (all_kept core input ports)
 
   pub keeps_all : (asked : Asked) (owing : List Creation) (deeds : List Deed) (w : Work) → AllByRecursion IsKept deeds → Good x before hosts asked owing w
       → Good x before hosts asked owing (all_done 0 deeds w) ⊎ IsOff x before hosts (all_done 0 deeds w)
@@ -431,15 +416,14 @@ module _ (x : ℕ) (before : List Entry) (hosts : List ℕ) where
         z.0,
         (by_list (waits x now ++ owes x owing)
             (λ q. rw q refl)
-            (λ d l q. rw q (absurd (omega (arith, (rw q at (same_length ∙ none over))))))),
+            (λ d l q. rw q (absurd (omega (arith, rw q at (same_length ∙ none over)))))),
       )
         where
           none : (b : Bool) → length (cond b [] (waits x asked)) ≡ 0
           none true = refl
           none false = ap length (sym (append-nil (waits x asked)) ∙ z.1)
       end_at (Some p) e z =
-          let q : Port = without_notice (forgets v.ports p) in
-          let side : q.side ≡ p.side = (without_same (forgets v.ports p)).side ∙ (forgets_same v.ports p).side in
+          let side : (without_notice (forgets v.ports p)).side ≡ p.side = (without_same (forgets v.ports p)).side ∙ (forgets_same v.ports p).side in
           subst (EndHas n (waits x now ++ owes x owing)) (sym side) (record {
             within = z.within;
             aside = z.aside;

@@ -24,9 +24,6 @@ use Rattle.trace_model.specs.declared.entry.Entry.TheVariants as entry
 -- ## What is read of a creation that a host asked for, over what a controller notes
 
 module _ (x : ℕ) where
-  asks_append : (xs ys : List Entry) (r : Option (List ℕ)) → asks x (xs ++ ys) r ≡ asks x ys (asks x xs r)
-  asks_append xs ys r = fold-append (asking_after x) r xs ys
-
   -- what is read behind more entries
   pub ask_more : (before now es : List Entry) → asking_in (before ++ (now ++ es)) x ≡ asks x es (asking_in (before ++ now) x)
   ask_more before now es = ap (λ l. asking_in l x) (sym (append_assoc before now es)) ∙ asking_more x (before ++ now) es
@@ -56,7 +53,7 @@ module _ (x : ℕ) where
       → (r : Option (List ℕ)) → asks x (flat_map f ports) r ≡ reads x (flat_map f ports) r
   flat_same f one [] r = refl
   flat_same f one (p ∷ ports) r =
-      asks_append (f p) (flat_map f ports) r ∙ (ap (asks x (flat_map f ports)) (one p r) ∙ (flat_same f one ports (reads x (f p) r)
+      (fold-append (asking_after x) r (f p) (flat_map f ports)) ∙ (ap (asks x (flat_map f ports)) (one p r) ∙ (flat_same f one ports (reads x (f p) r)
       ∙ sym (reads_append x (f p) (flat_map f ports) r)))
 
   -- ### Messages
@@ -380,7 +377,7 @@ module _ (x : ℕ) (before : List Entry) (hosts : List ℕ) where
         new = option_map_or (noted_of v.core (Give (1, answer))) (port_at v.ports c.asker) []
 
         took : give_refusal p.side (1, answer) ≡ None
-        took = takes_short p.side answer (z.up some) short (omega (arith, (released_room (port_at w.ports x) refl a.end), z.aside))
+        took = takes_short p.side answer (z.up some) short (omega (arith, released_room (port_at w.ports x) refl a.end, z.aside))
           where
             released_room : (o : Option Port) → port_at w.ports x ≡ o → EndAt n (waits x asked ++ owes x (c ∷ owed)) o → in_use p.side + 1 ≤ 128
             released_room None f y = absurd (some y.1)
@@ -485,9 +482,6 @@ abbrev pub HasBlock : Option Port → Type 0
 HasBlock None = ⊥
 HasBlock (Some p) = (p.side.shdlc.phase ≡ Up) × (nat_lt 0 (spare p.side) ≡ true)
 
-proper_due : (c : Creation) → IsAwaited c → IsProperCommand c.command
-proper_due c due = subst IsProperCommand (sym due.command) due.proper
-
 module _ (x : ℕ) (before : List Entry) (hosts : List ℕ) where
   -- the creations of a controller that runs are read, and none is owed an answer
   pub record Still (w : Work) : Type 0 where
@@ -566,7 +560,7 @@ module _ (x : ℕ) (before : List Entry) (hosts : List ℕ) where
       let first : Good x before hosts new (c ∷ []) v = done_so x before hosts asked k c w s due a in
       let rest : List Deed = Releases c.asker ∷ Sends c.asker (1, c.answer) ∷ SaysOk ∷ [] in
       subst Fine (sym (on_is x before hosts (all_done k (Commits c.command ∷ rest)) v first.on))
-      (then Fine new (c ∷ []) n (all_done k rest) (commit c.command v) (commits x before hosts new (c ∷ []) n c.command v (proper_due c due) first)
+      (then Fine new (c ∷ []) n (all_done k rest) (commit c.command v) (commits x before hosts new (c ∷ []) n c.command v (grind arith) first)
       (λ lost. inr lost)
       (λ b. pays_then Fine k new [] c c.answer (SaysOk ∷ []) (commit c.command v) (subst (λ m. is_response m ≡ true) (sym due.answer) (refl))
       (subst (λ (m : List ℕ). length m ≤ 32) (sym due.answer) (omega arith)) b (λ u d. says_ok k new u d)))
@@ -614,7 +608,7 @@ module _ (x : ℕ) (before : List Entry) (hosts : List ℕ) where
     set_here l e None q z b = absurd z
     set_here l e (Some p) q z b =
         let one : m ≡ n + 1 = ap length (here_is e) ∙ ap (λ k. length (k ++ []) + 1) (sym (free e)) in
-        subst (EndAt m l) (sym (at_here x c.asker (after_turn SetAside) w.ports p (λ j. refl) e q)) ((grind arith))
+        subst (EndAt m l) (sym (at_here x c.asker (after_turn SetAside) w.ports p (λ j. refl) e q)) (grind arith)
 
     set_end : (l : List Creation) → (eqb c.asker x ≡ false → l ≡ waits x asked ++ []) → EndAt m l (port_at (with_port c.asker (after_turn SetAside) w.ports) x)
     set_end l same = by_test (eqb c.asker x)

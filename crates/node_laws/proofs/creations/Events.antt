@@ -22,7 +22,7 @@ use Rattle.node_laws.specs.creations.Creations.{of_asker}
 use Rattle.node_laws.proofs.creations.Coming.{input_aside}
 use Rattle.node_laws.proofs.creations.HostSides.{event_none, new_none}
 use Rattle.node_laws.proofs.creations.Knowing.{IsBegun, Reads, begun_at, far_book, far_reading, new_ready, none_side, step_reads}
-use Rattle.node_laws.proofs.creations.Outcomes.{new_proper, proper_found}
+use Rattle.node_laws.proofs.creations.Outcomes.{proper_found}
 use Rattle.node_laws.proofs.creations.Turning.{after_tick, near_made, near_side, tick_made, tick_side}
 use Rattle.node_laws.proofs.kept.Doing.{book_more}
 use Rattle.node_laws.proofs.kept.Ticking.{MayAllHappen, all_begin, few_front, line_may, world_goes}
@@ -69,8 +69,7 @@ stays w = record { far = tt; creations = λ x. refl; due = λ a. a; sides = λ n
 
 sites_beside : (w : NodeWorld) (h : ℕ) (f : Site → Site) (es : List Entry) → AreFar es → ((s : Site) → (f s).host ≡ s.host)
     → ((s : Site) → (f s).link.controller.side ≡ s.link.controller.side) → Beside w (record w { sites = with_site h f w.sites }) es
-sites_beside w h f es far host side =
-    record { far = far; creations = λ x. refl; due = λ a. a; sides = λ n. side_with h f host side w.sites n }
+sites_beside w h f es far host side = record { far = far; creations = λ x. refl; due = λ a. a; sides = λ n. side_with h f host side w.sites n }
 
 -- a host acts
 host_beside : (w : NodeWorld) (h : ℕ) (comes : Comes) (f : Work → Work) → AreGood w.sites → ((k : Work) → IsFarWork k → IsFarWork (f k))
@@ -256,11 +255,9 @@ module _ (hosts : List ℕ) (are : AreHosts hosts) (t : List Entry) (w : NodeWor
   step_new l NextFrame ts i e = by_list l.to_controller
       (λ q. let z : None ≡ Some i = rw q at e in absurd (cc z))
       (λ y ys q. let is : steps_at_controller l NextFrame ts CutOff ≡ has_taken l y ys ts CutOff = rw q refl in (grind arith))
-  step_new l (AsksReset window) ts i e =
-      ((sent_all (turned (after_input l.controller.side (Reset window)) ts)).role, refl)
+  step_new l (AsksReset window) ts i e = ((sent_all (turned (after_input l.controller.side (Reset window)) ts)).role, refl)
   step_new l (Starts value) ts i e = ((sent_all (turned (started l.controller.side value) ts)).role, refl)
-  step_new l Stops ts i e =
-      ((sent_all (turned (deactivated l.controller.side) ts)).role, refl)
+  step_new l Stops ts i e = ((sent_all (turned (deactivated l.controller.side) ts)).role, refl)
   step_new l NoInput ts i e = absurd (cc e)
 
   module _ (r : Running) (runs : w.controller ≡ Some r) (has : HasEnds 0 (hosts_in w.sites) r) (ups : IfNoticedUp w.sites (Some r)) where
@@ -560,7 +557,7 @@ pub begin_keeps : (hosts : List ℕ) → AreHosts hosts → KeepsCreations hosts
 begin_keeps hosts are = record {
   kept = all_begin hosts;
   notices = begins_read hosts are;
-  book = new_proper;
+  book = grind arith;
   due = tt;
   read = λ x. tt;
   ends = λ x. new_ends (replicate 65536 255) hosts x;

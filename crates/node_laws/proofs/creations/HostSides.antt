@@ -1,13 +1,13 @@
 -- Whatever happens, no end of a host has a block set aside.
 use Rattle.node_laws.proofs.Words.{About, Activates, AllByRecursion, Arms, Asks, AsksReset, AtController, AtEnd, Bool, Boots, Comes, Command, Commits, CutOff}
 use Rattle.node_laws.proofs.Words.{Deed, Desk, Drops, End, EndEvent, Ending, Ends, Entry, FetchMessage, Give, Gives, GoesOn, GoesOut, Happening, HasNoneAside}
-use Rattle.node_laws.proofs.Words.{Hears, Hold, Host, IfHostNode, Inits, IsAnswered, IsCut, IsGoodSite, KeepsNotices, Link, LinkEnd, LinkInput, List, Loses}
-use Rattle.node_laws.proofs.Words.{Loss, Memory, Message, NextFrame, NoInput, NodeInput, NodeWorld, None, NumberedEnd, Option, Orders, Port, Release, Releases}
-use Rattle.node_laws.proofs.Words.{Removed, Reset, Resets, SaysOk, Sends, SetAside, SetsErrors, Site, Some, Start, Starts, Step, Stop, Stops, Take, Takes}
-use Rattle.node_laws.proofs.Words.{Tells, Tick, Ticks, TimePasses, Turn, Work, [], after_host, after_input, after_planned, after_sessions, after_turn, aged}
-use Rattle.node_laws.proofs.Words.{all_aged, all_append, all_changed, all_come, all_done, all_map, all_owed, anyone, ap, arith, arrival, beginning, begins_with}
-use Rattle.node_laws.proofs.Words.{boot_found, boot_writes, boot_written, boots, by_boot, by_coming, by_controller, by_controller_tick, by_host, by_host_tick}
-use Rattle.node_laws.proofs.Words.{by_list, by_loss, by_memory, by_option, by_power, by_running, by_test, changed_if, comes_at, comes_to, commit, cond_both}
+use Rattle.node_laws.proofs.Words.{Hears, Hold, Host, IfHostNode, Inits, IsAnswered, IsCut, IsGoodSite, KeepsNotices, Link, LinkEnd, List, Loses, Loss, Memory}
+use Rattle.node_laws.proofs.Words.{Message, NextFrame, NoInput, NodeInput, NodeWorld, None, NumberedEnd, Orders, Port, Release, Releases, Removed, Reset}
+use Rattle.node_laws.proofs.Words.{Resets, SaysOk, Sends, SetAside, SetsErrors, Site, Some, Start, Starts, Step, Stop, Stops, Take, Takes, Tells, Tick, Ticks}
+use Rattle.node_laws.proofs.Words.{TimePasses, Turn, Work, [], after_host, after_input, after_planned, after_sessions, after_turn, aged, all_aged, all_append}
+use Rattle.node_laws.proofs.Words.{all_changed, all_come, all_done, all_map, all_owed, anyone, ap, arith, arrival, beginning, begins_with, boot_found}
+use Rattle.node_laws.proofs.Words.{boot_writes, boot_written, boots, by_boot, by_coming, by_controller, by_controller_tick, by_host, by_host_tick, by_list}
+use Rattle.node_laws.proofs.Words.{by_loss, by_memory, by_option, by_power, by_running, by_test, changed_if, comes_at, comes_to, commit, cond_both}
 use Rattle.node_laws.proofs.Words.{controller_ticks, controller_work, counts, done, end_c, end_h, ending_of, entries_for, eqb, exchanged, false, finished}
 use Rattle.node_laws.proofs.Words.{flat_map, forgets, forgotten, frame_lost, happens, has_come, has_input, has_taken, host_cut, host_does, host_tick}
 use Rattle.node_laws.proofs.Words.{host_ticks, host_work, hosts_tick, input_at, is_late, is_late_at, is_waiting, link_after_controller, loses_power_at, map}
@@ -147,9 +147,6 @@ all_do h deeds w q a = all_last SetsNoneAside IsOwn Any none_lasts h deeds w q a
 
 -- ### Steps
 
-come_turns : (p : Port) (o : Option LinkInput) → SetNone p.turns → SetNone (has_come p o).turns
-come_turns p o b = grind arith
-
 reset_turns : (p : Port) → SetNone p.turns → SetNone (reset_late p).turns
 reset_turns p b = by_test (is_late p) (λ z. rw z b) (λ z. rw z b)
 
@@ -157,7 +154,7 @@ came_none : (input : NodeInput) (w : Work) → SetsNoneAside w → SetsNoneAside
 came_none input w a = record {
   number = a.number;
   ends = all_map HasSetNone HasSetNone (λ p. has_come p (input_at input p))
-      (λ p b. come_turns p (input_at input p) b) w.ports a.ends;
+      (λ p b. grind arith) w.ports a.ends;
 }
 
 times_none : (input : NodeInput) (w : Work) → SetsNoneAside w → SetsNoneAside (times_out input w)
@@ -250,8 +247,7 @@ abbrev AsideNowhere : NodeWorld → Type 0
 AsideNowhere w = HaveNoneAside w.sites
 
 memory_none : (w : NodeWorld) (n : ℕ) (m : Memory) → HaveNoneAside w.sites → HaveNoneAside (with_memory n m w).sites
-memory_none w n m a =
-    by_memory AsideNowhere n w m (λ _. a) (λ _. none_with n (λ (s : Site). record s { memory = m }) (λ s b. b) w.sites a)
+memory_none w n m a = by_memory AsideNowhere n w m (λ _. a) (λ _. none_with n (λ (s : Site). record s { memory = m }) (λ s b. b) w.sites a)
 
 cut_none : (w : NodeWorld) (n : ℕ) → HaveNoneAside w.sites → HaveNoneAside (loses_power_at n w).sites
 cut_none w n a =
@@ -311,13 +307,11 @@ event_none t w (Inits e identity pipes) notices ticked a =
     begins_none w e.link (beginning identity pipes) notices.sites (beginning_own identity pipes) a
 event_none t w (Takes e) notices ticked a = comes_none w e NextFrame notices.sites a
 event_none t w (Loses e why) notices ticked a = lost_none w e why a
-event_none t w Ticks notices ticked a =
-    all_ticked (controller_ticks (all_aged w).0).0.sites ticked (near_none (all_aged w).0 (aged_none w a))
+event_none t w Ticks notices ticked a = all_ticked (controller_ticks (all_aged w).0).0.sites ticked (near_none (all_aged w).0 (aged_none w a))
 event_none t w (Resets e window) notices ticked a = comes_none w e (AsksReset window) notices.sites a
 event_none t w (Activates h sync power) notices ticked a =
-    let near : NodeWorld × List Entry = comes_at w (end_c h) (Starts power) in
     let good = notices_come t w notices.orderly notices.up (record { sites = notices.sites; reads_so = notices.controller }) (end_c h) (Starts power) in
-    comes_none near.0 (end_h h) (Starts sync) good.sites (comes_none w (end_c h) (Starts power) notices.sites a)
+    comes_none (comes_at w (end_c h) (Starts power)).0 (end_h h) (Starts sync) good.sites (comes_none w (end_c h) (Starts power) notices.sites a)
 event_none t w (Arms n plan) notices ticked a = memory_none w n (record (memory_at w n) { plan = Some plan }) a
 
 pub new_none : (content hosts : List ℕ) → HaveNoneAside (map (new_site content) hosts)

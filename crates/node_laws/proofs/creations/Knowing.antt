@@ -5,10 +5,9 @@ use Rattle.node_laws.proofs.Words.{IsReadSo, IsShut, KeepsCreations, KnowsAsRead
 use Rattle.node_laws.proofs.Words.{PipeRow, Plan, Port, Release, Role, Running, Site, Some, Work, [], ap, append-nil, append_assoc, arith, aside_in, asked_at}
 use Rattle.node_laws.proofs.Words.{asked_pipes, asking_in, asks_for, book_after, book_in, by_list, by_option, by_test, cases_Bool, cond, creation_in}
 use Rattle.node_laws.proofs.Words.{creations_at, creations_of, end_c, ends_between, eqb, eqb-true, false, find, fold, give_refusal, hosts_in, inl, inr}
-use Rattle.node_laws.proofs.Words.{is_asked_pipe, is_none, is_some, is_up, left_running, length, link_to, list_any, map, new_link, new_link_end, not}
-use Rattle.node_laws.proofs.Words.{option_map, option_map_or, pipe_at, port_at, port_for, range_with_len, refl, renewed, runs_left, runs_none, runs_on}
-use Rattle.node_laws.proofs.Words.{sent_all, site_at, slice_index, steps, subst, sym, true, true≢false, turn, waiting_pipes, work_of, ℕ, ◌&&◌, ◌++◌, ◌||◌, ◌∙◌}
-use Rattle.node_laws.proofs.Words.{◌∷◌, ◌≡◌, ◌≤◌, ◌⊎◌}
+use Rattle.node_laws.proofs.Words.{is_asked_pipe, is_none, is_some, is_up, length, link_to, list_any, map, new_link, new_link_end, not, option_map}
+use Rattle.node_laws.proofs.Words.{option_map_or, pipe_at, port_at, port_for, range_with_len, refl, renewed, runs_left, runs_none, runs_on, sent_all, site_at}
+use Rattle.node_laws.proofs.Words.{slice_index, steps, subst, sym, true, true≢false, turn, waiting_pipes, work_of, ℕ, ◌&&◌, ◌++◌, ◌||◌, ◌∙◌, ◌∷◌, ◌≡◌, ◌≤◌, ◌⊎◌}
 use Rattle.node_machine.specs.Controller.{pipe_of}
 use Rattle.pipe_table.specs.PipeRows.{is_free, lowest_free}
 use Rattle.node_laws.proofs.creations.Outcomes.{Asked, asked_of, desks_wait, one_of, waits}
@@ -52,9 +51,6 @@ has_is n l e same a = record { within = record { room = a.room; forgot = a.forgo
 
 pub new_ready : (r : Role) → HasSetAside [] (new_link_end (renewed r))
 new_ready r = grind arith
-
-bare_ready : (l : List Creation) → l ≡ [] → HasSetAside l (new_link Bare Bare).controller.side
-bare_ready l e = subst (λ k. HasSetAside k (new_link Bare Bare).controller.side) (sym e) (new_ready Bare)
 
 -- the end of a link where no site is
 pub none_side : (sites : List Site) (x : ℕ) → site_at sites x ≡ None → (link_to sites x).controller.side ≡ (new_link Bare Bare).controller.side
@@ -167,7 +163,7 @@ module _ (t : List Entry) (w : NodeWorld) (r : Running) (runs : w.controller ≡
         none,
         by_list (waits x asked ++ [])
             (λ q. rw q refl)
-            (λ c l q. rw q (absurd (omega (arith, (rw q at none))))),
+            (λ c l q. rw q (absurd (omega (arith, rw q at none)))),
       ))
       (λ d e. let b : IsBegun x (port_for (near_ends x) d) = begun_at x d e in
       subst (EndAt (many x t (hosts_in w.sites) asked []) (waits x asked ++ [])) (sym b.here)
@@ -231,9 +227,6 @@ module _ (t : List Entry) (w : NodeWorld) (r : Running) (runs : w.controller ≡
       off_is : after_it.cut ≡ true → v.controller ≡ None
       off_is e = runs_so ∙ runs_none after_it e
 
-      on_is : after_it.cut ≡ false → v.controller ≡ Some (left_running after_it)
-      on_is e = runs_so ∙ runs_left after_it e
-
       reading_now : (x : ℕ) → asking_in now x ≡ asking_in (t ++ after_it.entries) x
       reading_now x = ap (λ l. asking_in l x) (sym (append_assoc t after_it.entries frames)) ∙ far_reading x (t ++ after_it.entries) frames far
 
@@ -256,7 +249,7 @@ module _ (t : List Entry) (w : NodeWorld) (r : Running) (runs : w.controller ≡
       some : after_it.cut ≡ false → Reads now v
       some e = record {
         book = book_now (on e 0).good.book;
-        due = subst AreAwaited (sym (on_is e))
+        due = subst AreAwaited (sym (runs_so ∙ runs_left after_it e))
             (due_back after_it.ports (subst (AllByRecursion (λ (e : ℕ × Option Creation). IfAwaited e.1)) (sym (on e 0).good.asked_are)
             (on e 0).good.due));
         read = λ x.
@@ -267,7 +260,7 @@ module _ (t : List Entry) (w : NodeWorld) (r : Running) (runs : w.controller ≡
             (λ q. let a : Still x t (hosts_in w.sites) after_it = on e x in
             let gone : EndAt (many x t (hosts_in w.sites) a.asked []) (waits x a.asked ++ []) None =
             subst (EndAt (many x t (hosts_in w.sites) a.asked []) (waits x a.asked ++ [])) (no_site after_it.ports w.sites x a.good.hosts_are q) a.good.end in
-            subst (HasSetAside (waits x a.asked ++ [])) (sym (nowhere x q)) (bare_ready (waits x a.asked ++ []) gone.1))
+            subst (HasSetAside (waits x a.asked ++ [])) (sym (nowhere x q)) (grind arith))
             (λ s q. let a : Still x t (hosts_in w.sites) after_it = on e x in
             let g = goes x s q e in
             subst (HasSetAside (waits x a.asked ++ [])) (sym g.2)
@@ -275,7 +268,7 @@ module _ (t : List Entry) (w : NodeWorld) (r : Running) (runs : w.controller ≡
       } where
         creations_now : (x : ℕ) → creations_of v.controller x ≡ waits x (on e x).asked ++ []
         creations_now x =
-            ap (λ o. creations_of o x) (on_is e)
+            ap (λ o. creations_of o x) (runs_so ∙ runs_left after_it e)
             ∙ (desks_wait x after_it.ports ∙ (ap (waits x) (on e x).good.asked_are ∙ sym (append-nil (waits x (on e x).asked))))
 
 -- ## What a controller knows of the creations that wait, and the blocks that it sets aside for them, are what is read
@@ -429,9 +422,6 @@ module _ (hosts : List ℕ) (t : List Entry) (w : NodeWorld) (a : KeepsCreations
   read_of : (x : ℕ) → IsReadSo (asking_in t x) (waits x (asked_of ports))
   read_of x = subst (IsReadSo (asking_in t x)) (list_is x) (a.read x)
 
-  pipe_is : (pid x : ℕ) → list_any (is_of_pipe pid) (waits x (asked_of ports)) ≡ is_asked_pipe t pid x
-  pipe_is pid x = read_pipe pid (asking_in t x) (waits x (asked_of ports)) (read_of x)
-
   -- an asker is a host of the world
   in_hosts : (pid x : ℕ) → list_any (is_of_pipe pid) (waits x (asked_of ports)) ≡ true → list_any (is_asked_pipe t pid) hosts ≡ true
   in_hosts pid x e = by_option (site_at w.sites x)
@@ -439,16 +429,16 @@ module _ (hosts : List ℕ) (t : List Entry) (w : NodeWorld) (a : KeepsCreations
       ap length (sym (list_is x)) ∙ (sym (a.ends x).aside ∙ ap (λ (z : LinkEnd). z.aside) (none_side w.sites x q)) in
       absurd (true≢false (sym e ∙ by_list (waits x (asked_of ports))
       (λ q. rw q refl)
-      (λ c l q. rw q (absurd (omega (arith, (rw q at none))))))))
+      (λ c l q. rw q (absurd (omega (arith, rw q at none)))))))
       (λ s q. subst (λ l. list_any (is_asked_pipe t pid) l ≡ true) a.kept.hosts_are
-      (any_site pid (is_asked_pipe t pid) w.sites x s q (sym (pipe_is pid x) ∙ e)))
+      (any_site pid (is_asked_pipe t pid) w.sites x s q (sym (read_pipe pid (asking_in t x) (waits x (asked_of ports)) (read_of x)) ∙ e)))
 
   waiting_is : (pid : ℕ) → list_any (λ p. eqb p pid) (waiting_pipes ports) ≡ list_any (is_asked_pipe t pid) hosts
   waiting_is pid =
       two_ways (list_any (λ p. eqb p pid) (waiting_pipes ports)) (list_any (is_asked_pipe t pid) hosts)
       (λ e. let s : HasAsker pid ports = asker_of pid ports e in in_hosts pid s.asker s.waits_there)
       (λ e. let s : Any pid (is_asked_pipe t pid) = any_of pid (is_asked_pipe t pid) hosts e in
-      asker_waits pid s.which ports (pipe_is pid s.which ∙ s.holds))
+      asker_waits pid s.which ports ((read_pipe pid (asking_in t s.which) (waits s.which (asked_of ports)) (read_of s.which)) ∙ s.holds))
 
   known_is : KnowsAsRead hosts t ports
   known_is = record {
@@ -479,7 +469,7 @@ asides_are hosts t w a h = (aside_is hosts t w a h, sym (none_aside w.sites h a.
 pub finds_room : (hosts : List ℕ) (t : List Entry) (w : NodeWorld) → KeepsCreations hosts t w → (h : ℕ) (message answer : List ℕ)
     → asking_in t h ≡ Some message → length answer ≤ 32 → give_refusal (turn (link_to w.sites h).controller.side Release) (1, answer) ≡ None
 finds_room hosts t w a h message answer e short =
-    takes_short (turn side Release) answer (ready.up (some l read)) short (omega (arith, ready.room, ready.aside, one l read))
+    takes_short (turn side Release) answer (ready.up (some l (grind arith))) short (omega (arith, ready.room, ready.aside, one l (grind arith)))
   where
     side : LinkEnd
     side = (link_to w.sites h).controller.side
@@ -489,9 +479,6 @@ finds_room hosts t w a h message answer e short =
 
     ready : HasSetAside l side
     ready = a.ends h
-
-    read : IsReadSo (Some message) l
-    read = subst (λ r. IsReadSo r l) e (a.read h)
 
     some : (l : List Creation) → IsReadSo (Some message) l → l ≡ [] → ⊥
     some l k z = grind arith

@@ -4,13 +4,13 @@ use Rattle.node_laws.proofs.Words.{Creation, Decision, Deed, Delete, Drops, Goes
 use Rattle.node_laws.proofs.Words.{IsProperCommand, IsReadSo, LinkView, List, Message, None, Notice, Ok, Option, PipeRow, Port, SaysOk, Sends, Set, SetOpened}
 use Rattle.node_laws.proofs.Words.{SetsErrors, Some, Sync, Tells, [], after_commands, agreed, all_append, all_false, answer_of, ap, append-nil, append_assoc}
 use Rattle.node_laws.proofs.Words.{apply, ap₂, arith, asked_at, asks_for, body_in, by_option, by_test, carried_out, cases_Bool, changed_if, closing}
-use Rattle.node_laws.proofs.Words.{commit_deeds, commits_and_tells, cond, cond_both, controller_deeds, controller_holds, creations_at, decided}
-use Rattle.node_laws.proofs.Words.{decided_holds, decision_deeds, dest_in, ends_of, eqb, eqb-true, false, far_end, far_end_of, filter, filter_map, finds_room}
-use Rattle.node_laws.proofs.Words.{first_of, forgets, gates, goes_through, has, has_link, has_notice, header_of, hosts_where, identity_served, inl, inr}
-use Rattle.node_laws.proofs.Words.{is_none, is_opened, is_over_at, is_response, is_some, length, length-append, link_deeds, link_served, ltb, map, new_book}
-use Rattle.node_laws.proofs.Words.{new_row, no_tables, not, opening, option_and_then, or_parts, own_gate, own_view, param_in, pid_of, pipe_at, port_at, refl}
-use Rattle.node_laws.proofs.Words.{relayed_to, subst, sym, take, tests_of_pipe, tests_to_create, told_of_clearing, told_of_deletion, true, true≢false, view_for}
-use Rattle.node_laws.proofs.Words.{view_of, with_command, with_found, with_port, without_notice, ℕ, ◌&&◌, ◌++◌, ◌||◌, ◌∙◌, ◌∷◌, ◌≡◌, ◌⊎◌}
+use Rattle.node_laws.proofs.Words.{commit_deeds, cond, cond_both, controller_deeds, controller_holds, creations_at, decided, decided_holds, decision_deeds}
+use Rattle.node_laws.proofs.Words.{dest_in, ends_of, eqb, eqb-true, false, far_end, far_end_of, filter, filter_map, finds_room, first_of, forgets, gates}
+use Rattle.node_laws.proofs.Words.{goes_through, has, has_link, has_notice, header_of, hosts_where, identity_served, inl, inr, is_none, is_opened, is_over_at}
+use Rattle.node_laws.proofs.Words.{is_response, is_some, length, length-append, link_deeds, link_served, ltb, map, new_row, no_tables, not, opening}
+use Rattle.node_laws.proofs.Words.{option_and_then, or_parts, own_gate, own_view, pid_of, pipe_at, port_at, refl, relayed_to, subst, sym, take, tests_of_pipe}
+use Rattle.node_laws.proofs.Words.{tests_to_create, true, true≢false, view_for, view_of, with_command, with_found, with_port, without_notice, ℕ, ◌&&◌, ◌++◌}
+use Rattle.node_laws.proofs.Words.{◌||◌, ◌∙◌, ◌∷◌, ◌≡◌, ◌⊎◌}
 use Rattle.gate_admin.proofs.CreationLemmas.{AllFalse}
 use Rattle.gate_admin.specs.Decide.{created, dest_gate_in, tests_to_open}
 use Rattle.hci_tables.specs.Tables.{with_static}
@@ -321,9 +321,6 @@ proper_closed rows a = all_same IsProper (as_opened false) (set_proper false) ro
 
 -- ### What is read
 
-pub new_proper : IsProperBook new_book
-new_proper = record { commands = tt; tables = tt }
-
 pub proper_command : (c : Command) (b : Book) → IsProperCommand c → IsProperBook b → IsProperBook (with_command c b)
 proper_command c b may a = record {
   commands = all_append IsProperCommand b.commands (c ∷ []) a.commands (may, tt);
@@ -367,10 +364,6 @@ AsksNobody (Ask dest notice c answer) = ⊥
 AsksNobody _ = Unit {0}
 
 module _ (v : LinkView) (h : ℕ) (host : eqb h 0 ≡ false) where
-  tells_suit : (c : Command) (told notice : List ℕ) → IsProperCommand c → is_response notice ≡ false
-      → Suits h (commits_and_tells c told notice)
-  tells_suit c told notice may e = grind arith
-
   created_proper : (body : List ℕ) (pid : ℕ) → eqb (dest_in body) h ≡ false
       → (eqb (dest_in body) 0 && not (eqb (dest_gate_in body) 4 || eqb (dest_gate_in body) 5)) ≡ false → IsProper (created h body pid)
   created_proper body pid other gate = grind arith
@@ -387,8 +380,8 @@ module _ (v : LinkView) (h : ℕ) (host : eqb h 0 ≡ false) where
         sets = λ _. (tt, refl);
         makes = λ passed controller. (proper passed, refl);
         asks = λ passed other. (row, refl, refl, record { creator = refl; proper = proper passed; notice_is = refl });
-        deletes = λ _. tells_suit (Delete (param_in body)) (told_of_deletion t v h (param_in body)) (19 ∷ param_in body ∷ []) tt refl;
-        clears = λ _. tells_suit (Clear h) (told_of_clearing t v h) (21 ∷ h ∷ []) tt refl;
+        deletes = λ _. (grind arith);
+        clears = λ _. (grind arith);
       })
 
   -- no pipe but 01 leads to the administration gate
@@ -499,7 +492,7 @@ module _ (x : ℕ) where
     decision_is pipe (Ask dest notice c answer) up free suits (inr none) =
         let row : PipeRow = suits.0 in
         let of : IsAskFor h notice.items row = suits.3 in
-        IsAsking dest notice.items (record { asker = h; command = c; answer = answer.items }) refl ((grind arith))
+        IsAsking dest notice.items (record { asker = h; command = c; answer = answer.items }) refl (grind arith)
 
     link_stays : (pipe : ℕ) (answer : List ℕ × Option ℕ) → (eqb pipe 1 ≡ true → asks_for ports h ≡ false) → All (link_deeds h pipe answer)
     link_stays pipe answer free = let h0 = one_sent pipe answer.0 free in grind arith

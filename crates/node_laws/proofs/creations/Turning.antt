@@ -19,7 +19,7 @@ use Rattle.node_laws.proofs.readings.Noticed.{up_is}
 use Rattle.node_laws.proofs.readings.Turning.{lack_parts}
 use Rattle.node_laws.proofs.steps.StepWalks.{changed_host, come_host, forgets_host, late_host, without_host}
 use Rattle.node_laws.proofs.telling.Accounts.{AreSilent, all_owed_mute, all_synced_mute, at_changed, forgotten_mute, rest, turned-append}
-use Rattle.node_laws.proofs.telling.Ticks.{IsLasting, IsLate, late_parts, reset_same}
+use Rattle.node_laws.proofs.telling.Ticks.{IsLate, late_parts, reset_same}
 use Rattle.node_laws.proofs.telling.Steps.{forgets_same, without_same}
 use Rattle.trace_model.specs.declared.entry.Entry.TheVariants as entry
 
@@ -174,8 +174,7 @@ module _ (x : ℕ) (before : List Entry) (hosts : List ℕ) (different : AreDiff
       (λ l b. ends_good ends l (have_turns k messages w) all.1 b)
 
   pub passes_good : (asked : Asked) (w : Work) → AllByRecursion IsHost hosts → Good x before hosts asked [] w → Fine x before hosts (passes w)
-  passes_good asked w all a =
-      ends_good (map (λ (p : Port). p.desk.host) w.ports) asked w (subst (AllByRecursion IsHost) (sym a.hosts_are) all) a
+  passes_good asked w all a = ends_good (map (λ (p : Port). p.desk.host) w.ports) asked w (subst (AllByRecursion IsHost) (sym a.hosts_are) all) a
 
 -- ## The end of a controller on a link of its world is what its step makes of it
 
@@ -234,19 +233,13 @@ goes_so x input w c here none =
     (record v { core = after_sessions v.core v.ports; ports = map without_notice left })
     (forgotten_mute v.ports) (all_synced_mute w.core input w.ports) (all_owed_mute left) (begins_so x c v v.ports here none)
 
-come_turns : (p : Port) (o : Option LinkInput) → p.turns ≡ [] → (has_come p o).turns ≡ []
-come_turns p o e = grind arith
-
-reset_turns : (p : Port) → p.turns ≡ [] → (reset_late p).turns ≡ []
-reset_turns p e = by_test (is_late p) (λ z. rw z e) (λ z. rw z e)
-
 pub near_made : (x h : ℕ) (i : LinkInput) (w : Work) (p : Port) → port_at w.ports x ≡ Some p → p.turns ≡ []
     → IsMade x (has_come p (input_at (AtEnd h i) p)).side (has_come p (input_at (AtEnd h i) p)).late (steps (AtEnd h i) w)
 near_made x h i w p here none =
     goes_so x (AtEnd h i) w (has_come p (input_at (AtEnd h i) p))
     (at_all w.ports x (λ q. has_come q (input_at (AtEnd h i) q)) (λ q. come_host q (input_at (AtEnd h i) q))
     ∙ ap (option_map (λ (q : Port). has_come q (input_at (AtEnd h i) q))) here)
-    (come_turns p (input_at (AtEnd h i) p) none)
+    (grind arith)
 
 -- an end after a tick
 abbrev pub after_tick : Port → Port
@@ -259,7 +252,7 @@ tick_made x w p here none =
     (at_all (map with_older (map (λ q. has_come q (Some Tick)) w.ports)) x reset_late late_host
     ∙ ap (option_map reset_late) (at_all (map (λ q. has_come q (Some Tick)) w.ports) x with_older (λ q. refl)
     ∙ ap (option_map with_older) (at_all w.ports x (λ q. has_come q (Some Tick)) (λ q. refl) ∙ ap (option_map (λ (q : Port). has_come q (Some Tick))) here)))
-    (reset_turns (with_older (has_come p (Some Tick))) none)
+    (grind arith)
 
 -- ### Links
 
@@ -299,9 +292,8 @@ tick_side l ts p side fresh noticed shut = go (is_late (with_older (has_come p (
       let is : (after_tick p).side ≡ after_input (after_input p.side Tick) (Reset None) = rw e refl in
       let parts : IsLate p = late_parts p e in
       let up : p.side.shdlc.phase ≡ Up = up_is p.side.shdlc.phase (noticed (grind arith)) in
-      let lasting : IsLasting p.side = grind arith in
       let going : is_waiting l.controller.side.shdlc ≡ false = grind arith in
       ap (λ b. (ticked_so l b ts GoesOut).controller.side) late
       ∙ (ap (λ b. (cond (not b) (has_input l (Reset None) ts GoesOut) (ticks_at_controller l ts GoesOut)).controller.side) going
       ∙ (ap (λ z. sent_all (turned (after_input z (Reset None)) ts)) (sym side)
-      ∙ ap (λ z. sent_all (turned z ts)) (sym (is ∙ reset_same p.side lasting))))
+      ∙ ap (λ z. sent_all (turned z ts)) (sym (is ∙ reset_same p.side (grind arith)))))

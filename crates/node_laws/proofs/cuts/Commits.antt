@@ -12,7 +12,7 @@ use Rattle.hci_store.proofs.Committed.{room_count}
 use Rattle.journal_laws.proofs.Opening.{at_place as byte_there, length-cut}
 use Rattle.journal_laws.specs.Writes.{FitIn, IsCut}
 use Rattle.swp_base.proofs.WriteLemmas.{length-overwritten}
-use Rattle.node_laws.proofs.kept.Reckoned.{can, commit_count, commit_knows, content_on, finds_still, has_room, next_of, room_knows, room_left, says_of}
+use Rattle.node_laws.proofs.kept.Reckoned.{can, commit_count, commit_knows, finds_still, has_room, next_of, room_knows, room_left, says_of}
 use Rattle.nv_journal.proofs.Appending as appending
 use Rattle.nv_journal.proofs.Compacting as compacting
 
@@ -27,9 +27,6 @@ IsFilled (suc k) fill (w ∷ writes) old new = IsFilled k fill writes (overwritt
 abbrev plan_of : ℕ → List ℕ → Option Plan
 plan_of nth fill = Some (record { nth = nth; fill = fill })
 
-next_one : (k : ℕ) → (suc (suc k) == 1) ≡ false
-next_one k = ne_eqb (suc (suc k)) 1 (λ is. absurd (omega arith))
-
 nearer : (k : ℕ) (fill : List ℕ) → plan_after (plan_of (suc (suc k)) fill) ≡ plan_of (suc k) fill
 nearer k fill = grind arith
 
@@ -38,9 +35,9 @@ pub planned_filled : (k : ℕ) (fill : List ℕ) (writes : List Write) (m : Memo
 planned_filled k fill [] m is within = absurd (omega arith)
 planned_filled zero fill (w ∷ writes) m is within = grind arith
 planned_filled (suc k) fill (w ∷ writes) m is within =
-    let later : is_next m.plan ≡ false = ap is_next is ∙ next_one k in
+    let later : is_next m.plan ≡ false = ap is_next is ∙ (grind arith) in
     let next : Memory = memory_after m w.at w.bytes in
-    subst (λ c. IsFilled k fill writes c (after_planned (w ∷ writes) m).content) (content_on m w.at w.bytes later)
+    subst (λ c. IsFilled k fill writes c (after_planned (w ∷ writes) m).content) (grind arith)
     (subst (λ c. IsFilled k fill writes next.content c)
     (sym (ap (λ b. (cond b next (after_planned writes next)).content) later))
     (planned_filled k fill writes next (plan_on m w.at w.bytes later ∙ ap plan_after is ∙ nearer k fill) (omega arith)))
@@ -82,15 +79,11 @@ ends_append : (first later : List Write) → EndsInGate later → EndsInGate (fi
 ends_append [] later ends = ends
 ends_append (w ∷ first) later ends = behind_one w (first ++ later) (ends_append first later ends)
 
--- what the gate's write leaves where it is torn
-gate_filled : (fill bytes : List ℕ) → bytes ≡ 90 ∷ [] → cycled fill (length bytes) ≡ slice_index fill 0 ∷ []
-gate_filled fill bytes is = ap (λ l. cycled fill (length l)) is ∙ one_filled fill
-
 gate_left : (i : ℕ) (fill : List ℕ) (writes : List Write) (c new : List ℕ) → FitIn (length c) writes → EndsInGate writes → IsFilled i fill writes c new
     → i + 1 ≡ length writes → slice_index new (last_place writes) ≡ slice_index fill 0
 gate_left i fill [] c new fit ends filled last = absurd ends
 gate_left zero fill (w ∷ []) c new fit ends filled last =
-    ap (λ l. slice_index l w.at) (filled ∙ ap (overwritten c w.at) (gate_filled fill w.bytes ends))
+    ap (λ l. slice_index l w.at) (filled ∙ ap (overwritten c w.at) (grind arith))
     ∙ byte_there c w.at (slice_index fill 0) (omega (arith, fit.0, ap length ends))
 gate_left (suc i) fill (w ∷ []) c new fit ends filled last = absurd filled
 gate_left zero fill (w ∷ next ∷ writes) c new fit ends filled last = absurd (omega (arith, last))

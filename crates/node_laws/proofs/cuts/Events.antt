@@ -103,7 +103,7 @@ same_node k n w q other =
 same_loses : (k n : ℕ) (w : NodeWorld) → (k ≡ n → ⊥) → IsThere w n → IsSameAt n w (loses_power_at k w)
 same_loses k n w other =
     same_at k n w (loses_power_at k w) other
-    (λ z. subst (λ j. ChangesNear w (loses_power_at j w)) (sym z) ((grind arith)))
+    (λ z. subst (λ j. ChangesNear w (loses_power_at j w)) (sym z) (grind arith))
     (λ off. record { change = host_cut; host = λ s. refl; is = loses_is w k off })
 
 -- ### The node itself
@@ -154,7 +154,7 @@ runs_of hosts are t v n q all (inr far) running =
     let s : Site = far.1.0 in
     let known = site_found (SiteKeeps t) IsHost v.sites n s all.sites (subst (AllByRecursion IsHost) (sym all.hosts_are) are.all) far.1.1 in
     let was : s.node ≡ Some q = sym (node_far v n s far.0 far.1.1) ∙ running in
-    let here : RunsSo s.host (s.host ∷ []) s.memory.content t q = subst (IfRuns s.host (s.host ∷ []) s.memory.content t) was known.0.runs in (grind arith)
+    let here : RunsSo s.host (s.host ∷ []) s.memory.content t q = subst (IfRuns s.host (s.host ∷ []) s.memory.content t) was known.0.runs in grind arith
 
 -- ## What a boot, a cut or a plan leaves of what is known of each node
 
@@ -181,9 +181,6 @@ module _ (n : ℕ) (t : List Entry) (r : Reckoning) (m : Memory) where
   abbrev booting : Reckoning
   booting = record r { memory = after_planned (boot_writes r.memory.content) r.memory }
 
-  booting_memory : r.memory ≡ m → booting.memory ≡ after_planned (boot_writes m.content) m
-  booting_memory is = ap (λ (x : Memory). after_planned (boot_writes x.content) x) is
-
   uncut_is : fold (reckoned n) booting (entry.Cut n ∷ []) ≡ record booting { runs = false; due = false }
   uncut_is = ap (λ b. cond b (record booting { runs = false; due = false }) booting) (eq-eqb n n refl)
 
@@ -192,7 +189,7 @@ module _ (n : ℕ) (t : List Entry) (r : Reckoning) (m : Memory) where
   boot_cut node s fails = subst (λ x. Stands n (t ++ entry.Cut n ∷ []) x (after_planned (boot_writes m.content) m) None) (sym uncut_is) (record {
     runs_is = refl;
     book_is = ap (λ (x : Reckoning). x.book) (sym uncut_is) ∙ book_then n t booting (entry.Cut n ∷ []) s.book_is;
-    memory_is = booting_memory s.memory_is;
+    memory_is = grind arith;
     none_due = refl;
     none_lost = λ on. absurd (true≢false (sym on));
     many = s.many;
@@ -208,7 +205,7 @@ module _ (n : ℕ) (t : List Entry) (r : Reckoning) (m : Memory) where
     now : count_of (found n links m.content).core.journal ≡ s.many
     now =
         counted m.content (state_of m.content) (started_state (state_of m.content)) (grind arith) refl
-        ∙ s.finds.keeps.count_is ∙ (omega (arith, (least r.lost s.many (length r.book.commands) s.which), few))
+        ∙ s.finds.keeps.count_is ∙ (omega (arith, least r.lost s.many (length r.book.commands) s.which, few))
 
   boot_run : (links : List ℕ) (k : ℕ) (node : Option Running) (q : Running) → Stands n t r m node
       → RunsSo n links (after_planned (boot_writes m.content) m).content (t ++ entry.Booted n k ∷ []) q
@@ -216,7 +213,7 @@ module _ (n : ℕ) (t : List Entry) (r : Reckoning) (m : Memory) where
   boot_run links k node q s runs = record {
     runs_is = ap (λ (x : Reckoning). x.runs) booted_is;
     book_is = book;
-    memory_is = ap (λ (x : Reckoning). x.memory) booted_is ∙ booting_memory s.memory_is;
+    memory_is = ap (λ (x : Reckoning). x.memory) booted_is ∙ (grind arith);
     none_due = ap (λ (x : Reckoning). x.due) booted_is ∙ s.none_due;
     none_lost = λ on. none;
     many = length now.book.commands;
@@ -265,7 +262,7 @@ module _ (n : ℕ) (t : List Entry) (r : Reckoning) (m : Memory) where
   armed_stands : (plan : Plan) (node : Option Running) → Stands n t r m node
       → Stands n (t ++ []) (record r { memory = record r.memory { plan = Some plan } }) (record m { plan = Some plan }) node
   armed_stands plan node s = subst (λ l. Stands n l (record r { memory = record r.memory { plan = Some plan } }) (record m { plan = Some plan }) node)
-      (sym (append-nil t)) ((grind arith))
+      (sym (append-nil t)) (grind arith)
 
 -- ## What whatever happens leaves of what is known of each node, and how its entries come
 
@@ -355,8 +352,8 @@ module _ (hosts : List ℕ) (are : AreHosts hosts) (n : ℕ) where
   lost_exact : (t : List Entry) (r : Reckoning) (w : NodeWorld) (e : End) (why : Loss) → IsThere w n → StandsAt n t r w → ExactAt n t r (frame_lost w e why)
   lost_exact t r w e why there stands =
       by_loss (ExactAt n t r) w e why
-      (λ side. plain_exact n t r w _ ((grind arith)) there stands)
-      (λ side. plain_exact n t r w _ ((grind arith)) there stands) where
+      (λ side. plain_exact n t r w _ (grind arith) there stands)
+      (λ side. plain_exact n t r w _ (grind arith) there stands) where
         far : Site → Site
         far s = record (site_lost e why s) { node = counts why e.link s.node }
 

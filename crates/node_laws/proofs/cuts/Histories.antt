@@ -57,12 +57,9 @@ record Begins (n : ℕ) (w : NodeWorld) : Type 0 where
 
 node_begins : (hosts : List ℕ) (n : ℕ) → IsNodeOf hosts n → Begins n (new_world hosts)
 node_begins hosts n is = by_test (eqb n 0)
-    (λ zero_is. subst (λ k. Begins k w) (sym (eqb-true n 0 zero_is)) (record { there = inl refl; stands = begins 0 }))
+    (λ zero_is. subst (λ k. Begins k (new_world hosts)) (sym (eqb-true n 0 zero_is)) (record { there = inl refl; stands = begins 0 }))
     (λ off. let s = site_in (replicate 65536 255) hosts n (sym (ap (λ b. b || list_any (λ h. eqb h n) hosts) off) ∙ is) in
     (grind arith)) where
-      w : NodeWorld
-      w = new_world hosts
-
       blank : Reckoning
       blank = reckoning_of false new_book (new_memory (replicate 65536 255))
 
@@ -139,8 +136,7 @@ module _ (hosts : List ℕ) (are : AreHosts hosts) (n : ℕ) where
             let both : (boots_in n front || (boots_it n o.cause || false)) ≡ false =
             sym (list_any-append (λ (x : Occurrence). boots_it n x.cause) front (o ∷ [])) ∙ none in
             let first : boots_in n front ≡ false = or_false_left (boots_in n front) (boots_it n o.cause) both in
-            let last : boots_it n o.cause ≡ false = grind arith in
-            subst IsNew (sym read) (new_event n (reckoning_in front n) o.cause es last g.planned (k.new first));
+            subst IsNew (sym read) (new_event n (reckoning_in front n) o.cause es (grind arith) g.planned (k.new first));
         stands = grind arith;
       }
 
@@ -158,7 +154,7 @@ module _ (hosts : List ℕ) (are : AreHosts hosts) (n : ℕ) where
       × ((before behind : List Entry) (many : ℕ) → o.entries ≡ before ++ (entry.Booted n many ∷ behind)
       → FindsExactly (reckoned_within n o.cause (reckoning_in front n) before) many)
   event_is front w o events k =
-      let g = goes front w o events k in (grind arith)
+      let g = goes front w o events k in grind arith
 
 -- ### Schedules
 

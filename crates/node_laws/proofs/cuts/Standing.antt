@@ -6,8 +6,8 @@ use Rattle.node_laws.proofs.Words.{None, Option, Plan, Port, Reckoning, Running,
 use Rattle.node_laws.proofs.Words.{append-nil, append_assoc, apply, arith, body_of, book_after, book_in, by_option, by_test, cases_Bool, close, commands_in}
 use Rattle.node_laws.proofs.Words.{commit, commit_writes, committed, cond, count_of, current, eq-eqb, fails_within, false, fold, inl, inr, is_next}
 use Rattle.node_laws.proofs.Words.{is_opened_gate, is_some, leb-true, length, length-append, list_any, list_any-append, loses_power, map, memory_after, min}
-use Rattle.node_laws.proofs.Words.{nat_le, ne_eqb, no_tables, not, noting, opens_gate, or-false, reckoned, reckoning_of, refl, runs_on, slice_index, subst, suc}
-use Rattle.node_laws.proofs.Words.{sym, take, true, true≢false, with_written, writes_of, ℕ, ◌&&◌, ◌++◌, ◌+◌, ◌-◌, ◌==◌, ◌^◌, ◌||◌, ◌∙◌, ◌∷◌, ◌≡◌, ◌≤◌, ◌⊎◌}
+use Rattle.node_laws.proofs.Words.{nat_le, ne_eqb, no_tables, not, noting, opens_gate, or-false, reckoned, reckoning_of, refl, runs_on, slice_index, subst, sym}
+use Rattle.node_laws.proofs.Words.{take, true, true≢false, with_written, writes_of, ℕ, ◌&&◌, ◌++◌, ◌+◌, ◌-◌, ◌==◌, ◌^◌, ◌||◌, ◌∙◌, ◌∷◌, ◌≡◌, ◌≤◌, ◌⊎◌}
 use Rattle.node_laws.specs.cuts.Histories.{is_boot_of}
 use Rattle.node_laws.specs.kept.Books.{HasLostIn}
 use Rattle.node_laws.proofs.cuts.Commits.{planned_closed, planned_opened}
@@ -122,11 +122,10 @@ module _ (n : ℕ) (hosts : List ℕ) (old : Memory) (before : List Entry) (c : 
 
   pub step_closed : opens_gate (length (commit c w).writes) old.plan ≡ false → FindsAll (commands_in seen n)
   step_closed opens =
-      let found = planned_closed r.memory w.core.journal w.core.tables c r.knows r.sorted r.recordable may room now (sym plan_at ∙ opens) in
       subst (λ x. BootFinds x (after_commands no_tables (commands_in seen n)) (min (length (commands_in seen n)) (2 ^ 32 - 1))) (sym memory_is)
       (subst (λ k. BootFinds (after_planned writes_of_steps r.memory).content (after_commands no_tables (commands_in seen n)) k) r.count_is
       (finds_closed (after_planned writes_of_steps r.memory).content w.core.tables (after_commands no_tables (commands_in seen n)) (count_of w.core.journal)
-      found
+      (planned_closed r.memory w.core.journal w.core.tables c r.knows r.sorted r.recordable may room now (sym plan_at ∙ opens))
       (ap close r.tables_are ∙ closed_book seen n)))
 
 -- ## What is known of a node by what is read of it, and what an event of one node leaves of that
@@ -168,9 +167,6 @@ less_found : (content : List ℕ) (commands : List Command) (c : Command)
 less_found content commands c finds =
     subst (λ l. BootFinds content (after_commands no_tables l) (min (length commands) (2 ^ 32 - 1))) (sym (take-append_seam commands (c ∷ []))) finds
 
-one_more_of_standing : (commands : List Command) (c : Command) → suc (length commands) ≡ length (commands ++ c ∷ [])
-one_more_of_standing commands c = omega (arith, length-append commands (c ∷ []))
-
 -- ### Boots
 
 nothing_boots : (n : ℕ) (r : Reckoning) (e : Entry) → IsNothingFor n e → is_boot_of n e ≡ false
@@ -179,13 +175,11 @@ nothing_boots n r _ x = refl
 
 none_boots : (n : ℕ) (r : Reckoning) (es : List Entry) → AllByRecursion (IsNothingFor n) es → list_any (is_boot_of n) es ≡ false
 none_boots n r [] all = refl
-none_boots n r (e ∷ es) all =
-    ap (λ b. b || list_any (is_boot_of n) es) (nothing_boots n r e all.0) ∙ none_boots n r es all.1
+none_boots n r (e ∷ es) all = ap (λ b. b || list_any (is_boot_of n) es) (nothing_boots n r e all.0) ∙ none_boots n r es all.1
 
 -- entries without a boot of the node
 pub still_booted : (n : ℕ) (t es : List Entry) → list_any (is_boot_of n) es ≡ false → list_any (is_boot_of n) (t ++ es) ≡ list_any (is_boot_of n) t
-still_booted n t es none =
-    list_any-append (is_boot_of n) t es ∙ ap (λ b. list_any (is_boot_of n) t || b) none ∙ or-false (list_any (is_boot_of n) t)
+still_booted n t es none = list_any-append (is_boot_of n) t es ∙ ap (λ b. list_any (is_boot_of n) t || b) none ∙ or-false (list_any (is_boot_of n) t)
 
 -- ### Nothing of the node
 
@@ -373,7 +367,7 @@ module _ (n : ℕ) (links : List ℕ) (t : List Entry) (m : Memory) (q : Running
         (λ closed. let less = step_closed n l.hosts m t c work l.ran l.may l.room cut (gate ∙ closed) in (
           length before_it.book.commands,
           subst (λ b. FindsBy b (length before_it.book.commands) (length (before_it.book.commands ++ c ∷ []))) (sym (lost_is false closed))
-              (one_more_of_standing before_it.book.commands c),
+              (omega (arith, length-append before_it.book.commands (c ∷ []))),
           less_found left before_it.book.commands c
               (subst (λ x. BootFinds x (after_commands no_tables before_it.book.commands) (min (length before_it.book.commands) (2 ^ 32 - 1))) left_is
               (subst (λ l2. BootFinds (after_planned (commit c work).writes m).content (after_commands no_tables l2) (min (length l2) (2 ^ 32 - 1)))
@@ -401,8 +395,7 @@ module _ (n : ℕ) (links : List ℕ) (t : List Entry) (m : Memory) (q : Running
 
   pub exact_step : (k : Work) (more : List Entry) → GoesOn_or_lost n links m t k → AllByRecursion (IsNothingFor n) more
       → Exact n t r (k.entries ++ more) (after_planned k.writes m) (runs_on k)
-  exact_step k more fine all =
-      subst (λ x. Exact n t x (k.entries ++ more) (after_planned k.writes m) (runs_on k)) (sym begins) (by_case fine)
+  exact_step k more fine all = subst (λ x. Exact n t x (k.entries ++ more) (after_planned k.writes m) (runs_on k)) (sym begins) (by_case fine)
     where
       then_more : Exact n t start k.entries (after_planned k.writes m) (runs_on k) → Exact n t start (k.entries ++ more) (after_planned k.writes m) (runs_on k)
       then_more one =

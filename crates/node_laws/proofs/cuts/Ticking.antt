@@ -149,13 +149,12 @@ not_host h host is = omega (arith, host.0)
 run_exact : (hosts : List ℕ) (n : ℕ) (t : List Entry) (r : Reckoning) (w : NodeWorld) (p : NodeWorld × List Entry) → HasRun hosts t w p → IsThere w n
     → StandsAt n t r w → ExactAt n t r p
 run_exact hosts n t r w p a (inl is) stands =
-    let now : Stands 0 t r w.memory (Some a.running) = subst (Stands 0 t r w.memory) a.was (subst (λ k. StandsAt k t r w) is stands) in
     subst (λ k. ExactAt k t r p) (sym is)
     (exact_near t r p.0 p.1
     (subst (λ m. Exact 0 t r p.1 m p.0.controller) (sym a.memory_is)
     (subst (λ o. Exact 0 t r p.1 (after_planned a.work.writes w.memory) o) (sym a.controller_is)
     (subst (λ es. Exact 0 t r es (after_planned a.work.writes w.memory) (runs_on a.work)) (sym a.entries_are)
-    (exact_step 0 hosts t w.memory a.running r now a.work a.more a.fine (plain_idles 0 a.more a.plain))))))
+    (exact_step 0 hosts t w.memory a.running r (grind arith) a.work a.more a.fine (plain_idles 0 a.more a.plain))))))
 run_exact hosts n t r w p a (inr far) stands =
     let s : Site = far.1.0 in
     exact_far n t r p.0 p.1 (a.change s) far.0 (ap (λ l. site_at l n) a.sites ∙ site_map a.change a.host w.sites n s far.1.1)
@@ -180,12 +179,11 @@ host_run_exact n t r w h p a there stands = subst (ExactAt n t r) (sym a.is) (by
   by_node (inr far) = by_test (eqb h n)
       (λ is. let same : h ≡ n = eqb-true h n is in
       let found : site_at w.sites n ≡ Some a.site = ap (site_at w.sites) (sym same) ∙ a.there in
-      let now : Stands n t r a.site.memory (Some a.running) = subst (Stands n t r a.site.memory) a.was (stands_far n t r w a.site far.0 found stands) in
       exact_far n t r v es (a.change a.site) far.0
       (subst (λ k. site_at (with_site k a.change w.sites) n ≡ Some (a.change a.site)) (sym same) (with_here a.change a.host w.sites n a.site found))
       (subst (λ m. Exact n t r es m (a.change a.site).node) (sym a.memory_is)
       (subst (λ o. Exact n t r es (after_planned a.work.writes a.site.memory) o) (sym a.node_is)
-      (exact_step n (h ∷ []) t a.site.memory a.running r now a.work a.more
+      (exact_step n (h ∷ []) t a.site.memory a.running r (grind arith) a.work a.more
       (subst (λ k. GoesOn_or_lost k (h ∷ []) a.site.memory t a.work) same a.fine) (plain_idles n a.more a.plain)))))
       (λ other. exact_far n t r v es far.1.0 far.0 (with_there a.change a.host w.sites h n far.1.0 other far.1.1)
       (exact_idle n t r es far.1.0.memory far.1.0.node (stands_far n t r w far.1.0 far.0 far.1.1 stands)
@@ -371,7 +369,7 @@ module _ (hosts : List ℕ) (are : AreHosts hosts) (n : ℕ) where
   near_exact : (t : List Entry) (r : Reckoning) (w : NodeWorld) → AllKeep hosts t w → IsThere w n → StandsAt n t r w → ExactAt n t r (controller_ticks w)
   near_exact t r w all there stands =
       by_controller_tick (ExactAt n t r) w
-      (λ e. plain_exact n t r w (record w { sites = map site_unticked w.sites }, []) ((grind arith)) there stands)
+      (λ e. plain_exact n t r w (record w { sites = map site_unticked w.sites }, []) (grind arith) there stands)
       (λ q e.
       let k : NodeKeeps 0 hosts t w.memory (Some q) = subst (NodeKeeps 0 hosts t w.memory) e all.controller in
       let work : Work = near_tick w q in

@@ -4,16 +4,16 @@ use Rattle.node_laws.proofs.Words.{Command, Commits, Control, Controller, Core, 
 use Rattle.node_laws.proofs.Words.{HasEnds, HasRoomForAll, HciTables, Host, IsClf, IsDueAt, IsFresh, IsNamed, IsNoAnswer, IsOrderly, Link, LinkEnd, LinkInput}
 use Rattle.node_laws.proofs.Words.{List, Loss, LpduRow, NextFrame, NoInput, NodeInput, NodeWorld, None, Noted, NumberedEnd, Occurrence, Ok, OnWire, Option}
 use Rattle.node_laws.proofs.Words.{Port, PowerMode, ReadsBetween, Ready, Report, Reset, Response, Restarted, Result, Running, Site, Some, Start, Starts, Stop}
-use Rattle.node_laws.proofs.Words.{Stops, Sync, SyncId, Take, Ticked, TimePasses, TooMany, Took, Work, [], after_controller, aged_entries, all_append, all_flat}
-use Rattle.node_laws.proofs.Words.{ap, append-nil, ap₂, arith, arrival, asking_in, begun_at, by_option, by_test, comes_to, cond, controller_begins}
-use Rattle.node_laws.proofs.Words.{controller_does, creation_read, down_in, due, end_c, end_of, ended_by, ending_entries, ending_of, ends_session, entries_for}
-use Rattle.node_laws.proofs.Words.{entries_in, eq-eqb, eqb, eqb-true, false, far, filter, find, finds_room, first_lost, flat_map, flat_map-append, frames_noted}
-use Rattle.node_laws.proofs.Words.{frames_out, goes_down, has_come, has_come_so, hosts_in, hosts_of_ends, inl, input_at, input_of, inr, is_answer_of}
-use Rattle.node_laws.proofs.Words.{is_kept_sync, is_late_in, is_of_node, is_over, is_some, is_tick, is_within, kind_number, length, link_to, lpdu_of}
-use Rattle.node_laws.proofs.Words.{lpdu_row_of, nat_lt, near_end_in, new_link, new_sync, not, noted_of_deeds, notice_in, number_now, option_map_or, or-false}
-use Rattle.node_laws.proofs.Words.{owed, owed_in, port_at, port_for, pushed_out, put, put_entries, puts_entries, read_by, refl, report, same_end, session_now}
-use Rattle.node_laws.proofs.Words.{session_of_port, site_at, steps, still_asked, subst, sym, synced, syncs_in, table, tables_in, told, told_of_coming, true}
-use Rattle.node_laws.proofs.Words.{true≢false, wire_with, wires_for, ℕ, ◌%◌, ◌&&◌, ◌*◌, ◌++◌, ◌+◌, ◌/◌, ◌||◌, ◌∙◌, ◌∷◌, ◌≡◌, ◌≤◌, ◌⊎◌}
+use Rattle.node_laws.proofs.Words.{Stops, Sync, SyncId, Take, Ticked, TimePasses, Took, Work, [], after_controller, aged_entries, all_append, all_flat, ap}
+use Rattle.node_laws.proofs.Words.{append-nil, ap₂, arith, arrival, asking_in, begun_at, by_option, by_test, comes_to, cond, controller_begins, controller_does}
+use Rattle.node_laws.proofs.Words.{creation_read, down_in, due, end_c, end_of, ended_by, ending_entries, ending_of, ends_session, entries_for, entries_in}
+use Rattle.node_laws.proofs.Words.{eq-eqb, eqb, eqb-true, false, filter, find, finds_room, first_lost, flat_map, flat_map-append, frames_noted, frames_out}
+use Rattle.node_laws.proofs.Words.{goes_down, has_come, has_come_so, hosts_in, hosts_of_ends, inl, input_at, input_of, inr, is_answer_of, is_kept_sync}
+use Rattle.node_laws.proofs.Words.{is_late_in, is_of_node, is_over, is_some, is_tick, is_within, kind_number, link_to, lpdu_of, lpdu_row_of, nat_lt}
+use Rattle.node_laws.proofs.Words.{near_end_in, new_link, new_sync, not, noted_of_deeds, notice_in, number_now, option_map_or, or-false, owed, owed_in, port_at}
+use Rattle.node_laws.proofs.Words.{port_for, put, put_entries, puts_entries, read_by, refl, report, same_end, session_now, session_of_port, site_at, steps}
+use Rattle.node_laws.proofs.Words.{still_asked, subst, sym, synced, syncs_in, table, tables_in, told, told_of_coming, true, true≢false, wires_for, ℕ, ◌%◌, ◌&&◌}
+use Rattle.node_laws.proofs.Words.{◌*◌, ◌++◌, ◌+◌, ◌/◌, ◌||◌, ◌∙◌, ◌∷◌, ◌≡◌, ◌≤◌, ◌⊎◌}
 use Rattle.link_laws.specs.entries.Entries.{End as Side}
 use Rattle.swp_base.specs.declared.control_frames.Act.{Act}
 use Rattle.swp_lpdu.specs.Controls.{control_of}
@@ -74,8 +74,7 @@ module _ (bytes : List ℕ) where
     by false q one later = subst (λ b. Brings (cond b (Some r) (find p rows))) (sym q) later
 
   high_brings : (b : ℕ) → 0x80 ≤ b → Brings (lpdu_row_of b)
-  high_brings b high =
-      rows_bring (λ (r : LpduRow). is_within r.first r.last b) table (grind arith)
+  high_brings b high = rows_bring (λ (r : LpduRow). is_within r.first r.last b) table (grind arith)
 
 pub written : (c : Control) → brought_by (control_of (lpdu_of c)) ≡ brought c
 written (control.I ns nr info) = high_brings (lpdu_of (control.I ns nr info)) (0x80 + 8 * ns + nr) (omega arith)
@@ -120,19 +119,13 @@ AreTookless es = AllByRecursion IsTookless es
 abbrev pub IsUnread : HciTables → Entry → Type 0
 IsUnread t x = new_sync t x ≡ []
 
-tookless_one : (t : HciTables) (x : Entry) → IsTookless x → IsUnread t x
-tookless_one t x q = grind arith
-
 pub tookless_all : (t : HciTables) (es : List Entry) → AreTookless es → AllByRecursion (IsUnread t) es
 tookless_all t [] a = tt
-tookless_all t (x ∷ es) a = (tookless_one t x a.0, tookless_all t es a.1)
-
-other_unread : (t : HciTables) (x : Entry) → is_of_node 0 x ≡ false → IsUnread t x
-other_unread t x off = grind arith
+tookless_all t (x ∷ es) a = (grind arith, tookless_all t es a.1)
 
 pub others_unread : (t : HciTables) (es : List Entry) → AreNotOf 0 es → AllByRecursion (IsUnread t) es
 others_unread t [] a = tt
-others_unread t (x ∷ es) a = (other_unread t x a.0, others_unread t es a.1)
+others_unread t (x ∷ es) a = (grind arith, others_unread t es a.1)
 
 pub unread_flat : (t : HciTables) (es : List Entry) → AllByRecursion (IsUnread t) es → flat_map (new_sync t) es ≡ []
 unread_flat t [] a = refl
@@ -162,17 +155,9 @@ told_takes who n r acked = told_all IsNoTake who n acked tt tt (λ k. tt) tt (λ
 pub coming_tookless : (input : NodeInput) (w : Work) → AreTookless (told_of_coming input w)
 coming_tookless input w = coming_all IsTookless (λ h who n acked r. notes_tookless h (told who n r acked) (told_takes who n r acked)) input w
 
--- frames that go out, or are lost
-lost_takes : (who : Side) (why : Loss) (xs : List OnWire) → AreNoTakes (first_lost who why xs)
-lost_takes who why xs = grind arith
-
-pushed_takes : (who : Side) (wire : List OnWire) → AreNoTakes (pushed_out who wire)
-pushed_takes who wire = by_test (nat_lt 64 (length wire)) (λ q. rw q (lost_takes who TooMany wire)) (λ q. rw q tt)
-
 puts_takes : (who : Side) (l : Link) (cs : List Control) → AreNoTakes (puts_entries who l cs)
 puts_takes who l [] = tt
-puts_takes who l (c ∷ cs) =
-    all_append IsNoTake (put_entries who l c) (puts_entries who (put l c) cs) (tt, pushed_takes (far who) (wire_with l c)) (puts_takes who (put l c) cs)
+puts_takes who l (c ∷ cs) = all_append IsNoTake (put_entries who l c) (puts_entries who (put l c) cs) (tt, grind arith) (puts_takes who (put l c) cs)
 
 ending_takes : (who : Side) (l : Link) (e : LinkEnd) (ending : Ending) → AreNoTakes (ending_entries who l e ending)
 ending_takes who l e GoesOut = puts_takes who l (frames_out e)
@@ -184,7 +169,7 @@ frames_tookless who h l k = by_option (port_at k.ports h)
     (λ p q. rw q (notes_tookless h (ending_entries who l p.side (ending_of k)) (ending_takes who l p.side (ending_of k))))
 
 pub first_tookless : (h : ℕ) (who : Side) (why : Loss) (xs : List OnWire) → AreTookless (entries_for h (first_lost who why xs))
-first_tookless h who why xs = notes_tookless h (first_lost who why xs) (lost_takes who why xs)
+first_tookless h who why xs = notes_tookless h (first_lost who why xs) (grind arith)
 
 aged_takes : (who : Side) (xs : List OnWire) → AreNoTakes (aged_entries who xs)
 aged_takes who [] = tt
@@ -203,9 +188,6 @@ aged_tookless (s ∷ sites) =
 -- ## The identifier that a controller keeps in a step is the one that a frame brings, unless it is kept
 
 -- ### What an input brings
-
-take_brings : (e : LinkEnd) (c : Control) → IsClf e.role → (report e (Take c)).sync ≡ brought c
-take_brings e c a = grind arith
 
 reset_brings : (e : LinkEnd) (window : Option ℕ) → (report e (Reset window)).sync ≡ None
 reset_brings e window = refl
@@ -341,7 +323,7 @@ arrival_read t h l NextFrame i is e clf = go l.to_controller refl where
       subst (λ j. flat_map (new_sync t) (entries_for h (arrival Controller l NextFrame)) ≡ keeps_new t h (report e j).sync) same
       (told
       ∙ (append-nil (new_sync t (entry.Took (end_c h) (lpdu_of x.frame)))
-      ∙ (took_read t h (lpdu_of x.frame) ∙ ap (keeps_new t h) (written x.frame ∙ sym (take_brings e x.frame clf)))))
+      ∙ (took_read t h (lpdu_of x.frame) ∙ ap (keeps_new t h) (written x.frame ∙ sym (grind arith)))))
 arrival_read t h l (AsksReset window) i is e clf =
     let same : Reset window ≡ i = cc in
     subst (λ j. [] ≡ keeps_new t h (report e j).sync) same (sym (ap (keeps_new t h) (reset_brings e window)))
@@ -539,9 +521,6 @@ module _ (hosts : List ℕ) (are : AreHosts hosts) (past : List Occurrence) (w :
         (λ k q found.
         let p = was k q found in
         let fresh : IsFresh p.0 = at_port IsFresh begun.ports k p.0 starts.fresh p.1 in
-        late_none c still k ∙ sym (ap (λ (x : Port). x.late) p.2 ∙ come_late p.0 fresh (input_at (AtEnd h i) p.0)))
+        (grind arith) ∙ sym (ap (λ (x : Port). x.late) p.2 ∙ come_late p.0 fresh (input_at (AtEnd h i) p.0)))
         sessions tt (links_mute h (arrival Controller l comes) (arrival_unanswered Controller h l comes)) owned
         (all_append IsNoAnswer frames rest (frames_quiet (λ s. wires_for s.link (comes_to h comes s.host)) last w.sites) (no_answer rest other))
-      where
-        late_none : (c : Happening) → is_tick c ≡ false → (k : ℕ) → is_late_in past (record { cause = c; entries = last.entries ++ tail }) k ≡ false
-        late_none c still k = grind arith

@@ -125,9 +125,7 @@ module _ (hosts : List ℕ) (are : AreHosts hosts) (past : List Occurrence) (w :
     starts = tick_starts hosts are t w between.keeps r runs
 
     ticks_are : controller_ticks old ≡ after_near_tick old last
-    ticks_are = by old runs where
-      by : (v : NodeWorld) → v.controller ≡ Some r → controller_ticks v ≡ after_near_tick v (near_tick v r)
-      by v q = rw q refl
+    ticks_are = rw runs refl
 
     all_is : es ≡ (world_ticks w).1
     all_is =
@@ -136,8 +134,7 @@ module _ (hosts : List ℕ) (are : AreHosts hosts) (past : List Occurrence) (w :
 
     -- the link of a site grew older
     old_near : (k : ℕ) (s : Site) → site_at w.sites k ≡ Some s → near_ends k ≡ s.link.controller
-    old_near k s found =
-        ap (λ (x : Link). x.controller) (link_is old.sites k (record s { link = aged s.link }) (aged_site w.sites found))
+    old_near k s found = ap (λ (x : Link). x.controller) (link_is old.sites k (record s { link = aged s.link }) (aged_site w.sites found))
       where
         aged_site : (sites : List Site) → site_at sites k ≡ Some s
             → site_at (map (λ (x : Site). record x { link = aged x.link }) sites) k ≡ Some (record s { link = aged s.link })
@@ -218,11 +215,10 @@ module _ (hosts : List ℕ) (are : AreHosts hosts) (past : List Occurrence) (w :
     late : (k : ℕ) (q : Port) → port_at (has_come_so TimePasses begun).ports k ≡ Some q → is_late_in past (record { cause = Ticks; entries = es }) k ≡ q.late
     late k q found =
         let u : IsTicked k q = was k q found in
-        let z : Port = ticked_there w before.orderly t before.notices k u.site u.there r runs in
         ap (λ l. is_late_in past (record { cause = Ticks; entries = l }) k) all_is
         ∙ (sym (near_is past w before k u.site u.there Ticks tt)
         ∙ (reset_is w before.orderly t before.notices k u.site u.there r runs
-        ∙ (sym (reset_flag z refl) ∙ ap (λ (x : Port). x.late) (sym u.same))))
+        ∙ (sym (reset_flag (ticked_there w before.orderly t before.notices k u.site u.there r runs) refl) ∙ ap (λ (x : Port). x.late) (sym u.same))))
 
     sessions : (a : ℕ) (p : Port) → port_at begun.ports a ≡ Some p → IsElse TimePasses a → session_of_port begun.ports a ≡ session_now t (end_c a) 0
     sessions a p found else =
@@ -333,8 +329,7 @@ module _ (header : Header) (lines : List Line) (t : NodeHistory) (follows : Foll
       (λ i z seen. near c e.link comes i seen begun still rest other))
 
   alone : (c : Happening) (e : End) (comes : Comes) → begun_at 0 c ≡ [] → is_tick c ≡ false → Due c (comes_at w e comes).1
-  alone c e comes begun still =
-      subst (Due c) (append-nil (comes_at w e comes).1) (coming c e comes begun still [] tt)
+  alone c e comes begun still = subst (Due c) (append-nil (comes_at w e comes).1) (coming c e comes begun still [] tt)
 
   -- a host begins something
   begins : (c : Happening) (e : End) (deeds : List Deed) → IsTrue e.at_host × ((e.link == 0) ≡ false) → AllByRecursion (IsMine e.link e.link) deeds

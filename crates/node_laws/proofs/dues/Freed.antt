@@ -2,15 +2,14 @@
 use Rattle.node_laws.proofs.Words.{AllByRecursion, AreDifferent, AreHosts, AreTaken, AtEnd, Bool, Commits, CountsCommands, Creation, Deed, End, EndedBy, Entry}
 use Rattle.node_laws.proofs.Words.{Give, HciTables, IsFresh, IsOutside, LinkInput, LinkState, List, Message, NodeInput, None, Option, Port, Release, Releases}
 use Rattle.node_laws.proofs.Words.{Response, Sends, Some, State, TakesMessage, Tick, TimePasses, Up, Work, [], after_sessions, after_turn, all_append, all_done}
-use Rattle.node_laws.proofs.Words.{all_owed, all_synced_hold, answer_of, ap, append-nil, append_assoc, arith, asked_at, asking_in, by_test, cond}
-use Rattle.node_laws.proofs.Words.{creation_read, done, end_c, end_of_number, ends_session, entries_of_reply, eq-eqb, eqb, eqb-true, false, filter, filter_map}
-use Rattle.node_laws.proofs.Words.{flat_map, fold-append, forgets, forgotten, forgotten_hold, has_come, has_come_so, has_freed, has_synced, hosts_of_ends}
-use Rattle.node_laws.proofs.Words.{in_use, input_at, is_down, is_over, is_over_at, is_up, length, length-append, map, option_map_or, owed, owed_in_step}
-use Rattle.node_laws.proofs.Words.{port_at, refl, reset_late, same_end, session_now, session_of_port, subst, sym, syncs_in, true, true≢false, turn_at}
-use Rattle.node_laws.proofs.Words.{with_older, without_notice, ℕ, ◌&&◌, ◌++◌, ◌+◌, ◌||◌, ◌∙◌, ◌∷◌, ◌≡◌, ◌≤◌, ◌⊎◌}
+use Rattle.node_laws.proofs.Words.{all_owed, all_synced_hold, answer_of, ap, append-nil, append_assoc, arith, asked_at, asking_in, by_test, cond, creation_read}
+use Rattle.node_laws.proofs.Words.{done, end_c, end_of_number, ends_session, entries_of_reply, eq-eqb, eqb, eqb-true, false, filter, filter_map, flat_map}
+use Rattle.node_laws.proofs.Words.{fold-append, forgets, forgotten, forgotten_hold, has_come, has_come_so, has_freed, has_synced, hosts_of_ends, in_use}
+use Rattle.node_laws.proofs.Words.{input_at, is_down, is_over, is_over_at, is_up, length, length-append, map, option_map_or, owed, owed_in_step, port_at, refl}
+use Rattle.node_laws.proofs.Words.{reset_late, same_end, session_now, session_of_port, subst, sym, syncs_in, true, true≢false, turn_at, with_older}
+use Rattle.node_laws.proofs.Words.{without_notice, ℕ, ◌++◌, ◌+◌, ◌||◌, ◌∙◌, ◌∷◌, ◌≡◌, ◌≤◌}
 use Rattle.node_laws.proofs.creations.Outcomes.{Asked, asked_of, owes, waits}
-use Rattle.node_laws.proofs.creations.Coming.{ComeAt, HasCome, all_kept, answer_response, begins, came_near, came_tick, forgets_ended, frees, keeps_all}
-use Rattle.node_laws.proofs.creations.Coming.{over_at, shared}
+use Rattle.node_laws.proofs.creations.Coming.{ComeAt, HasCome, all_kept, answer_response, begins, came_near, came_tick, frees, keeps_all, over_at, shared}
 use Rattle.node_laws.proofs.creations.Doing.{EndAt, Good, IsOn, at_here, many, on_is, pays, takes_short}
 use Rattle.node_laws.proofs.links.Noticing.{at_host}
 use Rattle.node_laws.proofs.passes.Replying.{commit_sessions, session_in, session_map, turn_sessions}
@@ -19,7 +18,7 @@ use Rattle.node_laws.proofs.read_steps.Reading.{IsBegun}
 use Rattle.node_laws.proofs.replies.Passes.{AreReplyEntries, commands_told}
 use Rattle.node_laws.proofs.replies.Creations.{IsIn, all_found, in_waits}
 use Rattle.node_laws.proofs.steps.StepWalks.{at_port, come_host, forgets_host, late_host, without_host}
-use Rattle.node_laws.proofs.telling.Steps.{at_map, forgets_same, none_map, without_same}
+use Rattle.node_laws.proofs.telling.Steps.{at_map, none_map}
 use Rattle.node_laws.proofs.worlds.Ticking.{ends_in_list}
 use Rattle.gate_answers.specs.declared.response.Response.TheVariants as response
 use Rattle.trace_model.specs.declared.entry.Entry.TheVariants as entry
@@ -116,8 +115,7 @@ module _ (hosts : List ℕ) (t : List Entry) where
     some : 1 ≤ length l
     some =
         let is : l ≡ waits c.asker asked ++ (c ∷ owes c.asker owing) = ap (λ b. waits c.asker asked ++ (cond b (c ∷ []) [] ++ owes c.asker owing)) own in
-        let long = ap length is in
-        omega (arith, long, length-append (waits c.asker asked) (c ∷ owes c.asker owing))
+        omega (arith, ap length is, length-append (waits c.asker asked) (c ∷ owes c.asker owing))
 
     room : (o : Option Port) → port_at w.ports c.asker ≡ o → EndAt (length l) l o → in_use p.side + p.side.aside ≤ 127
     room None e z = let none = z.0 in absurd (omega (arith, some, none))
@@ -242,8 +240,7 @@ come_so TimePasses p = reset_late (with_older (has_come p (Some Tick)))
 
 pub come_found : (input : NodeInput) (w : Work) (k : ℕ) (p : Port) → port_at w.ports k ≡ Some p
     → port_at (has_come_so input w).ports k ≡ Some (come_so input p)
-come_found (AtEnd h i) w k p here =
-    at_map (λ p. has_come p (input_at (AtEnd h i) p)) (λ p. come_host p (input_at (AtEnd h i) p)) w.ports k p here
+come_found (AtEnd h i) w k p here = at_map (λ p. has_come p (input_at (AtEnd h i) p)) (λ p. come_host p (input_at (AtEnd h i) p)) w.ports k p here
 come_found TimePasses w k p here =
     let came : List Port = map (λ p. has_come p (input_at TimePasses p)) w.ports in
     at_map reset_late late_host (map with_older came) k (with_older (has_come p (Some Tick)))
@@ -251,8 +248,7 @@ come_found TimePasses w k p here =
     (at_map (λ p. has_come p (input_at TimePasses p)) (λ p. come_host p (input_at TimePasses p)) w.ports k p here))
 
 pub come_none : (input : NodeInput) (w : Work) (k : ℕ) → port_at w.ports k ≡ None → port_at (has_come_so input w).ports k ≡ None
-come_none (AtEnd h i) w k none =
-    none_map (λ p. has_come p (input_at (AtEnd h i) p)) (λ p. come_host p (input_at (AtEnd h i) p)) w.ports k none
+come_none (AtEnd h i) w k none = none_map (λ p. has_come p (input_at (AtEnd h i) p)) (λ p. come_host p (input_at (AtEnd h i) p)) w.ports k none
 come_none TimePasses w k none =
     let came : List Port = map (λ p. has_come p (input_at TimePasses p)) w.ports in
     none_map reset_late late_host (map with_older came) k
@@ -273,9 +269,6 @@ IsElse TimePasses k = Unit {0}
 -- nothing ends the session of another end
 else_goes : (h : ℕ) (i : LinkInput) (p : Port) → IsFresh p → is_over (come_so (AtEnd h i) p) ≡ true → eqb p.desk.host h ≡ true
 else_goes h i p fresh over = grind arith
-
-forgets_over : (all : List Port) (p : Port) → is_over (forgets all p) ≡ is_over p
-forgets_over all p = ap (λ b. b || (forgets all p).late) (forgets_ended all p) ∙ ap (λ b. p.ended || b) (forgets_same all p).late
 
 -- a creation that waits still waited before, and its asker has its session
 record WaitsStill (over : ℕ → Bool) (o : Option Creation) (c : Creation) : Type 0 where
@@ -345,12 +338,9 @@ module _ (hosts : List ℕ) (are : AreHosts hosts) (t : List Entry) (input : Nod
       let begun : Work = record came { core = after_sessions came.core came.ports; ports = map without_notice left } in
       deeds_session (syncs_in input w) (has_freed input w) k (all_synced_hold SendsNothing (λ host id. tt) w.core input w.ports)
       ∙ (deeds_session (forgotten came.ports) begun k (forgotten_hold SendsNothing (λ asker. tt) came.ports)
-      ∙ (session_map without_notice without_host (λ p. same (without_notice p) p (without_same p).side (without_same p).session) left k
+      ∙ (session_map without_notice without_host (λ p. grind arith) left k
       ∙ session_map (forgets came.ports) (forgets_host came.ports)
-      (λ p. same (forgets came.ports p) p (forgets_same came.ports p).side (forgets_same came.ports p).session) came.ports k))
-    where
-      same : (p q : Port) → p.side ≡ q.side → p.session ≡ q.session → session_in (Some p) ≡ session_in (Some q)
-      same p q side number = grind arith
+      (λ p. grind arith) came.ports k))
 
   pub come_different : AreDifferent (hosts_of_ends came.ports)
   come_different = subst AreDifferent (sym (come 0).hosts_are) are.different
@@ -394,8 +384,7 @@ module _ (hosts : List ℕ) (are : AreHosts hosts) (t : List Entry) (input : Nod
   asker_else k q c found over goes = go input refl where
     away : (h : ℕ) (i : LinkInput) → input ≡ AtEnd h i → (o : Option Port) → port_at w.ports k ≡ o → eqb c.asker h ≡ false
     away h i is None e =
-        let none : port_at came.ports k ≡ None = come_none input w k e in
-        let no : None ≡ Some q = sym none ∙ found in absurd (cc no)
+        let no : None ≡ Some q = sym (come_none input w k e) ∙ found in absurd (cc no)
     away h i is (Some p) e = by_test (eqb c.asker h)
         (λ z. let asker : c.asker ≡ k = eqb-true c.asker h z ∙ sym host in
         let lost : is_over_at came.ports c.asker ≡ true =
@@ -437,11 +426,10 @@ module _ (hosts : List ℕ) (are : AreHosts hosts) (t : List Entry) (input : Nod
         each : (k : ℕ) (q : Port) → port_at came.ports k ≡ Some q → P q
         each k q found over c waiting =
             let still : WaitsStill (is_over_at came.ports) (asked_at q) c = grind arith in
-            let lost : is_over q ≡ true = sym (forgets_over came.ports q) ∙ over in
             let sent : session_of_port (has_synced input w).ports c.asker ≡ read c.asker =
             synced_session c.asker
             ∙ asker_session read k q c found still.was still.goes
-            (λ p there. same c.asker p there (asker_else k q c found lost still.goes) still.goes) in
+            (λ p there. same c.asker p there (asker_else k q c found (sym (grind arith) ∙ over) still.goes) still.goes) in
             (tt, λ m. sent)
 
         mapped : (ports : List Port) → AllByRecursion P ports → AllByRecursion (IfOwed Q) (map (forgets came.ports) ports)

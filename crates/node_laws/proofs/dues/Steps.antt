@@ -1,13 +1,13 @@
 -- Before its first turn in a step a controller answers with the identifier that it keeps and with what it owes, which is what is read.
 use Rattle.node_laws.proofs.Words.{AllByRecursion, AnswersSo, AreDifferent, AreHosts, AreNamed, ArePassed, BeginWithTurn, Bool, ComesTo, Command, Commits}
-use Rattle.node_laws.proofs.Words.{Creation, Cut, Deed, Entry, Happening, IsDueAt, IsNoAnswer, IsReplyNoted, IsTurnSo, List, NodeInput, None, Noted, Occurrence}
-use Rattle.node_laws.proofs.Words.{Option, Port, Response, Restarted, Some, Ticked, Work, [], all_append, all_done, all_owed_hold, ap, append-nil, append_assoc}
-use Rattle.node_laws.proofs.Words.{ap₂, arith, asked_at, asking_in, before_turn, begun_at, by_option, by_test, comes_to_pass, commands_in, commit, cond}
-use Rattle.node_laws.proofs.Words.{count_of, creation_read, down_in, due, end_c, entries_for, entries_in, entries_of_reply, false, filter, flat_map, forgets}
-use Rattle.node_laws.proofs.Words.{goes_down, goes_in, has_come_so, has_freed, has_synced, hosts_of_ends, is_answer_of, is_cut_of, is_late_in, is_over}
-use Rattle.node_laws.proofs.Words.{is_over_at, is_turn_of, length, list_any, map, min, new_sync, next_count, not, noted_by_deeds, notice_in, option_map_or}
-use Rattle.node_laws.proofs.Words.{owed, owed_in, owed_in_step, passes, port_at, refl, session_now, session_of_port, steps, still_asked, subst, sym, syncs_in}
-use Rattle.node_laws.proofs.Words.{tables_in, told, told_of_coming, true, true≢false, unless_cut, ℕ, ◌&&◌, ◌++◌, ◌-◌, ◌^◌, ◌||◌, ◌∙◌, ◌∷◌, ◌≡◌}
+use Rattle.node_laws.proofs.Words.{Creation, Cut, Deed, Entry, Happening, IsDueAt, IsNoAnswer, IsReplyNoted, List, NodeInput, None, Noted, Occurrence, Option}
+use Rattle.node_laws.proofs.Words.{Port, Response, Restarted, Some, Ticked, Work, [], all_append, all_done, all_owed_hold, ap, append-nil, append_assoc, ap₂}
+use Rattle.node_laws.proofs.Words.{arith, asked_at, asking_in, before_turn, begun_at, by_option, by_test, comes_to_pass, commands_in, commit, cond, count_of}
+use Rattle.node_laws.proofs.Words.{creation_read, down_in, due, end_c, entries_for, entries_in, entries_of_reply, false, filter, flat_map, forgets, goes_down}
+use Rattle.node_laws.proofs.Words.{goes_in, has_come_so, has_freed, has_synced, hosts_of_ends, is_answer_of, is_cut_of, is_late_in, is_over, is_over_at}
+use Rattle.node_laws.proofs.Words.{is_turn_of, length, list_any, map, min, new_sync, next_count, not, noted_by_deeds, notice_in, option_map_or, owed, owed_in}
+use Rattle.node_laws.proofs.Words.{owed_in_step, passes, port_at, refl, session_now, session_of_port, steps, still_asked, subst, sym, syncs_in, tables_in, told}
+use Rattle.node_laws.proofs.Words.{told_of_coming, true, true≢false, unless_cut, ℕ, ◌&&◌, ◌++◌, ◌-◌, ◌^◌, ◌∙◌, ◌∷◌, ◌≡◌}
 use Rattle.node_laws.specs.passes.Passing.ComesTo.{Begins}
 use Rattle.node_laws.proofs.creations.Outcomes.{Asked, asked_of, waits}
 use Rattle.node_laws.proofs.creations.Coming.{ComeAt, forgets_ended, over_at}
@@ -40,12 +40,11 @@ module _ (hosts : List ℕ) (t : List Entry) (read : ℕ → Option ℕ) (owed :
   paid_so : (s : Work) → s.cut ≡ false → s.core.node ≡ 0 → Goes hosts t owed s → AllByRecursion (SentSo (session_of_port s.ports) read) owed → (count : ℕ)
       → noted_by_deeds 0 owed s ≡ entries_of_reply 0 read 0 count owed
   paid_so s on node goes sent count =
-      let noted = noted_so (session_of_port s.ports) 0 owed s on (λ k. refl) goes.0 (owed_counts s.core.journal s.core.tables owed owing) in
       let there : IsReplyNoted false s.core.node (noted_by_deeds 0 owed s) (entries_of_reply s.core.node (session_of_port s.ports) 0 (count_of s.core.journal)
       owed) =
       subst
       (λ b. IsReplyNoted b s.core.node (noted_by_deeds 0 owed s) (entries_of_reply s.core.node (session_of_port s.ports) 0 (count_of s.core.journal) owed))
-      goes.1 noted in
+      goes.1 (noted_so (session_of_port s.ports) 0 owed s on (λ k. refl) goes.0 (owed_counts s.core.journal s.core.tables owed owing)) in
       there
       ∙ (ap (λ n. entries_of_reply n (session_of_port s.ports) 0 (count_of s.core.journal) owed) node
       ∙ owed_same (session_of_port s.ports) read (count_of s.core.journal) count owed sent)
@@ -92,8 +91,7 @@ module _ (hosts : List ℕ) (t : List Entry) (read : ℕ → Option ℕ) (owed :
           let off : v.cut ≡ true = lost q in
           let cut : (unless_cut (all_done 0 owed) v).cut ≡ true = ap (λ (x : Work). x.cut) (off_is 0 t hosts (all_done 0 owed) v off) ∙ off in
           let X : List Entry = noted_by_deeds 0 owed v in
-          let is : first ++ cond v.cut [] X ≡ entry.Command 0 c ∷ entry.Cut 0 ∷ [] = grind arith in
-          subst (λ b. IsReplyNoted b 0 (first ++ cond v.cut [] X) (entry.Command 0 c ∷ rest)) (sym cut) ([], c, rest, refl, is)
+          subst (λ b. IsReplyNoted b 0 (first ++ cond v.cut [] X) (entry.Command 0 c ∷ rest)) (sym cut) ([], c, rest, refl, grind arith)
 
       goes_on : goes_in c f ≡ false → (v.cut ≡ false → Goes hosts t owed v) → AllByRecursion (SentSo (session_of_port v.ports) read) owed → Goal v
       goes_on q goes sent =
@@ -251,9 +249,6 @@ module _ (hosts : List ℕ) (are : AreHosts hosts) (t : List Entry) (input : Nod
 
   -- ### Tests
 
-  ended_only : (p : Port) → (p.late ≡ true → p.ended ≡ false) → p.ended ≡ (is_over p && not p.late)
-  ended_only p flag = grind arith
-
   abbrev F : Port → Port
   F = forgets ports
 
@@ -266,10 +261,9 @@ module _ (hosts : List ℕ) (are : AreHosts hosts) (t : List Entry) (input : Nod
   one_read : (k : ℕ) (p : Port) → port_at ports k ≡ Some p → asked_at p ≡ read p.desk.host → (p.late ≡ true → p.ended ≡ false) → Ends p × Lates p
   one_read k p found is flag =
       let host : p.desk.host ≡ k = at_host ports k p found in
-      let goes : goes_down o p.desk.host ≡ is_over p = ap (goes_down o) host ∙ ends k p found in
       let lates : is_late_in past o p.desk.host ≡ p.late = ap (is_late_in past o) host ∙ late k p found in
       let still : asked_at (F p) ≡ still_asked past o p.desk.host = still_read k p found is in (
-        (forgets_ended ports p ∙ (ended_only p flag ∙ sym (ap₂ (λ a c. a && not c) goes lates)), still),
+        (forgets_ended ports p ∙ ((grind arith) ∙ sym (ap₂ (λ a c. a && not c) (ap (goes_down o) host ∙ ends k p found) lates)), still),
         ((forgets_same ports p).late ∙ sym lates, still),
       )
 
@@ -331,8 +325,7 @@ pub links_mute : (h : ℕ) (xs : List Noted) → AreUnanswered (entries_for h xs
 links_mute h xs none = mute_both (entries_for h xs) (links_are h xs) (unanswered_all 0 (entries_for h xs) none)
 
 coming_mute : (input : NodeInput) (w : Work) → AreMute (told_of_coming input w)
-coming_mute input w =
-    mute_both (told_of_coming input w) (coming_are input w) (unanswered_all 0 (told_of_coming input w) (coming_unanswered input w))
+coming_mute input w = mute_both (told_of_coming input w) (coming_are input w) (unanswered_all 0 (told_of_coming input w) (coming_unanswered input w))
 
 -- ### The pass
 
@@ -371,14 +364,11 @@ pass_noted input w own = by_test v.cut
     record {
       more = p.more;
       entries = all;
-      trails = trails p.more (back_own v.entries p.more (subst (AreOwn 0) all own)) p.begin (λ front back x z. behind x front back (p.each front back x z));
+      trails = trails p.more (back_own v.entries p.more (subst (AreOwn 0) all own)) p.begin (λ front back x z. grind arith);
       power = λ z. absurd (true≢false (sym z ∙ q));
     }) where
       v : Work
       v = comes_to_pass input w
-
-      behind : (x : Entry) (front back : List Entry) → IsTurnSo (ComesTo v) v front x back → BeginsBehind x back
-      behind x front back a = grind arith
 
 -- ### A step
 
@@ -411,15 +401,12 @@ module _ (hosts : List ℕ) (are : AreHosts hosts) (t : List Entry) (input : Nod
   step_due : (lead rest : List Entry) (count : ℕ) → AreMute lead → AreMute w.entries → AreOwn 0 (steps input w).entries → AllByRecursion IsNoAnswer rest
       → AnswersSo 0 (lead ++ ((steps input w).entries ++ rest)) (entries_of_reply 0 read 0 count (syncs_in input w ++ owed_of_steps))
   step_due lead rest count mute arrived own none =
-      subst (λ es. AnswersSo 0 es reply) (sym shape)
-      (mutes_answer before ((noted ++ p.more) ++ rest) reply
+      subst (λ es. AnswersSo 0 es (entries_of_reply 0 read 0 count (syncs_in input w ++ owed_of_steps))) (sym shape)
+      (mutes_answer before ((noted ++ p.more) ++ rest) (entries_of_reply 0 read 0 count (syncs_in input w ++ owed_of_steps))
       (all_append IsMute lead (w.entries ++ told) mute (all_append IsMute w.entries told arrived (coming_mute input w)))
       (subst (AnswersSo 0 ((noted ++ p.more) ++ rest)) (ap (λ ds. entries_of_reply 0 read 0 count (ds ++ owed_of_steps)) (sym syncs))
       (answers_so (comes_to_pass input w).cut noted (entries_of_reply 0 read 0 count (one_command few ++ owed_of_steps)) p.more rest (noted_so_here count)
       (of_reply hosts t read owed_of_steps owing few count) p.trails p.power none))) where
-        reply : List Entry
-        reply = entries_of_reply 0 read 0 count (syncs_in input w ++ owed_of_steps)
-
         told : List Entry
         told = told_of_coming input w
 

@@ -1,19 +1,19 @@
 -- What a host keeps between its steps is what is read, and so a step of it begins.
 use Rattle.node_laws.proofs.Words.{Activates, AllByRecursion, AllKeep, AreDifferent, AreHosts, AreNoTurns, AreNotOf, ArePortsRead, Arms, AsksReset, AtEnd, Book}
 use Rattle.node_laws.proofs.Words.{Bool, Boots, Comes, Deed, End, Entry, FollowsNodes, Gives, Happening, HasEnds, Header, HoldsInStep, Host, IfHostRuns, IfRuns}
-use Rattle.node_laws.proofs.Words.{Init, Inits, IsCut, IsFew, IsFresh, IsHost, IsOf, IsOutside, IsPlain, IsSentByHost, IsSilent, Last, LeavesInit}
-use Rattle.node_laws.proofs.Words.{Line, Link, LinkEnd, LinkInput, LinkState, List, Loses, Loss, Memory, Message, NextFrame, NoInput, NodeHistory, NodeInput}
-use Rattle.node_laws.proofs.Words.{NodeWorld, None, NumberedEnd, Occurrence, Option, Orders, Plan, Port, Resets, Running, RunsSo, Sends, Site, SiteKeeps}
-use Rattle.node_laws.proofs.Words.{SiteKeepsInit, SiteReads, Some, Starts, Takes, Ticks, TimePasses, Work, [], after_host, after_planned, aged, all_aged, ap}
-use Rattle.node_laws.proofs.Words.{append-nil, append_assoc, arith, arrival, beginning, begins_with, book_after, book_in, boot_found, boot_writes, boot_written}
-use Rattle.node_laws.proofs.Words.{boots, by_boot, by_coming, by_controller, by_controller_tick, by_host, by_host_tick, by_loss, by_memory, by_power}
-use Rattle.node_laws.proofs.Words.{by_running, by_test, changed_if, comes_at, comes_to_pass, cond, cond-true, controller_does, controller_ticks, count_of}
-use Rattle.node_laws.proofs.Words.{end_c, end_h, entries_for, entries_in, eq-eqb, eqb, eqb-true, exchanged, false, fold, frame_lost, frames_noted, fresh}
-use Rattle.node_laws.proofs.Words.{has_come, holds_in, host_cut, host_does, host_tick, host_ticks, host_work, hosts_in, hosts_of_ends, hosts_tick, input_at}
-use Rattle.node_laws.proofs.Words.{inr, is_command_message, is_of_node, last_after, last_in, loses_power_at, map, memory_at, near_end_in, near_tick, new_world}
-use Rattle.node_laws.proofs.Words.{no_errors, node_entries, occurrences_in, option_map_or, order_of, own_side, port_at, refl, sending}
-use Rattle.node_laws.proofs.Words.{site_at, site_ticked, site_unticked, steps, subst, sym, true, true≢false, waiting_at, wires_for, with_site, work_of}
-use Rattle.node_laws.proofs.Words.{world_behind, world_step, world_ticks, ℕ, ◌&&◌, ◌++◌, ◌+◌, ◌∙◌, ◌∷◌, ◌≡◌, ◌≤◌}
+use Rattle.node_laws.proofs.Words.{Init, Inits, IsCut, IsFew, IsFresh, IsHost, IsOf, IsOutside, IsPlain, IsSentByHost, IsSilent, Last, LeavesInit, Line, Link}
+use Rattle.node_laws.proofs.Words.{LinkEnd, LinkInput, LinkState, List, Loses, Loss, Memory, Message, NextFrame, NoInput, NodeHistory, NodeInput, NodeWorld}
+use Rattle.node_laws.proofs.Words.{None, NumberedEnd, Occurrence, Option, Orders, Plan, Port, Resets, Running, RunsSo, Sends, Site, SiteKeeps, SiteKeepsInit}
+use Rattle.node_laws.proofs.Words.{SiteReads, Some, Starts, Takes, Ticks, TimePasses, Work, [], after_host, after_planned, aged, all_aged, ap, append-nil}
+use Rattle.node_laws.proofs.Words.{append_assoc, arith, arrival, beginning, begins_with, book_after, book_in, boot_found, boot_writes, boot_written, boots}
+use Rattle.node_laws.proofs.Words.{by_boot, by_coming, by_controller, by_controller_tick, by_host, by_host_tick, by_loss, by_memory, by_power, by_running}
+use Rattle.node_laws.proofs.Words.{by_test, changed_if, comes_at, comes_to_pass, cond, cond-true, controller_does, controller_ticks, count_of, end_c, end_h}
+use Rattle.node_laws.proofs.Words.{entries_for, entries_in, eq-eqb, eqb, eqb-true, exchanged, false, fold, frame_lost, frames_noted, fresh, has_come, holds_in}
+use Rattle.node_laws.proofs.Words.{host_cut, host_does, host_tick, host_ticks, host_work, hosts_in, hosts_of_ends, hosts_tick, input_at, inr}
+use Rattle.node_laws.proofs.Words.{is_command_message, last_after, last_in, loses_power_at, map, memory_at, near_end_in, near_tick, new_world, no_errors}
+use Rattle.node_laws.proofs.Words.{node_entries, occurrences_in, option_map_or, order_of, own_side, port_at, refl, sending, site_at, site_ticked, site_unticked}
+use Rattle.node_laws.proofs.Words.{steps, subst, sym, true, true≢false, waiting_at, wires_for, with_site, work_of, world_behind, world_step, world_ticks, ℕ}
+use Rattle.node_laws.proofs.Words.{◌&&◌, ◌++◌, ◌+◌, ◌∙◌, ◌∷◌, ◌≡◌, ◌≤◌}
 use Rattle.node_laws.specs.reply_passes.Counts.{commands_noted as commits}
 use Rattle.node_laws.proofs.hosts.Knowing.{HasNone, HaveNone, begun_none, host_knows}
 use Rattle.node_laws.proofs.hosts.Passes.{BeginsSo, errors_behind, zero}
@@ -134,8 +134,7 @@ module _ (hosts : List ℕ) (are : AreHosts hosts) where
     at_site h s here = site_is (IsGrownAt t) w.sites h s before here
 
     near_does : (h : ℕ) (comes : Comes) (f : Work → Work) → ThenGrown t (controller_does w h comes f)
-    near_does h comes f =
-        by_controller (ThenGrown t) w h comes f nothing (λ r q. map_grown t _ _ (λ s. refl) w.sites before)
+    near_does h comes f = by_controller (ThenGrown t) w h comes f nothing (λ r q. map_grown t _ _ (λ s. refl) w.sites before)
 
     far_does : (h : ℕ) (comes : Comes) (i : LinkInput) → ThenGrown t (host_does w h comes (steps (AtEnd h i)))
     far_does h comes i =
@@ -187,11 +186,9 @@ module _ (hosts : List ℕ) (are : AreHosts hosts) where
         (append-nil t)
         (with_grown t [] n (λ s. record s { memory = after_planned (boot_writes (memory_at w n).content) (memory_at w n) }) w.sites (sites_differ t w all)
         (λ s here.
-        let keeps : SiteKeeps t s = site_is (SiteKeeps t) w.sites n s all.sites here in
-        let more = commits-append t [] in
         let now = subst (λ (x : Memory). generation_in (after_planned (boot_writes x.content) x).content ≤ 1 + commits t) (sym (memory_of n s z here))
-        (boot_grown s.memory (commits t) keeps.would.finds.size (at_site n s here)) in
-        omega (arith, now, more))
+        (boot_grown s.memory (commits t) (site_is (SiteKeeps t) w.sites n s all.sites here).would.finds.size (at_site n s here)) in
+        omega (arith, now, commits-append t []))
         before))
 
   -- the power of a node is cut
@@ -199,9 +196,7 @@ module _ (hosts : List ℕ) (are : AreHosts hosts) where
   loses_grown t n v a =
       by_power (λ u. ThenGrown t (u, entry.Cut n ∷ [])) n v (λ z. map_grown t (entry.Cut n ∷ []) _ (λ s. refl) v.sites a)
       (λ z. map_grown t (entry.Cut n ∷ []) (λ (x : Site). changed_if (eqb x.host n) host_cut x)
-      (λ x. by x (eqb x.host n)) v.sites a) where
-        by : (x : Site) (b : Bool) → (changed_if b host_cut x).memory ≡ x.memory
-        by x b = grind arith
+      (λ x. grind arith) v.sites a)
 
   boots_grown : (t : List Entry) (w : NodeWorld) (n : ℕ) → AreGrown t w.sites → AllKeep hosts t w → ThenGrown t (boots w n)
   boots_grown t w n a all =
@@ -266,8 +261,7 @@ module _ (hosts : List ℕ) (are : AreHosts hosts) where
       let old : NodeWorld × List Entry = all_aged w in
       let near : NodeWorld × List Entry = controller_ticks old.0 in
       let far : List Site × List Entry = hosts_tick near.0.sites in
-      let kept : AllKeep hosts (t ++ old.1) old.0 = (aged_goes hosts are t w all).keep in
-      let now : AllKeep hosts ((t ++ old.1) ++ near.1) near.0 = (near_ticks hosts are (t ++ old.1) old.0 kept).keep in
+      let now : AllKeep hosts ((t ++ old.1) ++ near.1) near.0 = (near_ticks hosts are (t ++ old.1) old.0 ((aged_goes hosts are t w all).keep)).keep in
       let first : AreGrown (t ++ old.1) old.0.sites = map_grown t old.1 (λ (x : Site). record x { link = aged x.link }) (λ s. refl) w.sites a in
       let second : AreGrown ((t ++ old.1) ++ near.1) near.0.sites =
       by_controller_tick (λ p. AreGrown ((t ++ old.1) ++ p.1) p.0.sites) old.0
@@ -318,36 +312,24 @@ history_sites header lines t follows are sent few front back parts =
 -- ### Entries of other nodes
 
 module _ (n : ℕ) where
-  pub not_silent : (x : Entry) → is_of_node n x ≡ false → IsSilent n x
-  not_silent x off = grind arith
-
   are_silent : (es : List Entry) → AreNotOf n es → AllByRecursion (IsSilent n) es
   are_silent [] a = tt
-  are_silent (x ∷ es) a = (not_silent x a.0, are_silent es a.1)
-
-  pub not_init : (x : Entry) → is_of_node n x ≡ false → LeavesInit n x
-  not_init x off = grind arith
+  are_silent (x ∷ es) a = (grind arith, are_silent es a.1)
 
   inits_left : (es : List Entry) → AreNotOf n es → AllByRecursion (LeavesInit n) es
   inits_left [] a = tt
-  inits_left (x ∷ es) a = (not_init x a.0, inits_left es a.1)
+  inits_left (x ∷ es) a = (grind arith, inits_left es a.1)
 
   pub init_stays : (es : List Entry) (i : Option Init) → AreNotOf n es → reads_init n es i ≡ i
   init_stays es i a = leaves_all n es i (inits_left es a)
 
-  pub not_book : (b : Book) (x : Entry) → is_of_node n x ≡ false → book_after n b x ≡ b
-  not_book b x off = grind arith
-
-  not_last : (l : Last) (x : Entry) → is_of_node n x ≡ false → last_after n l x ≡ l
-  not_last l x off = grind arith
-
   books_stay : (es : List Entry) (b : Book) → AreNotOf n es → fold (book_after n) b es ≡ b
   books_stay [] b a = refl
-  books_stay (x ∷ es) b a = ap (λ c. fold (book_after n) c es) (not_book b x a.0) ∙ books_stay es b a.1
+  books_stay (x ∷ es) b a = ap (λ c. fold (book_after n) c es) (grind arith) ∙ books_stay es b a.1
 
   lasts_stay : (es : List Entry) (l : Last) → AreNotOf n es → fold (last_after n) l es ≡ l
   lasts_stay [] l a = refl
-  lasts_stay (x ∷ es) l a = ap (λ k. fold (last_after n) k es) (not_last l x a.0) ∙ lasts_stay es l a.1
+  lasts_stay (x ∷ es) l a = ap (λ k. fold (last_after n) k es) (grind arith) ∙ lasts_stay es l a.1
 
   same_book : (t es : List Entry) → AreNotOf n es → IsSame n t (t ++ es)
   same_book t es a = record {
@@ -425,9 +407,6 @@ module _ (u : List Entry) (i : Option Init) (s : Site) (a : HostStands u i s) (r
   has : HasEnds n (n ∷ []) r
   has = record { number = runs.number; ends = runs.hosts_are }
 
-  fresh_of_beginning : AllByRecursion IsFresh start.ports
-  fresh_of_beginning = all_ports IsFresh ends_of (λ d. (refl, refl)) r.desks
-
   its_side : own_side start.core ≡ Host
   its_side = host_side r.core n a.host runs.number
 
@@ -449,12 +428,12 @@ module _ (u : List Entry) (i : Option Init) (s : Site) (a : HostStands u i s) (r
 
   order_now : Stands n a.host u order_phase begun
   order_now = ready_stand n a.host u near_end.side.shdlc.phase input start outside first_order
-      (subst (AllByRecursion IsFresh) first_order.is fresh_of_beginning).0
+      (subst (AllByRecursion IsFresh) first_order.is (grind arith)).0
 
   inits_now : InitStands n a.host i init_phase begun
   inits_now =
       ready_inits n a.host i near_end.side.shdlc.phase input start outside refl first_inits
-      (subst (AllByRecursion IsFresh) first_inits.base.is fresh_of_beginning).0
+      (subst (AllByRecursion IsFresh) first_inits.base.is (grind arith)).0
 
   errors_now : Right (end_h n) (n ∷ []) (errors_behind n u) begun
   errors_now =

@@ -7,10 +7,10 @@ use Rattle.node_laws.proofs.Words.{Takes, Ticks, TimePasses, Work, [], aged, age
 use Rattle.node_laws.proofs.Words.{arith, arrival, beginning, boots, by_coming, by_controller, by_controller_tick, by_host_tick, by_option, by_test, comes_at}
 use Rattle.node_laws.proofs.Words.{comes_to, comes_to_pass, controller_ticks, controller_work, end_c, end_h, ending_of, entries_for, entries_in, eq-eqb, eqb}
 use Rattle.node_laws.proofs.Words.{eqb-true, exchanged, false, flat_map, frame_lost, frames_at, frames_noted, host_begins_step, host_tick, host_ticks, hosts_in}
-use Rattle.node_laws.proofs.Words.{hosts_of_ends, hosts_tick, init_begun, init_in, inl, input_of, inr, is_answer_of, is_cut_of, is_left_short, is_of_node}
-use Rattle.node_laws.proofs.Words.{link_after_controller, link_to, makes_step, map, ne_eqb, near_end_in, near_tick, node_of, noted_before_pass, passes, refl}
-use Rattle.node_laws.proofs.Words.{sending, site_at, site_ticked, site_unticked, steps, subst, sym, ticks_host, true, true≢false, turn_link, turns_at}
-use Rattle.node_laws.proofs.Words.{wires_for, work_of, world_step, world_ticks, ℕ, ◌++◌, ◌==◌, ◌||◌, ◌∙◌, ◌∷◌, ◌≡◌, ◌≤◌, ◌⊎◌}
+use Rattle.node_laws.proofs.Words.{hosts_of_ends, hosts_tick, init_begun, init_in, inl, input_of, inr, is_answer_of, is_left_short, link_after_controller}
+use Rattle.node_laws.proofs.Words.{link_to, makes_step, map, ne_eqb, near_end_in, near_tick, node_of, noted_before_pass, passes, refl, sending, site_at}
+use Rattle.node_laws.proofs.Words.{site_ticked, site_unticked, steps, subst, sym, ticks_host, true, true≢false, turn_link, turns_at, wires_for, work_of}
+use Rattle.node_laws.proofs.Words.{world_step, world_ticks, ℕ, ◌++◌, ◌==◌, ◌||◌, ◌∙◌, ◌∷◌, ◌≡◌, ◌≤◌, ◌⊎◌}
 use Rattle.link_laws.specs.entries.Entries.{End as Side}
 use Rattle.node_laws.specs.passes.Passing.ComesTo.{Begins}
 use Rattle.node_laws.specs.reply_passes.Counts.{commands_noted as commits}
@@ -31,13 +31,13 @@ use Rattle.node_laws.proofs.reply_passes.Held.{AreNoBoots}
 use Rattle.node_laws.proofs.shorts.Left.{AreCalmAt, frames_calm, others_calm, step_short}
 use Rattle.node_laws.proofs.telling.Events.{comes_goes, link_is, site_host, site_map}
 use Rattle.node_laws.proofs.telling.Shapes.{frames_uncut}
-use Rattle.node_laws.proofs.telling.Accounts.{AreUncut, IsUncut}
+use Rattle.node_laws.proofs.telling.Accounts.{AreUncut}
 use Rattle.node_laws.proofs.telling.WorldTicks.{aged_orderly, ticked_orderly}
 use Rattle.node_laws.proofs.views.Going.{init_append, reads_init}
 use Rattle.node_laws.proofs.views.Events.{AreFine, aged_entries_still, near_other, orderly_fine, ticks_leave}
 use Rattle.node_laws.proofs.views.Doing.{IsStill, Leaves, still_leaves}
 use Rattle.node_laws.proofs.views.Nodes.{arrival_still, frames_still, others_step}
-use Rattle.node_laws.proofs.worlds.FramesLast.{begun_turnless, boots_turnless, frames_turnless, lost_turnless, other_turns, turnless_there}
+use Rattle.node_laws.proofs.worlds.FramesLast.{begun_turnless, frames_turnless, other_turns, turnless_there}
 use Rattle.node_laws.proofs.worlds.Late.{other_answers, out_unanswered, ticked_host, unanswered_all}
 use Rattle.node_laws.proofs.worlds.Ticking.{near_node}
 use Rattle.trace_model.specs.declared.entry.Entry.TheVariants as entry
@@ -65,10 +65,7 @@ module _ (n : ℕ) where
   stands_in : (k : ℕ) (a b c front : List Entry) (x : Entry) (behind : List Entry) → NoneAt a → NoneAt c → turn_link n x ≡ Some k
       → a ++ (b ++ c) ≡ front ++ (x ∷ behind) → StandsInOfLifting a b c front x behind
   stands_in k [] [] c front x behind none after turn is = let h0 = is_none front x behind (subst NoneAt is after) in grind arith
-  stands_in k [] (y ∷ b) c [] x behind none after turn is =
-      let same : y ≡ x = cc in
-      let tail : b ++ c ≡ behind = cc in
-      record { later = []; back = b; before = refl; is = ap (λ z. z ∷ b) same; rest = sym tail }
+  stands_in k [] (y ∷ b) c [] x behind none after turn is = record { later = []; back = b; before = refl; is = ap (λ z. z ∷ b) cc; rest = sym cc }
   stands_in k [] (y ∷ b) c (z ∷ front) x behind none after turn is =
       let same : y ≡ z = cc in
       let tail : b ++ c ≡ front ++ (x ∷ behind) = cc in
@@ -85,19 +82,13 @@ module _ (n : ℕ) where
 
   -- ### Entries without answers
 
-  not_cut : (x : Entry) → is_of_node n x ≡ false → is_cut_of n x ≡ false
-  not_cut x off = grind arith
-
   others_quiet : (es : List Entry) → AreNotOf n es → AreUnanswered n es
   others_quiet [] a = tt
-  others_quiet (x ∷ es) a = ((other_answers n x a.0, not_cut x a.0), others_quiet es a.1)
-
-  uncut_one : (x : Entry) → IsUncut x → is_cut_of n x ≡ false
-  uncut_one x u = grind arith
+  others_quiet (x ∷ es) a = ((other_answers n x a.0, grind arith), others_quiet es a.1)
 
   quiet_if : (es : List Entry) → AllByRecursion (λ x. is_answer_of n x ≡ false) es → AreUncut es → AreUnanswered n es
   quiet_if [] a u = tt
-  quiet_if (x ∷ es) a u = ((a.0, uncut_one x u.0), quiet_if es a.1 u.1)
+  quiet_if (x ∷ es) a u = ((a.0, grind arith), quiet_if es a.1 u.1)
 
 -- ### Events
 
@@ -131,7 +122,6 @@ module _ (hosts : List ℕ) (n : ℕ) (host : IsHost n) (past : List Occurrence)
       ∙ (ap (λ l. lead ++ l) (append_assoc w.entries p.more rest) ∙ sym (append_assoc lead w.entries (p.more ++ rest))) in
       let s : StandsInOfLifting n (lead ++ w.entries) p.more rest front x behind =
       stands_in n k (lead ++ w.entries) p.more rest front x behind (all_append _ lead w.entries none own) after turn (sym shape ∙ is) in
-      let whole : (passes w).entries ≡ w.entries ++ (s.later ++ (x ∷ s.back)) = p.entries ∙ ap (λ l. w.entries ++ l) s.is in
       let told : front ≡ lead ++ (w.entries ++ s.later) = s.before ∙ append_assoc lead w.entries s.later in
       let at : IsMomentOf hosts n host (t_of_lifting ++ lead) i begins.memory begins.order_phase begins.init_phase (w.entries ++ s.later)
       (moment_at front) = record {
@@ -144,7 +134,7 @@ module _ (hosts : List ℕ) (n : ℕ) (host : IsHost n) (past : List Occurrence)
       let three = commits-append (passes w).entries rest in let four = commits-append (t_of_lifting ++ lead) (passes w).entries in
       let five = commits-append t_of_lifting lead in omega (arith, one, two, three, four, five, few)) in
       subst (λ l. IsReplied hosts (moment_at front) x l × IsHeldFor hosts (moment_at front) x l) (sym s.rest)
-      (pass_replies hosts n host (t_of_lifting ++ lead) i w on begins boots low s.later s.back rest (moment_at front) at quiet x whole)
+      (pass_replies hosts n host (t_of_lifting ++ lead) i w on begins boots low s.later s.back rest (moment_at front) at quiet x (grind arith))
 
   -- a step of the host, behind these entries, and before those
   step_so : (lead rest : List Entry) (input : NodeInput) (start : Work) → NoneAt n lead → AreNoTurns start.entries → NoneAt n rest
@@ -207,8 +197,7 @@ split_sites : (sites : List Site) (n : ℕ) (x : Site) → site_at sites n ≡ S
 split_sites [] n x there = absurd (cc there)
 split_sites (s ∷ sites) n x there = by_test (eqb s.host n)
     (λ q. let same : Some s ≡ Some x = rw q at there in
-    let one : s ≡ x = cc in
-    record { before = []; behind = sites; is = ap (λ y. y ∷ sites) one; off = tt })
+    record { before = []; behind = sites; is = ap (λ y. y ∷ sites) cc; off = tt })
     (λ q. let rest : SplitSites sites n x = split_sites sites n x (rw q at there) in
     record { before = s ∷ rest.before; behind = rest.behind; is = ap (λ l. s ∷ l) rest.is; off = (q, rest.off) })
 
@@ -459,8 +448,7 @@ module _ (hosts : List ℕ) (past : List Occurrence) (w : NodeWorld) (so : IsSo 
           let none : node_of e ≡ 0 = rw z refl in absurd (true≢false (sym q ∙ (ap (λ k. eqb k n) none ∙ zero_off)))
       go true q true z =
           let link : node_of e ≡ e.link = rw z refl in
-          let own : n ≡ e.link = sym (eqb-true (node_of e) n q) ∙ link in
-          let one : end_h n ≡ end_h e.link = ap end_h own in
+          let one : end_h n ≡ end_h e.link = ap end_h (sym (eqb-true (node_of e) n q) ∙ link) in
           let two : end_h e.link ≡ e = ap (λ b. record { link = e.link; at_host = b }) (sym z) in
           subst (λ (f : End). IsFew (comes_at w f comes).1 → E cause (comes_at w f comes).1) (one ∙ two) (here (sym (one ∙ two))) few
 
@@ -690,7 +678,7 @@ module _ (hosts : List ℕ) (past : List Occurrence) (w : NodeWorld) (so : IsSo 
     -- ### Any event
 
     pub event_parted : (c : Happening) → IsFew (world_step w c).1 → E c (world_step w c).1
-    event_parted (Boots k) few = turnless_so (Boots k) (boots w k).1 refl (boots_turnless w k)
+    event_parted (Boots k) few = turnless_so (Boots k) (boots w k).1 refl (grind arith)
     event_parted (IsCut k) few = turnless_so (IsCut k) (world_step w (IsCut k)).1 refl (refl, tt)
     event_parted (Gives e m) few =
         turnless_so (Gives e m) (world_step w (Gives e m)).1 refl (begun_turnless w e.link (sending e.link m) (sending_turnless e.link m))
@@ -698,7 +686,7 @@ module _ (hosts : List ℕ) (past : List Occurrence) (w : NodeWorld) (so : IsSo 
         turnless_so (Inits e identity pipes) (world_step w (Inits e identity pipes)).1 refl
         (begun_turnless w e.link (beginning identity pipes) (beginning_turnless identity pipes))
     event_parted (Takes e) few = coming_so e NextFrame (Takes e) refl (λ q. q) (λ same none. (same, grind arith)) few
-    event_parted (Loses e why) few = turnless_so (Loses e why) (frame_lost w e why).1 refl (lost_turnless w e why)
+    event_parted (Loses e why) few = turnless_so (Loses e why) (frame_lost w e why).1 refl (grind arith)
     event_parted Ticks few = ticking_so few
     event_parted (Resets e window) few = coming_so e (AsksReset window) (Resets e window) refl (λ q. q) (λ same none. absurd (cc none)) few
     event_parted (Activates h sync power) few = activates_so h sync power few

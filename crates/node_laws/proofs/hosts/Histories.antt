@@ -2,8 +2,8 @@
 use Rattle.node_laws.proofs.Words.{AllByRecursion, AreHosts, ArePlayable, AtEachEntry, Entry, FollowsNodes, HasNoneAside, Header, IsBegunByHost, IsFew}
 use Rattle.node_laws.proofs.Words.{IsHeldFor, IsHost, IsInitOfHost, IsReplied, IsSentByHost, Line, List, NodeHistory, NodeWorld, None, Occurrence, Site}
 use Rattle.node_laws.proofs.Words.{SiteKeeps, SiteReads, Some, ap, arith, end_h, entries_in, flat_map-append, init_in, new_world, node_entries, occurrences_in}
-use Rattle.node_laws.proofs.Words.{refl, site_at, steps_from, subst, sym, world_behind, ℕ, ◌++◌, ◌∙◌, ◌∷◌, ◌≡◌, ◌≤◌}
-use Rattle.node_laws.proofs.telling.Lasting.{AreCaused, events_of_steps, lines_caused, new_orderly}
+use Rattle.node_laws.proofs.Words.{refl, site_at, subst, sym, world_behind, ℕ, ◌++◌, ◌∙◌, ◌∷◌, ◌≡◌, ◌≤◌}
+use Rattle.node_laws.proofs.telling.Lasting.{AreCaused, lines_caused, new_orderly}
 use Rattle.node_laws.proofs.telling.Events.{site_host, site_is}
 use Rattle.node_laws.proofs.order.Upheld.{AreDone, done_back, history_done}
 use Rattle.node_laws.proofs.order.Lines.{IsSo, history_so}
@@ -51,9 +51,8 @@ module _ (header : Header) (lines : List Line) (t : NodeHistory) (follows : Foll
     -- what is read of the init that runs at a host
     keeps : (n : ℕ) (host : IsHost n) → Keeps n host w (init_in past n)
     keeps n host =
-        let same : events_of_steps (steps_from (new_world hosts) lines) ≡ past ++ back = sym (ap events_of_steps follows.steps_are) ∙ parts in
         front_keeps n host past back (new_world hosts) None (new_orderly hosts are.different (numbers hosts are.all)) (new_keeps n host hosts)
-        (subst (AreCaused MayKeep (new_world hosts)) same (lines_caused MayKeep IsBegunByHost line_may lines (new_world hosts) sides))
+        (subst (AreCaused MayKeep (new_world hosts)) (grind arith) (lines_caused MayKeep IsBegunByHost line_may lines (new_world hosts) sides))
 
     pub stands : (n : ℕ) (s : Site) → site_at w.sites n ≡ Some s → HostStands u (init_in past n) s
     stands n s found =
@@ -83,11 +82,9 @@ module _ (header : Header) (lines : List Line) (t : NodeHistory) (follows : Foll
     low past back o parts =
         let is : node_entries t ≡ entries_in past ++ (o.entries ++ entries_in back) =
         ap entries_in parts ∙ flat_map-append (λ (x : Occurrence). x.entries) past (o ∷ back) in
-        let same : commits (node_entries t) ≡ commits (entries_in past ++ (o.entries ++ entries_in back)) = ap commits is in
-        let one = commits-append (entries_in past) (o.entries ++ entries_in back) in
         let two = commits-append o.entries (entries_in back) in
         let three = commits-append (entries_in past) o.entries in
-        omega (arith, same, one, two, three, noted)
+        omega (arith, ap commits is, commits-append (entries_in past) (o.entries ++ entries_in back), two, three, noted)
 
     -- ## Each event
 

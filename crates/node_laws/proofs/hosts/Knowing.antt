@@ -1,9 +1,9 @@
 -- What a host keeps in the midst of a step is what is read off all entries until there, and no end of it has a block set aside.
 use Rattle.node_laws.proofs.Words.{AtEnd, ComesTo, Deed, Entry, ErrorCount, Init, IsHost, IsOnOrder, IsOutside, LastsOverTurns, LinkState, List, Memory}
 use Rattle.node_laws.proofs.Words.{Message, NodeInput, None, Option, Port, Reset, StillRuns, Tick, TimePasses, Work, [], after_sessions, all_come, all_done}
-use Rattle.node_laws.proofs.Words.{all_map, ap, arith, asked_at, by_test, comes_to_pass, deeds_of, end_h, eqb, false, forgets, forgotten, handles, has_come}
-use Rattle.node_laws.proofs.Words.{has_come_so, has_freed, has_synced, holds_back, input_at, inr, is_forgotten, is_late, is_over, lacking, lets_go, map}
-use Rattle.node_laws.proofs.Words.{owed_in_step, refl, reset_late, subst, sym, syncs_in, true, waiting_at, with_older, without_notice, ℕ, ◌∙◌, ◌∷◌, ◌≡◌}
+use Rattle.node_laws.proofs.Words.{all_map, ap, arith, by_test, comes_to_pass, deeds_of, end_h, eqb, false, forgets, forgotten, handles, has_come, has_come_so}
+use Rattle.node_laws.proofs.Words.{has_freed, has_synced, holds_back, input_at, inr, is_late, is_over, lacking, lets_go, map, owed_in_step, refl, reset_late}
+use Rattle.node_laws.proofs.Words.{subst, sym, syncs_in, true, waiting_at, with_older, without_notice, ℕ, ◌∙◌, ◌∷◌, ◌≡◌}
 use Rattle.node_laws.proofs.creations.Coming.{input_aside}
 use Rattle.node_laws.proofs.creations.HostSides.{EachEndHas, ends_last, turn_none}
 use Rattle.node_laws.proofs.kept.Doing.{GoesOn_or_lost}
@@ -59,9 +59,6 @@ came_none TimePasses w outside a =
 without_none : (p : Port) → HasNone p → HasNone (without_notice p)
 without_none p a = by_test (is_over p) (λ q. rw q a) (λ q. rw q a)
 
-forgets_none : (ports : List Port) (p : Port) → HasNone p → HasNone (forgets ports p)
-forgets_none ports p a = by_test (is_forgotten ports (asked_at p)) (λ q. rw q a) (λ q. rw q a)
-
 -- as its pass begins
 pub begun_none : (input : NodeInput) (w : Work) → IsOutside input → HaveNone w → HaveNone (comes_to_pass input w)
 begun_none input w outside a =
@@ -71,7 +68,7 @@ begun_none input w outside a =
     let first : HaveNone start = record {
       number = ap (λ n. eqb n 0) (sessions_node came.core came.ports) ∙ b.number;
       ends = all_map HasNone HasNone without_notice without_none (map (forgets came.ports) came.ports)
-          (all_map HasNone HasNone (forgets came.ports) (λ p c. forgets_none came.ports p c) came.ports b.ends);
+          (all_map HasNone HasNone (forgets came.ports) (λ p c. grind arith) came.ports b.ends);
     } in
     let one : HaveNone (has_freed input w) = all_last HaveNone IsOwn Any none_lasts 0 (forgotten came.ports) start (forgotten_own came.ports) first in
     let two : HaveNone (has_synced input w) =
@@ -103,9 +100,6 @@ module _ (n : ℕ) (host : IsHost n) (u : List Entry) (i0 : Option Init) (x0 : E
   pub single : (end_h n).at_host ≡ true → n ∷ [] ≡ (end_h n).link ∷ []
   single far = refl
 
-  still_on : (w : Work) → w.cut ≡ false → Stands n host u order_phase w → Runs n host u order_phase w
-  still_on w still a = grind arith
-
   still_kept : (w : Work) → w.cut ≡ false → GoesOn_or_lost n (n ∷ []) memory u w → StillRuns n (n ∷ []) memory u w × IsOnOrder w.core.command w.core.init
   still_kept w still a = grind arith
 
@@ -114,7 +108,7 @@ module _ (n : ℕ) (host : IsHost n) (u : List Entry) (i0 : Option Init) (x0 : E
       → GoesOn_or_lost n (n ∷ []) memory u w → HostKnows w
   host_knows w still order inits errors kept =
       let both = still_kept w still kept in
-      record { order = still_on w still order; inits = inits; errors = errors; kept = both.0; on = both.1 }
+      record { order = grind arith; inits = inits; errors = errors; kept = both.0; on = both.1 }
 
   -- messages wait at its own end alone
   pub own_end : (w : Work) (h : ℕ) (m : Message) (messages : List Message) → HostKnows w → waiting_at w.ports h ≡ m ∷ messages → n ≡ h

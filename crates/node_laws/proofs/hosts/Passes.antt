@@ -77,9 +77,8 @@ module _ (n : ℕ) where
       → (answers_until (xs ++ es) ≡ xs ++ answers_until es) × (cut_until (xs ++ es) ≡ cut_until es)
   reply_until [] all es = (refl, refl)
   reply_until (x ∷ xs) all es =
-      let alone = answer_alone x all.0 in
-      let one = first_until x (xs ++ es) alone.0 in
-      let later = reply_until xs all.1 es in (grind arith)
+      let one = first_until x (xs ++ es) (answer_alone x all.0).0 in
+      let later = reply_until xs all.1 es in grind arith
 
   -- entries that are neither answers of the host nor a loss of its power
   abbrev pub AreUnanswered : List Entry → Type 0
@@ -141,10 +140,9 @@ module _ (n : ℕ) where
       ∙ (append_assoc front (entry.Command n c ∷ entry.Cut n ∷ []) rest ∙ sym (append_assoc front (entry.Command n c ∷ []) (entry.Cut n ∷ rest)))) in
       let parts = reply_until told first (entry.Cut n ∷ rest) in
       let cut = first_until (entry.Cut n) rest refl in
-      let none_behind : answers_until (entry.Cut n ∷ rest) ≡ [] = cut.0 ∙ (silent_rest rest none).0 in
       let is_cut : cut_until (entry.Cut n ∷ rest) ≡ true = cut.1 ∙ ap (λ b. b || cut_until rest) (eq-eqb n n refl) in
       ap answers_until es
-      ∙ ((parts.0 ∙ (ap (λ l. told ++ l) none_behind ∙ append-nil told))
+      ∙ ((parts.0 ∙ (ap (λ l. told ++ l) (cut.0 ∙ (silent_rest rest none).0) ∙ append-nil told))
       ∙ sym (ap (λ b. cond b (to_command reply) reply) (ap cut_until es ∙ (parts.1 ∙ is_cut))
       ∙ (ap to_command is.3 ∙ first_command front is.2 n c none_before)))
 
@@ -178,9 +176,6 @@ module _ (core : Core) (off : eqb core.node 0 ≡ false) where
       cond_both b (learned (own_view core) order value) [] (λ deeds. Once (deeds ++ behind))
       (λ _. learned_holds (λ deeds. Once (deeds ++ behind)) core may (λ c is room. may) order value) (λ _. may)
 
-  init_once : (code : ℕ) (value : List ℕ) (o : Option Init) → Once (init_deeds (own_view core) code value o)
-  init_once code value o = grind arith
-
   host_once : (p : Port) (m : Message) → Once (host_deeds (own_view core) (end_view p) m)
   host_once p m = host_holds Once core p m (record {
     none = tt;
@@ -188,7 +183,7 @@ module _ (core : Core) (off : eqb core.node 0 ≡ false) where
     goes = (refl, refl, tt);
     ordered = λ n is. ordered_once p.desk.errors m.0 n (body_in m.1);
     heard = λ code order is. learned_then (eqb code 0) order (body_in m.1) (init_deeds (own_view core) code (body_in m.1) core.init)
-        (init_once code (body_in m.1) core.init);
+        (grind arith);
   })
 
 -- ### What they note
@@ -207,9 +202,6 @@ module _ (n : ℕ) where
   once_given may (_ ∷ deeds) o = once_given may deeds o
 
   module _ (off : eqb n 0 ≡ false) where
-    own_number : (to : ℕ) → to ≡ n → eqb (node_of (end_of_number n to)) n ≡ true
-    own_number to is = rw off (eq-eqb to n is)
-
     abbrev AreAnswers : List Entry → Type 0
     AreAnswers es = AllByRecursion (λ x. is_answer_of n x ≡ true) es
 
@@ -220,7 +212,7 @@ module _ (n : ℕ) where
       reply_answers count may (Commits c ∷ deeds) o = (eq-eqb n n refl, reply_answers (next_count count) may deeds o)
       reply_answers count may (Sends to m ∷ deeds) o = let h0 = reply_answers count false deeds o.2 in grind arith
       reply_answers count may (SaysOk ∷ deeds) o = (eq-eqb n n refl, reply_answers count may deeds o)
-      reply_answers count may (Drops pid ∷ deeds) o = (own_number n refl, reply_answers count may deeds o)
+      reply_answers count may (Drops pid ∷ deeds) o = ((rw off (eq-eqb n n refl)), reply_answers count may deeds o)
       reply_answers count may (SetsErrors errors ∷ deeds) o = reply_answers count may deeds o
       reply_answers count may (Orders message ∷ deeds) o = let h0 = reply_answers count false deeds o.1 in grind arith
       reply_answers count may (Hears ∷ deeds) o = reply_answers count may deeds o
@@ -457,8 +449,7 @@ module _ (hosts : List ℕ) (n : ℕ) (host : IsHost n) (u : List Entry) (i0 : O
   K v = HostKnows n host u i0 (errors_behind n u) b.memory b.order_phase b.init_phase v
 
   pub known : (v : Work) → ComesTo w v → K v
-  known v c =
-      comes_so K (knows_lasts n host u i0 (errors_behind n u) b.memory b.order_phase b.init_phase) w b.knows v c
+  known v c = comes_so K (knows_lasts n host u i0 (errors_behind n u) b.memory b.order_phase b.init_phase) w b.knows v c
 
   walk : ArePassed (ComesTo w) (hosts_of_ends w.ports) w (passes w)
   walk = through (ComesTo w) (comes_lasts w) (hosts_of_ends w.ports) w Begins on

@@ -1,11 +1,11 @@
 -- What a node keeps over a boot.
-use Rattle.node_laws.proofs.Words.{AllByRecursion, AreTables, AreTables-apply, AreTables-close, AreTables-none, Book, BootFinds, Command, Creation}
-use Rattle.node_laws.proofs.Words.{CutBehindCommand, Desk, Entry, FindsCommands, HciTables, IsCommand, IsRecordable, IsSome, Knows, List, Memory, NodeKeeps}
-use Rattle.node_laws.proofs.Words.{None, NumberedEnd, Option, Port, Running, RunsSo, Side, Some, State, WaitsFor, WouldFind, [], after_commands, after_planned}
-use Rattle.node_laws.proofs.Words.{after_writes, ap, applied, apply, arith, asked_at, book_in, boot_writes, close, command_of, commands_in, cond, cond_both}
-use Rattle.node_laws.proofs.Words.{count_of, current, eq-eqb, eqb, fails_within, false, fold, format_writes, found, inl, inr, last_in, length, length-take, map}
-use Rattle.node_laws.proofs.Words.{min, new_desk, no_tables, none_within, option_map_or, port_at, port_for, records, refl, spelled_by, started_state, state_of}
-use Rattle.node_laws.proofs.Words.{subst, suc, sym, tables_of, take, true, true≢false, with_found, ℕ, ◌++◌, ◌-◌, ◌^◌, ◌∙◌, ◌∷◌, ◌≡◌, ◌≤◌, ◌⊎◌}
+use Rattle.node_laws.proofs.Words.{AllByRecursion, AreTables, AreTables-apply, AreTables-close, AreTables-none, Book, BootFinds, Command, Creation, Desk, Entry}
+use Rattle.node_laws.proofs.Words.{FindsCommands, HciTables, IsCommand, IsRecordable, IsSome, Knows, List, Memory, NodeKeeps, None, NumberedEnd, Option, Port}
+use Rattle.node_laws.proofs.Words.{Running, RunsSo, Side, Some, State, WaitsFor, WouldFind, [], after_commands, after_planned, after_writes, ap, applied, apply}
+use Rattle.node_laws.proofs.Words.{arith, asked_at, book_in, boot_writes, close, command_of, commands_in, cond, cond_both, count_of, current, eq-eqb, eqb}
+use Rattle.node_laws.proofs.Words.{fails_within, false, fold, format_writes, found, inl, inr, last_in, length, length-take, map, min, new_desk, no_tables}
+use Rattle.node_laws.proofs.Words.{none_within, option_map_or, port_at, port_for, records, refl, spelled_by, started_state, state_of, subst, suc, sym}
+use Rattle.node_laws.proofs.Words.{tables_of, take, true, true≢false, with_found, ℕ, ◌++◌, ◌-◌, ◌^◌, ◌∙◌, ◌∷◌, ◌≡◌, ◌≤◌}
 use Rattle.trace_model.specs.declared.entry.Entry.TheVariants as entry
 use Rattle.journal_laws.specs.Writes.{IsCut}
 use Rattle.journal_laws.specs.Journal.{count}
@@ -33,8 +33,7 @@ good_one t (Some c) may good = (AreTables-apply t c (may c refl) good.0, recorda
 
 good_fold : (t : HciTables) (bodies : List (List ℕ)) → Good t → Good (fold applied t bodies)
 good_fold t [] good = good
-good_fold t (body ∷ bodies) good =
-    good_fold (applied t body) bodies (good_one t (command_of body) (λ c e. command_read (spelled_by body) c e) good)
+good_fold t (body ∷ bodies) good = good_fold (applied t body) bodies (good_one t (command_of body) (λ c e. command_read (spelled_by body) c e) good)
 
 pub good_found : (content : List ℕ) → Good (close (tables_of content))
 good_found content =
@@ -66,11 +65,8 @@ module _ (content : List ℕ) (t : HciTables) (many : ℕ) (f : BootFinds conten
         (let h = holds_still content (after_writes format_writes content) t f.keeps.holds (no_records_then content (state_of content) says none) in
         record { commands = h.commands; tables_are = h.tables_are ∙ same_tables })
 
-    pub started_is : formatted ≡ started_state (state_of content)
-    started_is = ap (λ o. option_map_or (λ _. state_of content) o formatted) (sym none)
-
     pub count_formatted : count_of formatted ≡ many
-    count_formatted = counted content (state_of content) formatted says started_is ∙ f.keeps.count_is
+    count_formatted = counted content (state_of content) formatted says (grind arith) ∙ f.keeps.count_is
 
     pub left_formatted : (j : ℕ) (left : List ℕ) → IsCut j format_writes content left → BootFinds left t many
     left_formatted j left cut =
@@ -129,12 +125,7 @@ module _ (n : ℕ) (hosts : List ℕ) (t : List Entry) (m : Memory) (would : Wou
 
   module _ (few : length (commands_in t n) ≤ 2 ^ 32 - 1) where
     count_now : count_of now ≡ would.many
-    count_now =
-        counted content (state_of content) now (says content tables _ would.finds) refl ∙ would.finds.keeps.count_is ∙ small would.which
-      where
-        small : (would.many ≡ length book.commands) ⊎ ((suc would.many ≡ length book.commands) × (last_in t n ≡ CutBehindCommand) × IsSome (current content))
-            → min would.many (2 ^ 32 - 1) ≡ would.many
-        small a = grind arith
+    count_now = counted content (state_of content) now (says content tables _ would.finds) refl ∙ would.finds.keeps.count_is ∙ (grind arith)
 
     pub boot_told : FindsCommands t n (count_of now)
     boot_told = elim would.which [ inl all ↦ inl (count_now ∙ all) | inr less ↦ inr (ap suc count_now ∙ less.0, less.1) ]
@@ -187,11 +178,6 @@ module _ (n : ℕ) (hosts : List ℕ) (t : List Entry) (m : Memory) (would : Wou
     book_same : book_in (t ++ entry.Cut n ∷ []) n ≡ book
     book_same = book_more t (entry.Cut n ∷ []) n
 
-    all_of : current content ≡ None
-        → (would.many ≡ length book.commands) ⊎ ((suc would.many ≡ length book.commands) × (last_in t n ≡ CutBehindCommand) × IsSome (current content))
-        → would.many ≡ length book.commands
-    all_of none a = grind arith
-
     by_bank : (o : Option Side) → current content ≡ o
         → WouldFind (after_planned (boot_writes content) m).content (book_in (t ++ entry.Cut n ∷ []) n) (last_in (t ++ entry.Cut n ∷ []) n)
     by_bank (Some side) is =
@@ -202,7 +188,7 @@ module _ (n : ℕ) (hosts : List ℕ) (t : List Entry) (m : Memory) (would : Wou
         subst (λ b. WouldFind (after_planned (boot_writes content) m).content b (last_in (t ++ entry.Cut n ∷ []) n)) (sym book_same)
         (record {
           many = would.many;
-          which = inl (all_of is would.which);
+          which = inl (grind arith);
           finds = left_formatted content tables _ would.finds is cut.0 (after_planned (boot_writes content) m).content
               (subst (λ w. IsCut cut.0 w content (after_planned (boot_writes content) m).content) formats cut.1);
         })
@@ -212,9 +198,7 @@ pub cut_keeps : (n : ℕ) (hosts : List ℕ) (t : List Entry) (m : Memory) (r : 
     → NodeKeeps n hosts (t ++ entry.Cut n ∷ []) m None
 cut_keeps n hosts t m r k = record {
   would = finds_all m.content (book_in (t ++ entry.Cut n ∷ []) n) (last_in (t ++ entry.Cut n ∷ []) n) r.core.tables (count_of r.core.journal) k.knows.finds
-      (ap close (k.tables_are ∙ ap (λ (b : Book). b.tables) (sym same)) ∙ closed_book (t ++ entry.Cut n ∷ []) n)
-      (k.count_is ∙ ap (λ (b : Book). min (length b.commands) (2 ^ 32 - 1)) (sym same));
+      (ap close (k.tables_are ∙ ap (λ (b : Book). b.tables) (sym (book_more t (entry.Cut n ∷ []) n))) ∙ closed_book (t ++ entry.Cut n ∷ []) n)
+      (k.count_is ∙ ap (λ (b : Book). min (length b.commands) (2 ^ 32 - 1)) (sym (book_more t (entry.Cut n ∷ []) n)));
   runs = tt;
-} where
-  same : book_in (t ++ entry.Cut n ∷ []) n ≡ book_in t n
-  same = book_more t (entry.Cut n ∷ []) n
+}

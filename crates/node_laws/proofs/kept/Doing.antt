@@ -1,17 +1,17 @@
 -- What a node keeps while it does the deeds of a message, as it is read after more entries.
 use Rattle.std.proofs.Math.Seq.{take-append_seam, take-length}
 use Rattle.node_laws.proofs.Words.{About, AllByRecursion, AreTables, AreTables-apply, AreToldBehind, Asks, Book, Bool, BootFinds, Command, CommandLast, Commits}
-use Rattle.node_laws.proofs.Words.{Core, Creation, Cut, CutBehindCommand, Deed, Desk, Drops, Ends, Entry, FetchMessage, FindsRoom, Give, GoesOn, HciTables}
-use Rattle.node_laws.proofs.Words.{Hears, Init, IsAllowedBy, IsAllowedFor, IsAllowedStill, IsAnswered, IsCommand, IsOf, IsOnOrder, IsPlain, IsRecordable}
-use Rattle.node_laws.proofs.Words.{IsSome, Knows, Last, List, MakeOf, MayBeDone, MayWait, Memory, None, Noted, NothingYet, Option, Orders, Port}
-use Rattle.node_laws.proofs.Words.{Reckoning, Release, Releases, Removed, SaysOk, Sends, SetAside, SetsErrors, Some, State, StillRuns, Tells, Turn, Waits}
-use Rattle.node_laws.proofs.Words.{WaitsAt, WaitsFor, Work, WouldFind, Write, [], after_commands, after_planned, after_turn, all_append, all_done, all_so, ap}
-use Rattle.node_laws.proofs.Words.{append-nil, append_assoc, apply, ap₂, arith, asked_at, body_of, book_after, book_in, by_test, cases_Bool, changed_if, close}
-use Rattle.node_laws.proofs.Words.{commands_in, commit, commit_writes, committed, cond, cond_both, count_of, creation_in, current, done, end_of_node}
-use Rattle.node_laws.proofs.Words.{entries_for, entry_of, eq-eqb, eqb, eqb-true, fails_within, false, flat_map, fold, fold-append, hosts_of_ends, inl, inr}
-use Rattle.node_laws.proofs.Words.{keeps, last_after, last_in, length, length-append, loses_power, map, min, new_book, no_tables, noted_of, notified, noting}
-use Rattle.node_laws.proofs.Words.{option_map_or, plan_behind, port_at, reckoned, reckoning_of, refl, subst, sym, tables_in, take, true, turn_at, unless_cut}
-use Rattle.node_laws.proofs.Words.{with_command, with_desk, with_found, ℕ, ◌++◌, ◌+◌, ◌-◌, ◌==◌, ◌^◌, ◌∙◌, ◌∷◌, ◌≡◌, ◌⊎◌}
+use Rattle.node_laws.proofs.Words.{Core, Creation, Cut, CutBehindCommand, Deed, Desk, Drops, Ends, Entry, FindsRoom, Give, GoesOn, HciTables, Hears, Init}
+use Rattle.node_laws.proofs.Words.{IsAllowedBy, IsAllowedFor, IsAllowedStill, IsAnswered, IsCommand, IsOf, IsOnOrder, IsPlain, IsRecordable, IsSome, Knows}
+use Rattle.node_laws.proofs.Words.{Last, List, MakeOf, MayBeDone, MayWait, Memory, None, Noted, NothingYet, Option, Orders, Port, Reckoning, Release, Releases}
+use Rattle.node_laws.proofs.Words.{Removed, SaysOk, Sends, SetAside, SetsErrors, Some, State, StillRuns, Tells, Turn, Waits, WaitsAt, WaitsFor, Work, WouldFind}
+use Rattle.node_laws.proofs.Words.{Write, [], after_commands, after_planned, after_turn, all_append, all_done, all_so, ap, append-nil, append_assoc, apply, ap₂}
+use Rattle.node_laws.proofs.Words.{arith, asked_at, body_of, book_after, book_in, by_test, cases_Bool, changed_if, close, commit, commit_writes, committed}
+use Rattle.node_laws.proofs.Words.{cond, cond_both, count_of, creation_in, current, done, end_of_node, entries_for, entry_of, eq-eqb, eqb, eqb-true}
+use Rattle.node_laws.proofs.Words.{fails_within, false, flat_map, fold, fold-append, hosts_of_ends, inl, inr, keeps, last_after, last_in, length, length-append}
+use Rattle.node_laws.proofs.Words.{loses_power, map, min, new_book, no_tables, noted_of, notified, noting, option_map_or, plan_behind, port_at, reckoned}
+use Rattle.node_laws.proofs.Words.{reckoning_of, refl, subst, sym, tables_in, take, true, turn_at, unless_cut, with_command, with_desk, with_found, ℕ, ◌++◌}
+use Rattle.node_laws.proofs.Words.{◌+◌, ◌-◌, ◌==◌, ◌^◌, ◌∙◌, ◌∷◌, ◌≡◌, ◌⊎◌}
 use Rattle.hci_store.proofs.Committed.{close-close, same_closed, recordable-apply}
 use Rattle.node_laws.specs.kept.Books.{HasLostPower, WaitsAbout}
 use Rattle.node_laws.proofs.kept.Reckoned.{after_planned-append, command_makes, commit_count, finds_closed, fold_book, make_idle, make_more, make_ok}
@@ -44,7 +44,7 @@ plain_last t es n all = last_more t es n ∙ plain_last_fold n (last_in t n) es 
 
 pub plain_told : (t es : List Entry) → AllByRecursion IsPlain es → AreToldBehind t es
 plain_told t [] all = tt
-plain_told t (e ∷ es) all = ((grind arith), plain_told (t ++ e ∷ []) es all.1)
+plain_told t (e ∷ es) all = (grind arith, plain_told (t ++ e ∷ []) es all.1)
 
 pub plain_own : (n : ℕ) (es : List Entry) → AllByRecursion IsPlain es → AllByRecursion (IsOf n) es
 plain_own n es all = all_so IsPlain (IsOf n) (λ e is. grind arith) es all
@@ -56,8 +56,7 @@ told_append t (x ∷ xs) ys a b = (a.0, told_append (t ++ x ∷ []) xs ys a.1 (s
 -- ### Commands
 
 pub book_command : (t : List Entry) (m n : ℕ) (c : Command) → m ≡ n → book_in (t ++ entry.Command m c ∷ []) n ≡ with_command c (book_in t n)
-book_command t m n c same =
-    book_more t (entry.Command m c ∷ []) n ∙ ap (λ b. cond b (with_command c (book_in t n)) (book_in t n)) (eq-eqb m n same)
+book_command t m n c same = book_more t (entry.Command m c ∷ []) n ∙ ap (λ b. cond b (with_command c (book_in t n)) (book_in t n)) (eq-eqb m n same)
 
 last_cut : (t : List Entry) (m n : ℕ) (c : Command) → m ≡ n → last_in (t ++ entry.Command m c ∷ entry.Cut m ∷ []) n ≡ CutBehindCommand
 last_cut t m n c same =
@@ -149,10 +148,6 @@ pub map_new : (f : Port → Port) → ((p : Port) → (f p).desk.host ≡ p.desk
 map_new f same none ports x q c here asked =
     let r = port_found f same ports x q here in
     (r.0, r.1, none r.0 c (sym (ap asked_at r.2) ∙ asked))
-
-changed_new : (b : Bool) (f : Port → Port) (p : Port) (c : Creation) → ((c : Creation) → asked_at (f p) ≡ Some c → asked_at p ≡ Some c)
-    → asked_at (changed_if b f p) ≡ Some c → asked_at p ≡ Some c
-changed_new b f p c none asked = grind arith
 
 pub map_two : {X Y Z : Type 0} (f : Y → Z) (g : X → Y) (xs : List X) → map f (map g xs) ≡ map (λ x. f (g x)) xs
 map_two f g [] = refl
@@ -287,26 +282,19 @@ pub plainly_map : (w : Work) (f : Port → Port) (es : List Entry) → AllByRecu
     → Plainly w (noting es (record w { ports = map f w.ports }))
 plainly_map w f es plain host waits none = let h0 = plainly_ports w f host waits none in grind arith
 
-plain_option : (core : Core) (t : Turn) (o : Option Port) → AllByRecursion IsPlain (option_map_or (noted_of core t) o [])
-plain_option core t o = grind arith
-
--- of a message that is fetched nothing is noted
-pub fetch_none : (core : Core) (o : Option Port) → option_map_or (noted_of core FetchMessage) o [] ≡ []
-fetch_none core o = grind arith
-
 pub plainly_turn : (h : ℕ) (t : Turn) (w : Work) → Plainly w (turn_at h t w)
 plainly_turn h t w =
     plainly_map w (λ (p : Port). changed_if (p.desk.host == h) (after_turn t) p) (option_map_or (noted_of w.core t) (port_at w.ports h) [])
-    (plain_option w.core t (port_at w.ports h))
+    (grind arith)
     (λ p. changed_host (p.desk.host == h) (after_turn t) p refl) (λ p. changed_waits (p.desk.host == h) (after_turn t) p (λ x. x))
-    (λ p c e. changed_new (p.desk.host == h) (after_turn t) p c (λ c e. e) e)
+    (λ p c e. grind arith)
 
 pub plainly_desk : (h : ℕ) (f : Desk → Desk) (w : Work) → ((d : Desk) → (f d).host ≡ d.host) → ((d : Desk) → WaitsFor d.notice → WaitsFor (f d).notice)
     → ((d : Desk) (c : Creation) → creation_in (f d).notice ≡ Some c → creation_in d.notice ≡ Some c) → Plainly w (with_desk h f w)
 plainly_desk h f w host waits none =
     let change : Port → Port = λ p. record p { desk = f p.desk } in
     plainly_ports w (λ (p : Port). changed_if (p.desk.host == h) change p) (λ p. changed_host (p.desk.host == h) change p (host p.desk))
-    (λ p. changed_waits (p.desk.host == h) change p (waits p.desk)) (λ p c e. changed_new (p.desk.host == h) change p c (none p.desk) e)
+    (λ p. changed_waits (p.desk.host == h) change p (waits p.desk)) (λ p c e. grind arith)
 
 plainly_notified : (h : ℕ) (about : About) (message : List ℕ) (w : Work) → WaitsAbout about → creation_in (Some (record { about = about; age = 0 })) ≡ None
     → Plainly w (notified h about message w)
@@ -394,13 +382,12 @@ module _ (n : ℕ) (hosts : List ℕ) (old : Memory) (before : List Entry) where
 
     lost_then : fails_within (length writes) w.plan ≡ true → HasLostPower n old before (loses_power writes begun)
     lost_then fails =
-        let now : fails_within (length writes) r.memory.plan ≡ true = ap (fails_within (length writes)) (sym r.plan_is) ∙ fails in
         record {
           off = refl;
           command = c;
           lost = record { hosts = hosts; work = w; ran = r; may = may; room = room; fails = fails; is = refl };
           would = would_at _ left _ (with_command c (book_in seen n)) _ CutBehindCommand memory_is book_is last_is
-              (either (planned_left r.memory w.core.journal w.core.tables c r.knows r.sorted r.recordable may room now));
+              (either (planned_left r.memory w.core.journal w.core.tables c r.knows r.sorted r.recordable may room (grind arith)));
           told = told_append before (w.entries ++ entry.Command w.core.node c ∷ []) (entry.Cut w.core.node ∷ [])
               (told_append before w.entries (entry.Command w.core.node c ∷ []) r.told (told_then, tt)) (tt, tt);
           own = all_append (IsOf n) (w.entries ++ entry.Command w.core.node c ∷ []) (entry.Cut w.core.node ∷ [])
@@ -460,7 +447,7 @@ module _ (n : ℕ) (hosts : List ℕ) (old : Memory) (before : List Entry) where
     recordable = r.recordable;
     tables_are = r.tables_are ∙ ap (λ (b : Book). b.tables) (sym same);
     count_is = r.count_is ∙ ap (λ (b : Book). min (length b.commands) (2 ^ 32 - 1)) (sym same);
-    told = told_append before w.entries es r.told (counted, tt);
+    told = told_append before w.entries es r.told (grind arith, tt);
     own = all_append (IsOf n) w.entries es r.own (r.number, tt);
     waits = r.waits;
     allowed = r.allowed;
@@ -470,9 +457,6 @@ module _ (n : ℕ) (hosts : List ℕ) (old : Memory) (before : List Entry) where
 
     same : book_in (before ++ (w.entries ++ es)) n ≡ book_in (before ++ w.entries) n
     same = ap (λ l. book_in l n) (sym (append_assoc before w.entries es)) ∙ book_more (before ++ w.entries) es n
-
-    counted : count_of w.core.journal ≡ min (length (commands_in (before ++ w.entries) w.core.node)) (2 ^ 32 - 1)
-    counted = r.count_is ∙ ap (λ k. min (length (commands_in (before ++ w.entries) k)) (2 ^ 32 - 1)) (sym r.number)
 
   -- ### Deeds
 

@@ -6,13 +6,13 @@ use Rattle.node_laws.proofs.Words.{Loss, MayBeDone, Memory, Message, NoInput, No
 use Rattle.node_laws.proofs.Words.{RunsSo, Sends, Site, SiteKeeps, Some, Starts, Step, StillRuns, WaitsAt, WaitsFor, Work, WouldFind, [], activates, after_host}
 use Rattle.node_laws.proofs.Words.{after_planned, all_append, ap, append-nil, append_assoc, ap₂, arith, arrival, asked_at, beginning, begins_with, book_after}
 use Rattle.node_laws.proofs.Words.{book_in, boot_writes, boots, by_coming, by_controller, by_host, by_loss, by_test, cases_Bool, changed_if, close, comes_at}
-use Rattle.node_laws.proofs.Words.{comes_to, commands_in, cond, cond-false, cond-true, cond_both, controller_cut, controller_does, controller_work, count_of}
-use Rattle.node_laws.proofs.Words.{counts, creation_in, end_c, end_h, ending_entries, ending_of, entries_for, eqb, eqb-true, errors_all, exchanged}
-use Rattle.node_laws.proofs.Words.{fails_within, false, first_lost, flat_map, fold, found, frame_lost, frames_noted, happens, host_cut, host_does, host_work}
-use Rattle.node_laws.proofs.Words.{hosts_of_ends, inl, inr, is_command_message, is_some, last_after, last_in, length, link_after_controller, link_to}
-use Rattle.node_laws.proofs.Words.{loses_power_at, map, memory_at, min, near_end_in, new_book, new_memory, node_at, option_map_or, port_at, port_for}
-use Rattle.node_laws.proofs.Words.{reckoning_of, refl, runs_on, sending, site_at, site_lost, steps, subst, sym, true, true≢false, wires_for, with_error}
-use Rattle.node_laws.proofs.Words.{with_found, with_memory, with_site, work_of, ℕ, ◌&&◌, ◌++◌, ◌+◌, ◌-◌, ◌^◌, ◌∙◌, ◌∷◌, ◌≡◌, ◌≤◌, ◌⊎◌}
+use Rattle.node_laws.proofs.Words.{comes_to, commands_in, cond, cond-true, cond_both, controller_cut, controller_does, controller_work, count_of, counts}
+use Rattle.node_laws.proofs.Words.{creation_in, end_c, end_h, ending_entries, ending_of, entries_for, eqb, eqb-true, errors_all, exchanged, fails_within, false}
+use Rattle.node_laws.proofs.Words.{first_lost, flat_map, fold, found, frame_lost, frames_noted, happens, host_cut, host_does, host_work, hosts_of_ends, inl}
+use Rattle.node_laws.proofs.Words.{inr, is_command_message, is_some, last_after, last_in, length, link_after_controller, link_to, loses_power_at, map}
+use Rattle.node_laws.proofs.Words.{memory_at, min, near_end_in, new_book, new_memory, node_at, option_map_or, port_at, port_for, reckoning_of, refl, runs_on}
+use Rattle.node_laws.proofs.Words.{sending, site_at, site_lost, steps, subst, sym, true, true≢false, wires_for, with_error, with_found, with_memory, with_site}
+use Rattle.node_laws.proofs.Words.{work_of, ℕ, ◌&&◌, ◌++◌, ◌+◌, ◌-◌, ◌^◌, ◌∙◌, ◌∷◌, ◌≡◌, ◌≤◌, ◌⊎◌}
 use Rattle.link_laws.specs.entries.Entries.{End as LinkSide}
 use Rattle.node_laws.specs.kept.Worlds.{IsStranger}
 use Rattle.node_laws.proofs.kept.Doing.{GoesOn_or_lost, NoneNew, all_fine, book_more, closed_book, finds_all, last_more, map_found, map_new, map_two, may_still}
@@ -81,16 +81,13 @@ module _ (t u : List Entry) (h : ℕ) (f : Site → Site) (other : (s : Site) �
               others_keep sites (subst (λ k. AllByRecursion (λ j. eqb j k ≡ false) (hosts_in sites)) (eqb-true s.host h is) different.0) all.1,
             )
         by_host (inr off) later =
-            let there : site_at sites h ≡ Some x = sym (cond-false (eqb s.host h) (Some s) (site_at sites h) off) ∙ e in
-            (subst (λ b. SiteKeeps u (changed_if b f s)) (sym off) (other s off all.0), later there)
+            (subst (λ b. SiteKeeps u (changed_if b f s)) (sym off) (other s off all.0), later (grind arith))
 
 -- a host is changed twice
 pub with_site_twice : (h : ℕ) (f g : Site → Site) → ((s : Site) → (f s).host ≡ s.host) → (sites : List Site)
     → with_site h g (with_site h f sites) ≡ with_site h (λ s. g (f s)) sites
 with_site_twice h f g same [] = refl
-with_site_twice h f g same (s ∷ sites) = ap₂ (λ x l. x ∷ l) (by_host (eqb s.host h) refl) (with_site_twice h f g same sites) where
-  by_host : (b : Bool) → eqb s.host h ≡ b → changed_if (eqb (changed_if b f s).host h) g (changed_if b f s) ≡ changed_if b (λ s. g (f s)) s
-  by_host b is = grind arith
+with_site_twice h f g same (s ∷ sites) = ap₂ (λ x l. x ∷ l) (grind arith) (with_site_twice h f g same sites)
 
 -- ## What a node keeps between its steps
 
@@ -107,19 +104,13 @@ same_then n t u v a b = record { book = b.book ∙ a.book; last = b.last ∙ a.l
 pub plain_same : (n : ℕ) (t es : List Entry) → AllByRecursion IsPlain es → IsSame n t (t ++ es)
 plain_same n t es plain = record { book = plain_book t es n plain; last = plain_last t es n plain }
 
-other_book : (m n : ℕ) (b : Book) (e : Entry) → (m ≡ n → ⊥) → IsOf m e → book_after n b e ≡ b
-other_book m n b e other is = grind arith
-
-other_last : (m n : ℕ) (l : Last) (e : Entry) → (m ≡ n → ⊥) → IsOf m e → last_after n l e ≡ l
-other_last m n l e other is = grind arith
-
 other_book_fold : (m n : ℕ) (b : Book) (es : List Entry) → (m ≡ n → ⊥) → AllByRecursion (IsOf m) es → fold (book_after n) b es ≡ b
 other_book_fold m n b [] other all = refl
-other_book_fold m n b (e ∷ es) other all = ap (λ x. fold (book_after n) x es) (other_book m n b e other all.0) ∙ other_book_fold m n b es other all.1
+other_book_fold m n b (e ∷ es) other all = ap (λ x. fold (book_after n) x es) (grind arith) ∙ other_book_fold m n b es other all.1
 
 other_last_fold : (m n : ℕ) (l : Last) (es : List Entry) → (m ≡ n → ⊥) → AllByRecursion (IsOf m) es → fold (last_after n) l es ≡ l
 other_last_fold m n l [] other all = refl
-other_last_fold m n l (e ∷ es) other all = ap (λ x. fold (last_after n) x es) (other_last m n l e other all.0) ∙ other_last_fold m n l es other all.1
+other_last_fold m n l (e ∷ es) other all = ap (λ x. fold (last_after n) x es) (grind arith) ∙ other_last_fold m n l es other all.1
 
 pub other_same : (m n : ℕ) (t es : List Entry) → (m ≡ n → ⊥) → AllByRecursion (IsOf m) es → IsSame n t (t ++ es)
 other_same m n t es other all = record {
@@ -287,10 +278,9 @@ module _ (hosts : List ℕ) (are : AreHosts hosts) where
       → Goes t (record w { sites = with_site h f w.sites }) es
   host_goes t w es h x f all here keeps told own host =
       let known = site_found (SiteKeeps t) IsHost w.sites h x all.sites (hosts_of_sites t w all) here in
-      let is_host : IsHost h = subst IsHost known.2 known.1 in
       record {
         keep = record {
-          controller = keeps_same 0 hosts t (t ++ es) w.memory w.controller (other_same h 0 t es (zero_host h is_host) own) all.controller;
+          controller = keeps_same 0 hosts t (t ++ es) w.memory w.controller (other_same h 0 t es (zero_host h (grind arith)) own) all.controller;
           hosts_are = hosts_with h f host w.sites ∙ all.hosts_are;
           sites = with_site_keeps t (t ++ es) h f
               (λ s off k. keeps_same s.host (s.host ∷ []) t (t ++ es) s.memory s.node (other_same h s.host t es (λ e. eqb-false s.host h off (sym e)) own) k)
@@ -304,9 +294,6 @@ module _ (hosts : List ℕ) (are : AreHosts hosts) where
       }
 
   -- ### Steps
-
-  plain_arrival : (who : LinkSide) (h : ℕ) (l : Link) (comes : Comes) → AllByRecursion IsPlain (entries_for h (arrival who l comes))
-  plain_arrival who h l comes = plain_entries h (arrival who l comes)
 
   -- what a step does with a node that runs
   abbrev pub IsStep : ℕ → List ℕ → (Work → Work) → Type 0
@@ -326,7 +313,7 @@ module _ (hosts : List ℕ) (are : AreHosts hosts) where
       let fine : GoesOn_or_lost 0 hosts w.memory t work =
       step w.memory t (work_of r w.memory.plan (λ k. near_end_in (link_to w.sites k) (comes_to h comes k)) begun)
       (runs_begun 0 hosts t w.memory r (λ k. near_end_in (link_to w.sites k) (comes_to h comes k)) begun
-      (plain_arrival Controller h (link_to w.sites h) comes) runs) runs.on in
+      (plain_entries h (arrival Controller (link_to w.sites h) comes)) runs) runs.on in
       let done = step_keeps 0 hosts t w.memory work frames fine
       (plain_flat (λ (s : Site). frames_noted Controller s.host (wires_for s.link (comes_to h comes s.host)) work)
       (λ s. plain_frames Controller s.host (wires_for s.link (comes_to h comes s.host)) work) w.sites) in
@@ -349,7 +336,7 @@ module _ (hosts : List ℕ) (are : AreHosts hosts) where
       let fine : GoesOn_or_lost x.host (x.host ∷ []) x.memory t work =
       step x r here e known.1 runs.on t (work_of r x.memory.plan (λ k. near_end_in (exchanged x.link) comes) begun) refl
       (runs_begun x.host (x.host ∷ []) t x.memory r (λ k. near_end_in (exchanged x.link) comes) begun
-      (plain_arrival Host x.host (exchanged x.link) comes) runs) in
+      (plain_entries x.host (arrival Host (exchanged x.link) comes)) runs) in
       let done = step_keeps x.host (x.host ∷ []) t x.memory work frames fine (plain_frames Host h (wires_for (exchanged x.link) comes) work) in
       host_goes t w (work.entries ++ frames) h x (after_host comes work) all here done.0 done.1
       (subst (λ n. AllByRecursion (IsOf n) (work.entries ++ frames)) known.2 done.2) (λ s. refl))
@@ -538,13 +525,10 @@ module _ (hosts : List ℕ) (are : AreHosts hosts) where
       by_node w n (GoesBy t (loses_power_at n w, entry.Cut n ∷ []))
       (λ is. subst (λ k. GoesBy t (loses_power_at k w, entry.Cut k ∷ [])) (sym is) (near_cut t w r all (subst (λ k. node_at w k ≡ Some r) is running)))
       (λ x off here. rw off (far_cut t w n x r all here (node_there x off here running)))
-      (λ off here. absurd (nobody off here running))
+      (λ off here. absurd (grind arith))
     where
       node_there : (x : Site) → eqb n 0 ≡ false → site_at w.sites n ≡ Some x → node_at w n ≡ Some r → x.node ≡ Some r
       node_there x off here is = rw here at (rw off at is)
-
-      nobody : eqb n 0 ≡ false → site_at w.sites n ≡ None → node_at w n ≡ Some r → ⊥
-      nobody off here is = let gone : None ≡ Some r = rw here at (rw off at is) in cc gone
 
   -- ### Memories and boots
 

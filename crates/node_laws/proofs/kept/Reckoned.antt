@@ -30,9 +30,6 @@ use Rattle.trace_model.specs.declared.entry.Entry.TheVariants as entry
 
 -- ## What planned writes leave of a memory
 
-pub content_on : (m : Memory) (at : ℕ) (bytes : List ℕ) → is_next m.plan ≡ false → (memory_after m at bytes).content ≡ overwritten m.content at bytes
-content_on m at bytes later = grind arith
-
 pub content_torn : (m : Memory) (at : ℕ) (bytes : List ℕ) → is_next m.plan ≡ true
     → (memory_after m at bytes).content ≡ overwritten m.content at (torn_bytes m.plan (length bytes))
 content_torn m at bytes next = grind arith
@@ -174,10 +171,9 @@ snapshot_fits t may are =
     let a = taken-append (syncs ++ values ++ rows ++ opened) statics in
     let b = taken-append (syncs ++ values ++ rows) opened in
     let c = taken-append (syncs ++ values) rows in
-    let d = taken-append syncs values in
     all_fit (taken (snapshot_of t)) (taken (syncs ++ values ++ rows ++ opened)) (taken (syncs ++ values ++ rows)) (taken (syncs ++ values))
     (taken syncs) (taken values) (taken rows) (taken opened) (taken statics)
-    (length t.syncs) (length t.values) (length t.rows) (length t.statics) a b c d
+    (length t.syncs) (length t.values) (length t.rows) (length t.statics) a b c (taken-append syncs values)
     (syncs_taken t.syncs) (values_taken t.values may.values) (rows_taken t.rows) (opened_taken t.rows) (statics_taken t.statics)
     (length-rows sync_host 1 8 t.syncs are.syncs) (length-rows place_of_value 2 16 t.values are.values.sorted)
     (length-rows pid_of 2 112 t.rows are.rows) (length-rows static_place 0 16 t.statics are.statics)
@@ -224,8 +220,7 @@ pub record IsLeftBetween (writes : List Write) (content left : List ℕ) : Type 
 -- so it says what the memory said before, or behind all of them
 pub says_either : (writes : List Write) (content left : List ℕ) → IsLeftBetween writes content left
     → (journal left ≡ journal content) ⊎ (journal left ≡ journal (after_writes writes content))
-says_either writes content left b =
-    journal_left writes content left (record { whole = b.at; cut = b.cut; says = b.whole.says b.at left b.cut })
+says_either writes content left b = journal_left writes content left (record { whole = b.at; cut = b.cut; says = b.whole.says b.at left b.cut })
 
 pub left_finds : (writes : List Write) (content left : List ℕ) (t u : HciTables) (m n : ℕ) → IsLeftBetween writes content left
     → BootFinds content t m → BootFinds (after_writes writes content) u n → BootFinds left t m ⊎ BootFinds left u n
@@ -405,12 +400,9 @@ planned_used m s t c k are may command room fails =
 
 -- ### Books
 
-one_book : (n : ℕ) (r : Reckoning) (e : Entry) → (reckoned n r e).book ≡ book_after n r.book e
-one_book n r e = grind arith
-
 pub fold_book : (n : ℕ) (r : Reckoning) (es : List Entry) → (fold (reckoned n) r es).book ≡ fold (book_after n) r.book es
 fold_book n r [] = refl
-fold_book n r (e ∷ es) = fold_book n (reckoned n r e) es ∙ ap (λ b. fold (book_after n) b es) (one_book n r e)
+fold_book n r (e ∷ es) = fold_book n (reckoned n r e) es ∙ ap (λ b. fold (book_after n) b es) (grind arith)
 
 -- ### Entries that tell nothing of a node
 
@@ -488,7 +480,7 @@ make_idle n r xs ys m a all = make_more n r xs ys m m a (idle_make n (fold (reck
 
 -- an answer that counts
 pub make_ok : (n : ℕ) (r : Reckoning) (xs : List Entry) (k j : ℕ) (m : Memory) → MakeOf n r xs m → MakeOf n r (xs ++ entry.AnyOk k j ∷ []) m
-make_ok n r xs k j m a = make_more n r xs (entry.AnyOk k j ∷ []) m m a ((grind arith))
+make_ok n r xs k j m a = make_more n r xs (entry.AnyOk k j ∷ []) m m a (grind arith)
 
 -- ### A command
 

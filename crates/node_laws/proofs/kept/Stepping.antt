@@ -3,20 +3,20 @@ use Rattle.std.proofs.Common.{add-one}
 use Rattle.node_laws.proofs.Words.{ActTick, AllByRecursion, Answer, AreDifferent, AreHosts, AreTables, Ask, AtEnd, Bool, Clear, Command, Commit, Commits, Core}
 use Rattle.node_laws.proofs.Words.{Create, Creation, Decision, Deed, Delete, Entry, FetchMessage, Give, HciTables, Hold, Init, IsAllowedStill, IsCommand}
 use Rattle.node_laws.proofs.Words.{IsHost, IsNodeNumber, IsOnOrder, IsPlain, IsRecordableDecision, IsSome, IsTrue, LinkInput, LinkView, List, MayBeDone}
-use Rattle.node_laws.proofs.Words.{MayWait, Memory, Message, NodeInput, None, Notice, Option, Phase, PipeRow, Port, Release, Releases, Reset, Role, Sends}
-use Rattle.node_laws.proofs.Words.{SetOpened, Some, State, StillRuns, Sync, Tells, TimePasses, WaitsAt, WaitsFor, Work, [], accepts, act_out}
-use Rattle.node_laws.proofs.Words.{after_input, after_sessions, agreed, all_append, all_come, all_done, all_false, all_owed, all_owed_hold, and_from, answer_of}
-use Rattle.node_laws.proofs.Words.{ap, append-nil, apply, arith, asked_at, body_in, by_option, by_test, cases_Bool, commit_deeds, cond, cond_both}
-use Rattle.node_laws.proofs.Words.{controller_deeds, controller_holds, creation_in, decided, decided_holds, decision_deeds, deeds_of, end_of_node, end_view}
-use Rattle.node_laws.proofs.Words.{eq-eqb, eqb, eqb-true, false, far_end, far_end_of, finds_room, flat_map, forgets, forgotten, forgotten_hold}
-use Rattle.node_laws.proofs.Words.{goes_through_ends, handles, has, has_come, have_turns, holds_back, host_deeds, host_holds, hosts_of_ends, hosts_where}
-use Rattle.node_laws.proofs.Words.{init_agreed, init_deeds, inl, input_at, inr, is_allowed, is_command, is_forgotten, is_held, is_host, is_kept, is_kept_sync}
-use Rattle.node_laws.proofs.Words.{is_late, is_none, is_open, is_over, is_some, lack, le-leb, learned, learned_holds, leb, lets_go, link_deeds}
-use Rattle.node_laws.proofs.Words.{link_served, list_any, lt-ltb, ltb, map, needs, not, not-false, noting, option_and_then, option_map_or, ordered_deeds}
-use Rattle.node_laws.proofs.Words.{ordered_holds, orders_of, out_ticked, own_side, own_view, param_in, passes, pid_of, pipe_at, port_at, refl}
-use Rattle.node_laws.proofs.Words.{report, reset_late, slice_get, steps, subst, suc, sym, synced, tests_of_pipe, tests_to_delete, tests_to_set_it, times_out}
-use Rattle.node_laws.proofs.Words.{told, told_at, told_late, true, true≢false, turn_at, unless_cut, value_in, view_for, view_of, whole_acked, with_desk}
-use Rattle.node_laws.proofs.Words.{with_older, without_notice, zero, ℕ, ◌&&◌, ◌++◌, ◌+◌, ◌<◌, ◌||◌, ◌∙◌, ◌∷◌, ◌≡◌, ◌≤◌, ◌⊎◌}
+use Rattle.node_laws.proofs.Words.{MayWait, Memory, Message, NodeInput, None, Notice, Option, Phase, PipeRow, Port, Release, Releases, Reset, Role, Sends, Some}
+use Rattle.node_laws.proofs.Words.{State, StillRuns, Sync, Tells, TimePasses, WaitsAt, WaitsFor, Work, [], accepts, act_out, after_input, after_sessions}
+use Rattle.node_laws.proofs.Words.{agreed, all_append, all_come, all_done, all_false, all_owed, all_owed_hold, and_from, answer_of, ap, append-nil, apply}
+use Rattle.node_laws.proofs.Words.{arith, asked_at, body_in, by_option, by_test, cases_Bool, commit_deeds, cond, cond_both, controller_deeds, controller_holds}
+use Rattle.node_laws.proofs.Words.{creation_in, decided, decided_holds, decision_deeds, deeds_of, end_of_node, end_view, eq-eqb, eqb, eqb-true, false, far_end}
+use Rattle.node_laws.proofs.Words.{far_end_of, finds_room, flat_map, forgets, forgotten, forgotten_hold, goes_through_ends, handles, has, has_come, have_turns}
+use Rattle.node_laws.proofs.Words.{holds_back, host_deeds, host_holds, hosts_of_ends, hosts_where, init_agreed, init_deeds, inl, input_at, inr, is_allowed}
+use Rattle.node_laws.proofs.Words.{is_command, is_forgotten, is_held, is_host, is_kept, is_kept_sync, is_late, is_none, is_open, is_over, is_some, lack, le-leb}
+use Rattle.node_laws.proofs.Words.{learned, learned_holds, leb, lets_go, link_deeds, link_served, list_any, lt-ltb, ltb, map, needs, not, not-false, noting}
+use Rattle.node_laws.proofs.Words.{option_and_then, option_map_or, ordered_deeds, ordered_holds, orders_of, out_ticked, own_side, own_view, param_in, passes}
+use Rattle.node_laws.proofs.Words.{pid_of, pipe_at, port_at, refl, report, reset_late, slice_get, steps, subst, suc, sym, synced, tests_of_pipe}
+use Rattle.node_laws.proofs.Words.{tests_to_delete, tests_to_set_it, times_out, told, told_at, told_late, true, true≢false, turn_at, unless_cut, value_in}
+use Rattle.node_laws.proofs.Words.{view_for, view_of, whole_acked, with_desk, with_older, without_notice, zero, ℕ, ◌&&◌, ◌++◌, ◌+◌, ◌<◌, ◌∙◌, ◌∷◌, ◌≡◌, ◌≤◌}
+use Rattle.node_laws.proofs.Words.{◌⊎◌}
 use Rattle.gate_admin.proofs.CreationLemmas.{AllFalse, creation-recordable}
 use Rattle.gate_answers.specs.Answers.{is_read_only, is_unknown_access}
 use Rattle.registry.specs.Access.{access_of}
@@ -48,9 +48,6 @@ pipe_known t h pipe are some =
 host_is : (h : ℕ) → h ≤ 7 → is_host h ≡ true
 host_is h most = le-leb h 7 most
 
-may_open : (h pipe : ℕ) (opened : Bool) → h ≤ 7 → pipe < 112 → IsCommand (SetOpened h pipe opened)
-may_open h pipe opened most small = and_from (is_host h) (ltb pipe 112) (host_is h most) (lt-ltb pipe 112 small)
-
 kept_param : (h p : ℕ) → 1 ≤ h → h ≤ 7 → is_unknown_access (access_of 0 p) ≡ false → is_read_only (access_of 0 p) ≡ false → IsTrue (is_kept h 0 p)
 kept_param h p some most known writable = grind arith
 
@@ -61,8 +58,8 @@ decided_recordable t v h pipe instruction body are some most =
     decided_holds IsRecordableDecision t v h pipe body instruction (λ r value. refl) (λ tested.
     let small : pipe < 112 = pipe_known t h pipe are (all_false (tests_of_pipe t h pipe instruction) tested).0 in
     record {
-      opens = may_open h pipe true most small;
-      closes = may_open h pipe false most small;
+      opens = (and_from (is_host h) (ltb pipe 112) (host_is h most) (lt-ltb pipe 112 small));
+      closes = (and_from (is_host h) (ltb pipe 112) (host_is h most) (lt-ltb pipe 112 small));
       sets = λ passed.
           let none = all_false (tests_to_set_it v h body) passed in
           and_from (is_kept h 0 (param_in body)) (is_allowed h (param_in body) (value_in body))
@@ -157,16 +154,6 @@ behind_one : (core : Core) (first behind : List Deed) (command : Option (List �
     → MayBeDone None command init behind → MayBeDone (Some core.journal) command init behind → MayBeDone (Some core.journal) command init (first ++ behind)
 behind_one core first behind command init a none some = grind arith
 
--- an init that goes on
-agreed_on : (core : Core) (i : Init) (s : Option State) (value order : List ℕ) → slice_get (orders_of i) (i.answered + 1) ≡ Some order
-    → MayBeDone s None (Some i) (init_agreed (own_view core) i value)
-agreed_on core i s value order next = grind arith
-
--- one that ends
-agreed_last : (core : Core) (i : Init) (value : List ℕ) → slice_get (orders_of i) (i.answered + 1) ≡ None
-    → MayBeDone (Some core.journal) None (Some i) (init_agreed (own_view core) i value)
-agreed_last core i value none = grind arith
-
 -- behind the last command of an init nothing else is learned
 last_learned : (core : Core) (i : Init) (order value : List ℕ) → slice_get (orders_of i) i.answered ≡ Some order
     → slice_get (orders_of i) (i.answered + 1) ≡ None
@@ -188,10 +175,10 @@ answered_may core code value order (Some i) on = by_test (eqb code 0)
           → MayBeDone (Some core.journal) None (Some i) (learned (own_view core) order value ++ init_agreed (own_view core) i value)
       by_next (Some next) is =
           behind_one core (learned (own_view core) order value) (init_agreed (own_view core) i value) None (Some i) (learned_one core order value)
-          (agreed_on core i None value next is) (agreed_on core i (Some core.journal) value next is)
+          (grind arith) (grind arith)
       by_next None is =
           subst (λ l. MayBeDone (Some core.journal) None (Some i) (l ++ init_agreed (own_view core) i value)) (sym (last_learned core i order value on is))
-          (agreed_last core i value is)
+          (grind arith)
 
 module _ (core : Core) (on : IsOnOrder core.command core.init) (sorted : AreTables core.tables) (most : core.node ≤ 7) where
   abbrev FineOfHostsReply : List Deed → Type 0
@@ -248,9 +235,7 @@ module _ (n : ℕ) (hosts : List ℕ) (old : Memory) (before : List Entry) where
           small = omega (arith, r.number, seven n node)
 
     pub deeds_fit : (w : Work) (h : ℕ) (m : Message) → Runs w → n ≡ 0 → AllByRecursion (IsAllowedStill w.core.tables w.ports) (deeds_of w.core w.ports h m)
-    deeds_fit w h m r z =
-        let zero_is : eqb w.core.node 0 ≡ true = eq-eqb w.core.node 0 (r.number ∙ z) in
-        rw zero_is (message_allowed w.core w.ports h r.sorted (r.allowed z) m)
+    deeds_fit w h m r z = rw (eq-eqb w.core.node 0 (r.number ∙ z)) (message_allowed w.core w.ports h r.sorted (r.allowed z) m)
 
     pub handles_fine : (w : Work) (h : ℕ) (m : Message) (deeds : List Deed) → Runs w → MayBeDone (Some w.core.journal) w.core.command w.core.init deeds
         → (n ≡ 0 → AllByRecursion (IsAllowedStill w.core.tables w.ports) deeds) → FineOfTurning (handles h m deeds w)
@@ -261,8 +246,7 @@ module _ (n : ℕ) (hosts : List ℕ) (old : Memory) (before : List Entry) where
         let p : Plainly w v = plainly_then w a v (plainly_noting w (entry.Turn (end_of_node w.core h) m.0 m.1 ∷ []) (tt, tt))
         (plainly_then a b v (plainly_turn h FetchMessage a)
         (plainly_desk h (λ d. record d { holds = false }) b (λ d. refl) (λ d x. x) (λ d c e. e))) in
-        let q = runs_plainly n hosts old before w v r p in
-        all_fine n hosts old before h deeds v (Some v.core.journal) q refl may w.ports p.none_new fit
+        all_fine n hosts old before h deeds v (Some v.core.journal) (runs_plainly n hosts old before w v r p) refl may w.ports p.none_new fit
 
     pub holds_fine : (w : Work) (h : ℕ) (short : ℕ × ℕ) → Runs w → IsOnOrder w.core.command w.core.init → FineOfTurning (holds_back h short w)
     holds_fine w h short r on = by_test (option_map_or (λ (p : Port). p.desk.holds) (port_at w.ports h) false)
@@ -406,9 +390,6 @@ synced_tick core p = rw (tick_sync p.side.role) refl
 pub synced_other : (core : Core) (h : ℕ) (i : LinkInput) (p : Port) → eqb p.desk.host h ≡ false → synced core (AtEnd h i) p ≡ []
 synced_other core h i p e = rw e refl
 
-synced_here : (core : Core) (h : ℕ) (i : LinkInput) (p : Port) → IsHost p.desk.host → eqb p.desk.host h ≡ true → OneOrNone core (synced core (AtEnd h i) p)
-synced_here core h i p host e = grind arith
-
 flat_tick : (core : Core) (ports : List Port) → flat_map (synced core TimePasses) ports ≡ []
 flat_tick core [] = refl
 flat_tick core (p ∷ ports) = ap (λ l. l ++ flat_map (synced core TimePasses) ports) (synced_tick core p) ∙ flat_tick core ports
@@ -427,7 +408,7 @@ flat_one core h i (p ∷ ports) different all = by_host (cases_Bool (eqb p.desk.
   by_host (inl e) rest =
       let none = flat_other core h i ports (subst (λ x. AllByRecursion (λ k. eqb k x ≡ false) (hosts_of_ends ports)) (eqb-true p.desk.host h e) different.0) in
       subst (λ l. OneOrNone core (synced core (AtEnd h i) p ++ l)) (sym none)
-      (subst (OneOrNone core) (sym (append-nil (synced core (AtEnd h i) p))) (synced_here core h i p all.0 e))
+      (subst (OneOrNone core) (sym (append-nil (synced core (AtEnd h i) p))) (grind arith))
   by_host (inr e) rest = subst (λ l. OneOrNone core (l ++ flat_map (synced core (AtEnd h i)) ports)) (sym (synced_other core h i p e)) rest
 
 pub syncs_one : (core : Core) (input : NodeInput) (ports : List Port) → AreDifferent (hosts_of_ends ports) → AllByRecursion IsHost (hosts_of_ends ports)

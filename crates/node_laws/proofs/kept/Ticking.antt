@@ -5,14 +5,14 @@ use Rattle.node_laws.proofs.Words.{Activates, AllByRecursion, AllKeep, AreDiffer
 use Rattle.node_laws.proofs.Words.{Controller, CutBehindCommand, End, Entry, FindsCommands, FollowsNodes, Gives, Happening, HciTables, Header, Host, IfRuns}
 use Rattle.node_laws.proofs.Words.{Inits, IsCut, IsFew, IsHost, IsOf, IsSentByHost, IsTold, IsTrue, Last, Line, LineOutcome, LineStep, List, Loses, MayHappen}
 use Rattle.node_laws.proofs.Words.{NextFrame, NoCause, NodeHistory, NodeKeeps, NodeWorld, None, NothingYet, Occurrence, Option, Resets, Running, Site}
-use Rattle.node_laws.proofs.Words.{SiteKeeps, Some, Takes, Ticks, TimePasses, ToldTables, Verdict, Work, [], after_planned, aged, aged_entries, all_aged}
-use Rattle.node_laws.proofs.Words.{all_happen, ap, append-nil, append_assoc, ap₂, arith, book_after, book_in, by_controller_tick, by_host_tick, by_option}
-use Rattle.node_laws.proofs.Words.{by_test, can_happen, cases_Bool, commands_in, cond, controller_ticks, entries_for, entries_in, eq-eqb, eqb, eqb-true}
-use Rattle.node_laws.proofs.Words.{exchanged, false, first_cause, first_verdict, flat_map, frames_at, frames_noted, goes_on, happenings, happens_by, host_tick}
-use Rattle.node_laws.proofs.Words.{host_ticks, hosts_tick, if_not_sent, inl, inr, is_some, last_after, last_in, length, length-append, length-take, line_step}
-use Rattle.node_laws.proofs.Words.{link_to, map, min, ne_eqb, near_tick, new_memory, new_site, new_world, node_at, node_entries, occurrences_of, refl}
-use Rattle.node_laws.proofs.Words.{refusal_in, replicate, runs_on, site_at, site_ticked, site_unticked, steps_from, subst, suc, sym, tables_in, tables_told}
-use Rattle.node_laws.proofs.Words.{taken_of, true, work_of, world_after, world_step, world_ticks, zero, ℕ, ◌++◌, ◌-◌, ◌^◌, ◌∙◌, ◌∷◌, ◌≡◌, ◌≤◌, ◌⊎◌}
+use Rattle.node_laws.proofs.Words.{SiteKeeps, Some, Takes, Ticks, TimePasses, ToldTables, Work, [], after_planned, aged, aged_entries, all_aged, all_happen, ap}
+use Rattle.node_laws.proofs.Words.{append-nil, append_assoc, ap₂, arith, book_after, book_in, by_controller_tick, by_host_tick, by_option, by_test, can_happen}
+use Rattle.node_laws.proofs.Words.{cases_Bool, commands_in, cond, controller_ticks, entries_for, entries_in, eq-eqb, eqb, eqb-true, exchanged, false}
+use Rattle.node_laws.proofs.Words.{first_cause, flat_map, frames_at, frames_noted, goes_on, happenings, host_tick, host_ticks, hosts_tick, if_not_sent, inl}
+use Rattle.node_laws.proofs.Words.{inr, is_some, last_after, last_in, length, length-append, length-take, line_step, link_to, map, min, ne_eqb, near_tick}
+use Rattle.node_laws.proofs.Words.{new_memory, new_site, new_world, node_at, node_entries, occurrences_of, refl, refusal_in, replicate, runs_on, site_at}
+use Rattle.node_laws.proofs.Words.{site_ticked, site_unticked, steps_from, subst, suc, sym, tables_in, tables_told, taken_of, true, work_of, world_after}
+use Rattle.node_laws.proofs.Words.{world_step, world_ticks, zero, ℕ, ◌++◌, ◌-◌, ◌^◌, ◌∙◌, ◌∷◌, ◌≡◌, ◌≤◌, ◌⊎◌}
 use Rattle.node_machine.specs.world.NodeLegal.{Allowed, AreAllAnswered, AreAnswered, AreFound, Kept}
 use Rattle.node_machine.specs.world.NodeLegal.Last.{OtherLast}
 use Rattle.node_laws.proofs.kept.Doing.{GoesOn_or_lost, book_more, last_more, plain_entries, plain_flat, told_append}
@@ -92,7 +92,7 @@ sites_tick (s ∷ sites) t different hosts all =
         (keeps_same s.host (s.host ∷ []) (t ++ first.1) ((t ++ first.1) ++ later.1) first.0.memory first.0.node (rest.others s.host different.0) one.keeps) in
         record {
           hosts = ap₂ (λ x l. x ∷ l) one.host rest.hosts;
-          keep = (grind arith);
+          keep = grind arith;
           told = told_append t first.1 later.1 one.told rest.told;
           others = λ n off. subst (λ l. IsSame n t l) whole
               (same_then n t (t ++ first.1) ((t ++ first.1) ++ later.1) (other_same s.host n t first.1 (eqb-false s.host n off.0) one.own)
@@ -145,9 +145,8 @@ module _ (hosts : List ℕ) (are : AreHosts hosts) where
       let near = controller_ticks old.0 in
       let b = near_ticks (t ++ old.1) old.0 a.keep in
       let far = hosts_tick near.0.sites in
-      let c = far_ticks ((t ++ old.1) ++ near.1) near.0 b.keep in
       goes_then hosts are t (record near.0 { sites = far.0 }) old.1 (near.1 ++ far.1) a.told
-      (goes_then hosts are (t ++ old.1) (record near.0 { sites = far.0 }) near.1 far.1 b.told c)
+      (goes_then hosts are (t ++ old.1) (record near.0 { sites = far.0 }) near.1 far.1 b.told (far_ticks ((t ++ old.1) ++ near.1) near.0 b.keep))
 
 -- ## What all nodes keep over the lines of a schedule
 
@@ -237,13 +236,10 @@ module _ (hosts : List ℕ) (are : AreHosts hosts) where
   ticks_may zero w = tt
   ticks_may (suc n) w = (tt, ticks_may n (world_step w Ticks).0)
 
-  damage_may : (w : NodeWorld) (e : End) (o : Option Verdict) → MayAllHappen w (happens_by e o)
-  damage_may w e o = grind arith
-
   pub line_may : (w : NodeWorld) (l : Line) → IsSentByHost l → refusal_in w l ≡ None → MayAllHappen w (happenings w l)
   line_may w (line.Send e pid message) side e2 = grind arith
   line_may w (line.Deliver e count) side none = takes_may e (taken_of count (frames_at w e)) w
-  line_may w (line.Damage e places) side none = damage_may w e (first_verdict (frames_at w e) places.items)
+  line_may w (line.Damage e places) side none = grind arith
   line_may w (line.Tick times) side none = ticks_may _ w
   line_may w (line.Busy e) side none = tt
   line_may w (line.Ready e) side none = tt
@@ -414,8 +410,7 @@ safe_one k n t (entry.AnyOk m j) safe told = grind arith
 safe_one k n t (entry.Booted m j) safe told = by_test (eqb m n)
     (λ is. let here : FindsCommands t n j = subst (λ x. FindsCommands t x j) (eqb-true m n is) told in
     let most = found_most k j n t safe here in
-    let least = found_least j n t here in
-    rw is (record { all = omega (arith, length-take j (commands_in t n), most, least); more = λ o. absurd o }))
+    rw is (record { all = omega (arith, length-take j (commands_in t n), most, found_least j n t here); more = λ o. absurd o }))
     (λ other. rw other safe)
 safe_one k n t (entry.Cut m) safe told = grind arith
 safe_one k n t _ safe told = safe
@@ -455,9 +450,7 @@ module _ (t : List Entry) (told : AreToldBehind [] t) (few : IsFew t) where
 
 right_at : (hosts : List ℕ) (are : AreHosts hosts) (before behind : List LineStep) (step : LineStep) (n : ℕ) (tables : HciTables) (t : List Entry)
     → TellRight hosts are t (before ++ step ∷ behind) → step.outcome ≡ ToldTables n tables → tables ≡ tables_in (t ++ entries_of hosts are before) n
-right_at hosts are [] behind step n tables t right is =
-    let here : TellsRight hosts are t (ToldTables n tables) = subst (TellsRight hosts are t) is right.0 in
-    here ∙ ap (λ l. tables_in l n) (sym (append-nil t))
+right_at hosts are [] behind step n tables t right is = (subst (TellsRight hosts are t) is right.0) ∙ ap (λ l. tables_in l n) (sym (append-nil t))
 right_at hosts are (s ∷ before) behind step n tables t right is =
     right_at hosts are before behind step n tables (t ++ entries_in (occurrences_of s.outcome)) right.1 is
     ∙ ap (λ l. tables_in l n) (append_assoc t (entries_in (occurrences_of s.outcome)) (entries_of hosts are before)

@@ -1,14 +1,13 @@
 -- What holds of runs of the law of one link holds of each link of a world: its blocks are shared out.
 use Rattle.node_laws.proofs.Words.{ActEvent, ActFrame, ActStart, ActStop, ActTake, Activate, AllByRecursion, ArePlayable, AreUpTogether, AtController, AtHost}
 use Rattle.node_laws.proofs.Words.{Bool, Chain, Clt, Control, EndEvent, EndState, Fetch, FetchMessage, FromNode, Give, Hold, I, IsLine, IsRun, IsRunOf}
-use Rattle.node_laws.proofs.Words.{IsSettled, Line, Link, LinkEnd, LinkEvent, LinkInput, List, Message, None, OnWire, Option, Release, Reset, Rset, S, SetAside}
-use Rattle.node_laws.proofs.Words.{Site, Some, Start, Starts, Step, Stop, Take, TakeBroken, TakeUnknown, Tick, TicksWithout, Turn, Ua, Up, [], activated}
-use Rattle.node_laws.proofs.Words.{after_input, after_link_events, aged, all_at_controller, all_so, arith, by_option, by_test, cond, drop, ended_by, exchanged}
-use Rattle.node_laws.proofs.Words.{false, frame_fetched, give_refusal, given, had_tick, happens, happens_at_controller, heard, in_use, is_faulty, is_open}
-use Rattle.node_laws.proofs.Words.{is_some, length, most_frames, moved, nat_le, need, need_of_all, new_line, new_link_end, new_world, number_of, one_number}
-use Rattle.node_laws.proofs.Words.{packet_count, put_down, refl, renewed, sent_all, spare, steps_at_controller, stopped, subst, sure_of, sym, take_answer}
-use Rattle.node_laws.proofs.Words.{taken, talk_now, talk_of, tick_host, ticks_at_controller, took, true, turn, turned, whole_among, world_after, ℕ, ◌++◌, ◌+◌}
-use Rattle.node_laws.proofs.Words.{◌-◌, ◌∙◌, ◌∷◌, ◌≡◌, ◌≤◌}
+use Rattle.node_laws.proofs.Words.{IsSettled, Line, Link, LinkEnd, LinkEvent, LinkInput, List, Message, None, OnWire, Release, Reset, Rset, S, SetAside, Site}
+use Rattle.node_laws.proofs.Words.{Some, Start, Starts, Step, Stop, Take, TakeBroken, TakeUnknown, Tick, TicksWithout, Turn, Ua, Up, [], activated, after_input}
+use Rattle.node_laws.proofs.Words.{after_link_events, aged, all_at_controller, all_so, arith, by_option, by_test, cond, drop, ended_by, exchanged, false}
+use Rattle.node_laws.proofs.Words.{give_refusal, given, happens, happens_at_controller, heard, in_use, is_faulty, is_open, is_some, length, most_frames, moved}
+use Rattle.node_laws.proofs.Words.{nat_le, need, need_of_all, new_line, new_link_end, new_world, number_of, one_number, packet_count, put_down, refl, renewed}
+use Rattle.node_laws.proofs.Words.{sent_all, spare, steps_at_controller, stopped, subst, sure_of, sym, take_answer, taken, talk_now, talk_of, tick_host}
+use Rattle.node_laws.proofs.Words.{ticks_at_controller, took, true, turn, turned, whole_among, world_after, ℕ, ◌++◌, ◌+◌, ◌-◌, ◌∙◌, ◌∷◌, ◌≡◌, ◌≤◌}
 use Rattle.link_laws.proofs.entries.Stepping.{fetched_acked as frames_acked}
 use Rattle.link_laws.proofs.machine.Reports.{moved_sent as sent_moved, shdlc_is as moved_shdlc}
 use Rattle.link_laws.proofs.machine.Sound.{IsNotUp, SentAfter, Shift, need_less, need_more, taken_shift, whole_few, whole_more}
@@ -98,8 +97,7 @@ delivers_to_controller l events r =
     subst P r.is (all_there new_line IsLine events r.allowed)
 
 pub settles : (l : Link) → Settles l
-settles l events r =
-    subst (λ (k : Link). IsSettled k (sure_of new_line events) → AreUpTogether k) r.is (up_together new_line IsLine events r.allowed)
+settles l events r = subst (λ (k : Link). IsSettled k (sure_of new_line events) → AreUpTogether k) r.is (up_together new_line IsLine events r.allowed)
 
 pub delivered_to_host : (hosts : List ℕ) (lines : List Line) → ArePlayable lines
     → AllByRecursion (λ (s : Site). DeliversToHost s.link) (world_after (new_world hosts) lines).sites
@@ -131,10 +129,6 @@ pub record IsWithin (e : LinkEnd) : Type 0 where
   pub room : in_use e + e.aside ≤ 128
   pub forgot : IsNotUp e.shdlc → e.sent ≡ []
 
--- no message, no blocks
-empty_within : (e f : LinkEnd) → f.sent ≡ [] → f.aside ≡ e.aside → IsWithin e → IsWithin f
-empty_within e f sent aside a = grind arith
-
 -- an end becomes one with its messages, of which no fewer are acknowledged
 grown_within : (e f : LinkEnd) → f.sent ≡ e.sent → e.shdlc.session.acked ≤ f.shdlc.session.acked → f.aside ≡ e.aside → (IsNotUp f.shdlc → e.sent ≡ [])
     → IsWithin e → IsWithin f
@@ -150,11 +144,7 @@ same_within : (e f : LinkEnd) → f.sent ≡ e.sent → f.shdlc.session.acked �
 same_within e f sent acked phase aside a = grind arith
 
 shifted_within : (e f : LinkEnd) (ended began : Bool) → Shift e.shdlc f.shdlc ended began → SentAfter ended e f → f.aside ≡ e.aside → IsWithin e → IsWithin f
-shifted_within e f ended began (Stays p q g) sent aside a =
-    grown_within e f (by ended p sent) g.low aside (λ no. absurd (no g.is)) a
-  where
-    by : (b : Bool) → b ≡ false → SentAfter b e f → f.sent ≡ e.sent
-    by b z s = grind arith
+shifted_within e f ended began (Stays p q g) sent aside a = grown_within e f (grind arith) g.low aside (λ no. absurd (no g.is)) a
 shifted_within e f ended began (Ends p q up down s) sent aside a = grind arith
 shifted_within e f ended began (Renews p q up n) sent aside a = grind arith
 shifted_within e f ended began (Begins p q down n) sent aside a = grind arith
@@ -191,9 +181,6 @@ turns_within e (t ∷ ts) a = turns_within (turn e t) ts (turn_within e t a)
 pub sent_within : (e : LinkEnd) → IsWithin e → IsWithin (sent_all e)
 sent_within e a = same_within e (sent_all e) refl (frames_acked most_frames e.shdlc) (after_frames-phase most_frames e.shdlc) refl a
 
-fetch_within : (e : LinkEnd) → IsWithin e → IsWithin (frame_fetched e)
-fetch_within e a = grind arith
-
 -- ### Inputs
 
 pub moved_aside : (e : LinkEnd) (b : Bool) (s : EndState) → (moved e b s).aside ≡ e.aside
@@ -203,19 +190,13 @@ moved_within : (e : LinkEnd) (b began : Bool) (s : EndState) → Shift e.shdlc s
 moved_within e b began s shift a =
     shifted_within e (moved e b s) b began (subst (λ z. Shift e.shdlc z b began) (sym (moved_shdlc e b s)) shift) (sent_moved e b s) (moved_aside e b s) a
 
-ended_within : (e : LinkEnd) (s : EndState) → IsWithin e → IsWithin (moved e true s)
-ended_within e s a = empty_within e (moved e true s) refl refl a
-
-down_within : (e : LinkEnd) (b : Bool) → IsWithin e → IsWithin (put_down b e)
-down_within e b a = grind arith
-
 activated_within : (e : LinkEnd) (event : ActEvent) → IsWithin e → IsWithin (activated e event)
 activated_within e event a = grind arith
 
 heard_within : (e : LinkEnd) (c : Control) (b : Bool) → IsWithin e → IsWithin (cond b (heard e c) e)
 heard_within e c false a = a
 heard_within e c true a = by_test (is_faulty (taken e.shdlc c).session)
-    (λ q. let is : heard e c ≡ put_down true e = rw q refl in subst IsWithin (sym is) (down_within e true a))
+    (λ q. let is : heard e c ≡ put_down true e = rw q refl in subst IsWithin (sym is) (grind arith))
     (λ q. let ended : Bool = is_some (take_answer e.shdlc c).ended in
     let f : LinkEnd = moved e ended (taken e.shdlc c) in
     let b : IsWithin f = moved_within e ended (take_answer e.shdlc c).began (taken e.shdlc c) (taken_shift e.shdlc c) a in
@@ -229,22 +210,16 @@ took_within e (S kind nr) a = heard_within e (S kind nr) (is_open e.role) a
 took_within e (Rset w caps) a = heard_within e (Rset w caps) (is_open e.role) a
 took_within e Ua a = heard_within e Ua (is_open e.role) a
 
-tick_within : (e : LinkEnd) → IsWithin e → IsWithin (had_tick e)
-tick_within e a = grind arith
-
-reset_within : (e : LinkEnd) (window : Option ℕ) → IsWithin e → IsWithin (after_input e (Reset window))
-reset_within e window a = grind arith
-
 pub input_within : (e : LinkEnd) (i : LinkInput) → IsWithin e → IsWithin (after_input e i)
 input_within e (Take c) a = took_within e c a
 input_within e TakeUnknown a = same_within e (after_input e TakeUnknown) refl refl refl refl a
 input_within e (TakeBroken fault) a = a
-input_within e Tick a = tick_within e a
-input_within e (Reset window) a = reset_within e window a
-input_within e (Start value) a = activated_within (moved e true (stopped e.shdlc)) (ActStart value) (ended_within e (stopped e.shdlc) a)
-input_within e Stop a = activated_within (moved e true (stopped e.shdlc)) ActStop (ended_within e (stopped e.shdlc) a)
+input_within e Tick a = grind arith
+input_within e (Reset window) a = grind arith
+input_within e (Start value) a = activated_within (moved e true (stopped e.shdlc)) (ActStart value) (grind arith)
+input_within e Stop a = activated_within (moved e true (stopped e.shdlc)) ActStop (grind arith)
 input_within e (FromNode t) a = turn_within e t a
-input_within e Fetch a = fetch_within e a
+input_within e Fetch a = grind arith
 
 new_within : (e : LinkEnd) → IsWithin e → IsWithin (new_link_end (renewed e.role))
 new_within e a = grind arith
@@ -290,30 +265,23 @@ event_within l (TicksWithout events h) a =
     over (ticks_at_controller (exchanged near) h.turns h.ending) (ticks_within (exchanged near) h.turns h.ending (over near b))
 event_within l (Activate power c id h) a =
     let near : Link = steps_at_controller l (Starts power) c.turns c.ending in
-    let b : AreWithin near = here_within l (Step (Starts power) c.turns c.ending) a in
     over (steps_at_controller (exchanged near) (Starts id) h.turns h.ending)
-    (here_within (exchanged near) (Step (Starts id) h.turns h.ending) (over near b))
+    (here_within (exchanged near) (Step (Starts id) h.turns h.ending) (over near (here_within l (Step (Starts power) c.turns c.ending) a)))
 
 after_within : (l : Link) (events : List LinkEvent) → AreWithin l → AreWithin (after_link_events l events)
 after_within l [] a = a
 after_within l (e ∷ events) a = after_within (happens l e) events (event_within l e a)
 
-new_line_within : AreWithin new_line
-new_line_within = record { near = record { room = omega arith; forgot = λ no. refl }; far = record { room = omega arith; forgot = λ no. refl } }
-
 -- ### Worlds
-
-shares : (e : LinkEnd) → IsWithin e → SharesOut e
-shares e a = omega (arith, a.room)
 
 pub near_shares : (hosts : List ℕ) (lines : List Line) → ArePlayable lines
     → AllByRecursion (λ (s : Site). SharesOut s.link.controller.side) (world_after (new_world hosts) lines).sites
 near_shares = obey (λ l. SharesOut l.controller.side)
     (λ l r. subst (λ (k : Link). SharesOut k.controller.side) r.run.is
-    (shares (after_link_events new_line r.events).controller.side (after_within new_line r.events new_line_within).near))
+    (omega (arith, (after_within new_line r.events (grind arith)).near.room)))
 
 pub far_shares : (hosts : List ℕ) (lines : List Line) → ArePlayable lines
     → AllByRecursion (λ (s : Site). SharesOut s.link.host.side) (world_after (new_world hosts) lines).sites
 far_shares = obey (λ l. SharesOut l.host.side)
     (λ l r. subst (λ (k : Link). SharesOut k.host.side) r.run.is
-    (shares (after_link_events new_line r.events).host.side (after_within new_line r.events new_line_within).far))
+    (omega (arith, (after_within new_line r.events (grind arith)).far.room)))

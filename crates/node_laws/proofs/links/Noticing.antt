@@ -10,7 +10,7 @@ use Rattle.node_laws.proofs.Words.{eqb-true, false, far_end_of, filter, flat_map
 use Rattle.node_laws.proofs.Words.{is_connected, is_connected_at, is_faulty, is_over, is_some, is_up, map, mask_of, notified, noting, option_and_then}
 use Rattle.node_laws.proofs.Words.{option_map, option_map_or, param_in, pipe_at, port_at, refl, reset_late, shares, steps, subst, suc, sym, synced, take_answer}
 use Rattle.node_laws.proofs.Words.{taken, times_out, told_of_clearing, true, true≢false, turn, turn_at, view_for, view_of, with_desk, with_older, with_port}
-use Rattle.node_laws.proofs.Words.{without_notice, zero, ℕ, ◌%◌, ◌/◌, ◌==◌, ◌||◌, ◌∙◌, ◌∷◌, ◌≡◌, ◌≤◌}
+use Rattle.node_laws.proofs.Words.{without_notice, zero, ℕ, ◌%◌, ◌/◌, ◌==◌, ◌∙◌, ◌∷◌, ◌≡◌, ◌≤◌}
 use Rattle.gate_admin.specs.View.{hosts_where}
 use Rattle.link_laws.proofs.machine.Sound.{Shift}
 use Rattle.node_laws.proofs.steps.StepWalks.{Lasts, bit_most, bit_none, changed_host, come_host, digits, forgets_host, late_host, rest_lasts, without_host}
@@ -245,8 +245,7 @@ module _ (U : ℕ → Bool) where
 
   turns : (k : ℕ) (t : Turn) (w : Work) → Sure w → Sure (turn_at k t w)
   turns k t w a =
-      let v : Work = record w { ports = with_port k (after_turn t) w.ports } in
-      beside v (turn_at k t w) refl refl
+      beside (record w { ports = with_port k (after_turn t) w.ports }) (turn_at k t w) refl refl
       (changes k (after_turn t) w (λ q. refl) (λ q. turn-phase q.side t) (λ p found b n. ap is_up (turn-phase p.side t) ∙ b n) a)
 
   desk : (k : ℕ) (f : Desk → Desk) (w : Work) → ((d : Desk) → (f d).host ≡ d.host)
@@ -294,10 +293,7 @@ module _ (U : ℕ → Bool) where
 
   goes_of : (w : Work) → Sure w → (deeds : List Deed) → AllReach w.ports deeds → AllGo deeds
   goes_of w a [] r = tt
-  goes_of w a (d ∷ deeds) r = (one d r.0, goes_of w a deeds r.1)
-    where
-      one : (d : Deed) → Reaches w.ports d → Goes d
-      one d q = grind arith
+  goes_of w a (d ∷ deeds) r = (grind arith, goes_of w a deeds r.1)
 
   deeds_go : (k : ℕ) (m : Message) (w : Work) → Sure w → AllGo (deeds_of w.core w.ports k m)
   deeds_go k m w a = by_test (w.core.node == 0)
@@ -324,17 +320,11 @@ IsOk p = is_some p.desk.notice ≡ true → is_over p ≡ false → p.side.shdlc
 
 first_map : (P Q : Port → Type 0) (g : Port → Port) (ports : List Port) (x : ℕ) → ((q : Port) → (g q).desk.host ≡ q.desk.host)
     → ((p : Port) → P p → Q (g p)) → OnFirst P (port_at ports x) → OnFirst Q (port_at (map g ports) x)
-first_map P Q g ports x host one a = subst (OnFirst Q) (sym (at_all ports x g host)) (go (port_at ports x) a)
-  where
-    go : (o : Option Port) → OnFirst P o → OnFirst Q (option_map g o)
-    go o b = grind arith
+first_map P Q g ports x host one a = subst (OnFirst Q) (sym (at_all ports x g host)) (grind arith)
 
 come_ok : (p : Port) (o : Option LinkInput) → ((i : LinkInput) → o ≡ Some i → IsComing i) → IsBegun p → IsOk (has_come p o)
 come_ok p None k b n over = b.up n
-come_ok p (Some i) k b n over = stays_up p.side i (k i refl) (b.up n) (go (is_some (ended_by p.side i)) refl)
-  where
-    go : (c : Bool) → is_some (ended_by p.side i) ≡ c → is_some (ended_by p.side i) ≡ false
-    go c q = grind arith
+come_ok p (Some i) k b n over = stays_up p.side i (k i refl) (b.up n) (grind arith)
 
 older_ok : (p : Port) → IsOk p → IsOk (with_older p)
 older_ok p b n over = b (by_option p.desk.notice (λ q. let z : false ≡ true = rw q at n in absurd (true≢false (sym z))) (λ m q. rw q refl)) over
@@ -344,9 +334,6 @@ late_ok p b = grind arith
 
 forgets_ok : (ports : List Port) (p : Port) → IsOk p → IsOk (forgets ports p)
 forgets_ok ports p b = grind arith
-
-without_up : (p : Port) → IsOk p → UpAt (Some (without_notice p))
-without_up p b = by_test (is_over p) (λ q. rw q (λ n. absurd (true≢false (sym n)))) (λ q. rw q (λ n. ap is_up (b n q)))
 
 -- ### Steps
 
@@ -383,17 +370,16 @@ steps_sure input w k node a =
     let kept : (x : ℕ) → UpAt (port_at (map without_notice left) x) =
     λ x. first_up left x (first_map IsOk IsOk (forgets came.ports) came.ports x (forgets_host came.ports) (forgets_ok came.ports)
     (came_ok input w x k (a x))) in
-    let sure : Sure U begun = grind arith in
     rest_lasts (Sure U) (Goes U) (λ k m. Unit {0}) (sure_lasts U) (forgotten came.ports) (flat_map (synced w.core input) w.ports) (all_owed left) begun
     (forgotten_hold (Goes U) (λ asker. tt) came.ports) (all_synced_hold (Goes U) (λ host id. tt) w.core input w.ports)
-    (all_owed_hold (Goes U) (λ asker. tt) (λ to r. tt) left) sure
+    (all_owed_hold (Goes U) (λ asker. tt) (λ to r. tt) left) (grind arith)
   where
     first_up : (ports : List Port) (x : ℕ) → OnFirst IsOk (port_at ports x) → UpAt (port_at (map without_notice ports) x)
     first_up ports x b = subst UpAt (sym (at_all ports x without_notice without_host)) (go (port_at ports x) b)
       where
         go : (o : Option Port) → OnFirst IsOk o → UpAt (option_map without_notice o)
         go None c = tt
-        go (Some p) c = without_up p c
+        go (Some p) c = grind arith
 
 pub up_of : (o : Option Port) → UpAt o → OnFirst IsNoticedUp o
 up_of o a = grind arith

@@ -2,11 +2,11 @@
 use Rattle.node_laws.proofs.Words.{ActEvent, ActFrame, ActStop, ActTake, AllAllowed, AllByRecursion, AreSendable, AreSendableTurns, AsksReset, AtController}
 use Rattle.node_laws.proofs.Words.{AtHost, Bool, CanCome, CanEnd, Clt, Comes, Control, EndEvent, Ending, Fetch, FromNode, I, IsClf, IsEvent, IsRun, IsRunOf}
 use Rattle.node_laws.proofs.Words.{IsUicc, IsWindow, Link, LinkEnd, LinkEvent, LinkInput, List, Lose, Loss, Message, NextFrame, NoInput, Node, None}
-use Rattle.node_laws.proofs.Words.{NumberedEnd, Option, Reset, Role, Rset, S, Session, Start, Starts, Step, Stop, Stops, Take, TakeBroken, TakeUnknown, Tick}
+use Rattle.node_laws.proofs.Words.{NumberedEnd, Reset, Role, Rset, S, Session, Start, Starts, Step, Stop, Stops, Take, TakeBroken, TakeUnknown, Tick}
 use Rattle.node_laws.proofs.Words.{TicksWithout, Turn, Ua, [], activated, activated_got, after_input, after_link_events, aged, all_append, ap, arith, by_list}
-use Rattle.node_laws.proofs.Words.{by_test, cond, deactivated, drop, ended_by, exchanged, false, finished, good_of, had_tick, happens, happens_at_controller}
-use Rattle.node_laws.proofs.Words.{has_input, has_taken, heard, host_ended, host_finished, is_faulty, is_good, is_open, is_some, is_up, is_waiting, length}
-use Rattle.node_laws.proofs.Words.{ltb-true, moved, moved_got, nat_lt, new_line, new_link_end, not, put_down, refl, renewed, role_after, sent_all, silent}
+use Rattle.node_laws.proofs.Words.{by_test, cond, deactivated, drop, ended_by, exchanged, false, finished, good_of, happens, happens_at_controller, has_input}
+use Rattle.node_laws.proofs.Words.{has_taken, heard, host_ended, host_finished, is_faulty, is_good, is_open, is_some, is_up, is_waiting, length, ltb-true}
+use Rattle.node_laws.proofs.Words.{moved, moved_got, nat_lt, new_line, new_link_end, not, put_down, refl, renewed, role_after, sent_all, silent}
 use Rattle.node_laws.proofs.Words.{steps_at_controller, stopped, subst, suc, sym, taken, tick_host, ticked_so, ticks_at_controller, took, true, turn, turned}
 use Rattle.node_laws.proofs.Words.{turned_role, with_ended, zero, ℕ, ◌%◌, ◌&&◌, ◌++◌, ◌<◌, ◌∙◌, ◌∷◌, ◌≡◌}
 use Rattle.hcp_chain.specs.Joining.{given_by, join_step, message_in}
@@ -43,21 +43,15 @@ have_pipes [] = tt
 have_pipes ([] ∷ fs) = have_pipes fs
 have_pipes ((first ∷ rest) ∷ fs) = by_test (nat_lt (first % 128) 112) (λ q. rw q (ltb-true (first % 128) 112 q, have_pipes fs)) (λ q. rw q (have_pipes fs))
 
-joined_pipe : (begun : List Message) (p : Packet) → p.pipe < 112 → OnPipes (message_in (join_step begun p).0)
-joined_pipe begun p fits = grind arith
-
 on_pipes : (begun : List Message) (ps : List Packet) → HavePipes ps → OnPipes (given_by begun ps)
 on_pipes begun [] a = tt
 on_pipes begun (p ∷ ps) a =
-    all_append (λ (m : Message). m.0 < 112) (message_in (join_step begun p).0) (given_by (join_step begun p).1 ps) (joined_pipe begun p a.0)
+    all_append (λ (m : Message). m.0 < 112) (message_in (join_step begun p).0) (given_by (join_step begun p).1 ps) (grind arith)
     (on_pipes (join_step begun p).1 ps a.1)
 
 good_sendable : (ms : List Message) → OnPipes ms → AreSendable (good_of ms)
 good_sendable [] a = tt
-good_sendable (m ∷ ms) a = by_test (is_good m.1) (λ q. rw q ((a.0, long m.1 q), good_sendable ms a.1)) (λ q. rw q (good_sendable ms a.1))
-  where
-    long : (bytes : List ℕ) → is_good bytes ≡ true → 0 < length bytes
-    long bytes z = grind arith
+good_sendable (m ∷ ms) a = by_test (is_good m.1) (λ q. rw q ((a.0, grind arith), good_sendable ms a.1)) (λ q. rw q (good_sendable ms a.1))
 
 got_sendable : (s : Session) → AreSendable (messages_got s)
 got_sendable s = good_sendable (given_by [] (packets_in s.acc)) (on_pipes [] (packets_in s.acc) (have_pipes s.acc))
@@ -88,12 +82,6 @@ took_clean e (S kind nr) a = open_clean e (S kind nr) (is_open e.role) a
 took_clean e (Rset w caps) a = open_clean e (Rset w caps) (is_open e.role) a
 took_clean e Ua a = open_clean e Ua (is_open e.role) a
 
-tick_clean : (e : LinkEnd) → Clean e → Clean (had_tick e)
-tick_clean e a = grind arith
-
-reset_clean : (e : LinkEnd) (window : Option ℕ) → Clean e → Clean (after_input e (Reset window))
-reset_clean e window a = grind arith
-
 turn_clean : (e : LinkEnd) (t : Turn) → Clean e → Clean (turn e t)
 turn_clean e t a = grind arith
 
@@ -108,8 +96,8 @@ pub input_clean : (e : LinkEnd) (i : LinkInput) → Clean e → Clean (after_inp
 input_clean e (Take c) a = took_clean e c a
 input_clean e TakeUnknown a = a
 input_clean e (TakeBroken fault) a = a
-input_clean e Tick a = tick_clean e a
-input_clean e (Reset window) a = reset_clean e window a
+input_clean e Tick a = grind arith
+input_clean e (Reset window) a = grind arith
 input_clean e (Start value) a = grind arith
 input_clean e Stop a = got_same e (deactivated e) (activated_got (moved e true (stopped e.shdlc)) ActStop ∙ moved_got e true (stopped e.shdlc)) a
 input_clean e (FromNode t) a = turn_clean e t a
@@ -124,9 +112,6 @@ module _ (P : LinkEnd → Type 0)
     (turns : (e : LinkEnd) (ts : List Turn) → P e → P (turned e ts))
     (sends : (e : LinkEnd) → P e → P (sent_all e))
     (renews : (e : LinkEnd) → P e → P (new_link_end (renewed e.role))) where
-  finished_is : (l : Link) (e : LinkEnd) (ending : Ending) → P e → P (finished l e ending).controller.side
-  finished_is l e ending a = grind arith
-
   input_is : (l : Link) (i : LinkInput) (ts : List Turn) (ending : Ending) → P l.controller.side
       → (m : Link) → P (finished m (turned (after_input l.controller.side i) ts) ending).controller.side
   input_is l i ts ending a m = grind arith
@@ -139,7 +124,7 @@ module _ (P : LinkEnd → Type 0)
   step_is l (AsksReset window) ts ending a = input_is l (Reset window) ts ending a (with_ended l (is_some (ended_by l.controller.side (Reset window))))
   step_is l (Starts value) ts ending a = input_is l (Start value) ts ending a (silent l (after_input l.controller.side (Start value)))
   step_is l Stops ts ending a = input_is l Stop ts ending a (silent l (after_input l.controller.side Stop))
-  step_is l NoInput ts ending a = finished_is l (turned l.controller.side ts) ending (turns l.controller.side ts a)
+  step_is l NoInput ts ending a = grind arith
 
   pub here_is : (l : Link) (x : EndEvent) → P l.controller.side → P (happens_at_controller l x).controller.side
   here_is l (Step comes ts ending) a = step_is l comes ts ending a
@@ -149,9 +134,6 @@ module _ (P : LinkEnd → Type 0)
   tick_is l ts ending a = input_is l Tick ts ending a (with_ended l (is_some (ended_by l.controller.side Tick)))
 
 -- ### The other end stays
-
-silent_host : (l : Link) (e : LinkEnd) → (silent l e).host ≡ l.host
-silent_host l e = host_ended l (is_up l.controller.side.shdlc.phase)
 
 step_host : (l : Link) (comes : Comes) (ts : List Turn) (ending : Ending) → (steps_at_controller l comes ts ending).host ≡ l.host
 step_host l NextFrame ts ending = by_list l.to_controller
@@ -165,10 +147,10 @@ step_host l (AsksReset window) ts ending =
     host_finished (with_ended l b) (turned (after_input l.controller.side (Reset window)) ts) ending ∙ host_ended l b
 step_host l (Starts value) ts ending =
     host_finished (silent l (after_input l.controller.side (Start value))) (turned (after_input l.controller.side (Start value)) ts) ending
-    ∙ silent_host l (after_input l.controller.side (Start value))
+    ∙ (host_ended l (is_up l.controller.side.shdlc.phase))
 step_host l Stops ts ending =
     host_finished (silent l (after_input l.controller.side Stop)) (turned (after_input l.controller.side Stop) ts) ending
-    ∙ silent_host l (after_input l.controller.side Stop)
+    ∙ (host_ended l (is_up l.controller.side.shdlc.phase))
 step_host l NoInput ts ending = host_finished l (turned l.controller.side ts) ending
 
 pub here_host : (l : Link) (x : EndEvent) → (happens_at_controller l x).host ≡ l.host
@@ -266,9 +248,6 @@ pub record IsLine (l : Link) : Type 0 where
 pub record IsFineLink (l : Link) : Type 0 where
   pub run : IsRun l
   pub line : IsLine l
-
-pub new_fine : IsFineLink new_line
-new_fine = grind arith
 
 pub clf_line : (r : Role) → IsClf r → IfLine r
 clf_line r a = grind arith
@@ -368,14 +347,14 @@ line_aged l a = record { clf = a.clf; uicc = a.uicc; near = a.near; far = a.far 
 pub tick_allowed : (l : Link) (c h : Node) → AreNodes c h → IsLine l → IsEvent l (Ticks c [] h)
 tick_allowed l c h send a =
     let m : Link = ticks_at_controller (aged l) c.turns c.ending in
-    let b : IsLine m = line_tick (aged l) c.turns c.ending (line_aged l a) in (grind arith)
+    let b : IsLine m = line_tick (aged l) c.turns c.ending (line_aged l a) in grind arith
 
 pub reset_allowed : (l : Link) (c h : Node) → AreNodes c h → IsLine l → is_waiting l.controller.side.shdlc ≡ false
     → IsEvent l (TicksWithout (Step (AsksReset None) c.turns c.ending ∷ []) h)
 reset_allowed l c h send a q =
     let reset : EndEvent = Step (AsksReset None) c.turns c.ending in
     let m : Link = happens_at_controller (aged l) reset in
-    let b : IsLine m = line_here (aged l) reset (line_aged l a) in (grind arith)
+    let b : IsLine m = line_here (aged l) reset (line_aged l a) in grind arith
 
 pub ticks_fine : (l : Link) (late : Bool) (c h : Node) → AreNodes c h → IsFineLink l → IsFineLink (ticked_of_sites l late c h)
 ticks_fine l late c h send a = go late (is_waiting l.controller.side.shdlc) refl

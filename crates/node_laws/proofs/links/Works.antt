@@ -4,13 +4,12 @@ use Rattle.node_laws.proofs.Words.{Commit, Commits, Core, Creation, Decision, De
 use Rattle.node_laws.proofs.Words.{IsSendable, LinkInput, LinkView, List, Message, NodeInput, None, OfHost, Option, Orders, Port, Release, Releases, Removed}
 use Rattle.node_laws.proofs.Words.{Reset, Response, Sends, SetAside, SetsErrors, Some, Tells, TimePasses, Turn, Waits, Work, [], after_sessions, after_turn}
 use Rattle.node_laws.proofs.Words.{agreed, all_changed, all_come, all_done, all_map, all_owed, all_owed_hold, all_synced_hold, answer_of, answers_on, arith}
-use Rattle.node_laws.proofs.Words.{body_in, body_of, by_option, by_test, commit, commit_deeds, commit_writes, commits_and_tells, controller_deeds}
-use Rattle.node_laws.proofs.Words.{controller_holds, creation_in, decided, decided_holds, decision_deeds, deeds_of, done, end_view, ends_of, fails_within}
-use Rattle.node_laws.proofs.Words.{finds_room, flat_map, forgets, forgotten, forgotten_hold, gates, handles, has, has_come, holds_back, host_deeds, host_holds}
-use Rattle.node_laws.proofs.Words.{hosts_where, identity_served, input_at, is_late, is_over, length, lets_go, link_deeds, link_served, map, mask_of, new_row}
-use Rattle.node_laws.proofs.Words.{notified, noting, option_map_or, ordered_deeds, ordered_holds, orders_hold, orders_of, others_opened, own_view, param_in}
-use Rattle.node_laws.proofs.Words.{port_at, reset_late, steps, subst, synced, times_out, told_of_clearing, told_of_deletion, turn_at, view_for, view_of}
-use Rattle.node_laws.proofs.Words.{with_desk, with_older, with_port, without_notice, ℕ, ◌++◌, ◌<◌, ◌==◌, ◌∷◌, ◌≡◌}
+use Rattle.node_laws.proofs.Words.{body_in, by_option, by_test, commit_deeds, commits_and_tells, controller_deeds, controller_holds, creation_in, decided}
+use Rattle.node_laws.proofs.Words.{decided_holds, decision_deeds, deeds_of, done, end_view, ends_of, finds_room, flat_map, forgets, forgotten, forgotten_hold}
+use Rattle.node_laws.proofs.Words.{gates, handles, has, has_come, holds_back, host_deeds, host_holds, hosts_where, identity_served, input_at, is_late, is_over}
+use Rattle.node_laws.proofs.Words.{length, lets_go, map, mask_of, new_row, notified, noting, option_map_or, ordered_holds, orders_hold, orders_of}
+use Rattle.node_laws.proofs.Words.{others_opened, own_view, param_in, port_at, reset_late, steps, subst, synced, times_out, told_of_clearing, told_of_deletion}
+use Rattle.node_laws.proofs.Words.{turn_at, view_for, view_of, with_desk, with_older, with_port, without_notice, ℕ, ◌++◌, ◌<◌, ◌==◌, ◌∷◌, ◌≡◌}
 use Rattle.node_machine.proofs.Walks.{all_heard, told_hold}
 use Rattle.node_laws.proofs.links.Sites.{Clean, input_clean, one_clean}
 use Rattle.node_laws.proofs.links.Noticing.{nobody}
@@ -57,14 +56,6 @@ decided_speaks t v host pipe n body =
       deletes = λ _. tells_speaks (Delete (param_in body)) (told_of_deletion t v host (param_in body)) (19 ∷ param_in body ∷ []) (omega arith);
       clears = λ _. tells_speaks (Clear host) (told_of_clearing t v host) (21 ∷ host ∷ []) (omega arith);
     })
-
--- ### Other gates
-
-link_spoken : (errors instruction : ℕ) (body : List ℕ) → IsSpoken (link_served errors instruction body).0
-link_spoken errors instruction body = grind arith
-
-identity_spoken : (gates : List ℕ) (instruction : ℕ) (body : List ℕ) → IsSpoken (identity_served gates instruction body)
-identity_spoken gates instruction body = grind arith
 
 -- ## What nodes send may be sent: it is on pipes that aren't reserved, and not empty
 
@@ -113,9 +104,6 @@ agreed_fine flag c a = grind arith
 abbrev AreTrue : List Port → Type 0
 AreTrue ports = AllByRecursion (λ (p : Port). IsTrueDesk p.desk) ports
 
-link_fine : (h pipe : ℕ) (answer : List ℕ × Option ℕ) → OnPipe pipe → IsSpoken answer.0 → AreFine (link_deeds h pipe answer)
-link_fine h pipe answer p a = grind arith
-
 decision_fine : (core : Core) (h pipe : ℕ) (d : Decision) → OnPipe pipe → Speaks d → AreFine (decision_deeds (own_view core) h pipe d)
 decision_fine core h pipe (Answer answer) p a = answers_fine h pipe answer.items p a
 decision_fine core h pipe (Commit c answer tell notice) p a =
@@ -131,8 +119,8 @@ controller_fine core ports h m a s =
       goes_on = λ to off. (s, tt);
       goes_back = λ n event. (s, tt);
       refuses = λ r off free. answers_fine h m.0 (answer_of r []) s.0 (omega arith);
-      names = λ n served gate. answers_fine h m.0 (identity_served gates n (body_in m.1)) s.0 (identity_spoken gates n (body_in m.1));
-      counts = λ errors n served gate. link_fine h m.0 (link_served errors n (body_in m.1)) s.0 (link_spoken errors n (body_in m.1));
+      names = λ n served gate. answers_fine h m.0 (identity_served gates n (body_in m.1)) s.0 (grind arith);
+      counts = λ errors n served gate. (grind arith);
       decides =
           λ n served gate. decision_fine core h m.0 (decided core.tables v h m.0 n (body_in m.1)) s.0 (decided_speaks core.tables v h m.0 n (body_in m.1));
       hears = λ p reply here asked. (tt, tt);
@@ -159,15 +147,12 @@ own core = record {
 
 -- ### Messages
 
-ordered_fine : (core : Core) (errors pipe n : ℕ) (body : List ℕ) → pipe < 112 → AreFine (ordered_deeds (own_view core) errors pipe n body)
-ordered_fine core errors pipe n body p = ordered_holds AreFine core errors pipe n body ((grind arith))
-
 host_fine : (core : Core) (p : Port) (m : Message) → IsSendable m → AreFine (host_deeds (own_view core) (end_view p) m)
 host_fine core p m s = host_holds AreFine core p m (record {
   none = tt;
   drops = (tt, tt);
   goes = (s, tt);
-  ordered = λ n is. ordered_fine core p.desk.errors m.0 n (body_in m.1) s.0;
+  ordered = λ n is. (ordered_holds AreFine core p.desk.errors m.0 n (body_in m.1) (grind arith));
   heard = λ code order is. all_heard IsFine core (own core) code order (body_in m.1);
 })
 
@@ -231,11 +216,8 @@ notified_fine h about message w spoken answer a =
 
 -- ### Deeds
 
-commit_fine : (c : Command) (w : Work) → IsFineWork w → IsFineWork (commit c w)
-commit_fine c w a = by_test (fails_within (length (commit_writes w.core.journal w.core.tables (body_of c))) w.plan) (λ q. rw q a) (λ q. rw q a)
-
 done_fine : (h : ℕ) (d : Deed) (w : Work) → IsFine d → IsFineWork w → IsFineWork (done h d w)
-done_fine h (Commits c) w f a = commit_fine c w a
+done_fine h (Commits c) w f a = grind arith
 done_fine h (Sends to m) w f a = turn_fine to (Give m) w (f, tt) a
 done_fine h (Asks to message c) w f a =
     notified_fine to (Waits c) message (noting (entry.Ask to message ∷ []) (turn_at c.asker SetAside w)) f.0 f.1 (turn_fine c.asker SetAside w tt a)
@@ -313,11 +295,10 @@ forgets_fine ports p a = grind arith
 pub steps_fine : (input : NodeInput) (w : Work) → IsFineWork w → IsFineWork (steps input w)
 steps_fine input w a =
     let came : Work = times_out input (all_come input w) in
-    let fine : IsFineWork came = came_fine input w a in
     let left : List Port = map (forgets came.ports) came.ports in
     let begun : Work = record came { core = after_sessions came.core came.ports; ports = map without_notice left } in
     let begun_fine : IsFineWork begun =
-    map_fine without_notice without_fine left (map_fine (forgets came.ports) (forgets_fine came.ports) came.ports fine) in
+    map_fine without_notice without_fine left (map_fine (forgets came.ports) (forgets_fine came.ports) came.ports (came_fine input w a)) in
     rest_lasts IsFineWork IsFine MaySend fine_lasts (forgotten came.ports) (flat_map (synced w.core input) w.ports) (all_owed left) begun
     (forgotten_hold IsFine (λ asker. tt) came.ports) (all_synced_hold IsFine (λ host id. tt) w.core input w.ports)
     (all_owed_hold IsFine (λ asker. tt) (λ to r. (low, omega arith)) left) begun_fine

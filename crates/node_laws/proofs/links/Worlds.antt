@@ -15,8 +15,7 @@ use Rattle.node_laws.proofs.Words.{steps, subst, suc, sym, taken_of, tick_host, 
 use Rattle.node_laws.proofs.Words.{with_node, with_site, work_of, world_after, world_step, world_ticks, zero, ℕ, ◌&&◌, ◌==◌, ◌∷◌, ◌≡◌}
 use Rattle.link_laws.proofs.messages.Runs.{IsIdleClf, can_start, started_clf}
 use Rattle.node_laws.proofs.links.Works.{AreFine, AreFinePorts, IsFineWork, IsTrueDesk, all_done_fine, fine_at, steps_fine}
-use Rattle.node_laws.proofs.links.Sites.{Clean, IsFineLink, MayCome, controller_loses, controller_steps, here_host, host_loses, host_steps, new_fine}
-use Rattle.node_laws.proofs.links.Sites.{ticks_fine}
+use Rattle.node_laws.proofs.links.Sites.{Clean, IsFineLink, MayCome, controller_loses, controller_steps, here_host, host_loses, host_steps, ticks_fine}
 use Rattle.trace_model.specs.declared.entry.NoCause.TheVariants as no
 use Rattle.trace_model.specs.declared.line.Line.TheVariants as line
 
@@ -100,8 +99,7 @@ near_end_clean l comes a = grind arith
 pub ports_fine : (near_ends : ℕ → NumberedEnd) → ((h : ℕ) → Clean (near_ends h).side) → (desks : List Desk) → AreTrueDesks desks
     → AreFinePorts (map (λ (d : Desk). port_for (near_ends d.host) d) desks)
 ports_fine near_ends clean [] a = tt
-ports_fine near_ends clean (d ∷ desks) a =
-    (record { turns = tt; clean = clean d.host; desk = a.0 }, ports_fine near_ends clean desks a.1)
+ports_fine near_ends clean (d ∷ desks) a = (record { turns = tt; clean = clean d.host; desk = a.0 }, ports_fine near_ends clean desks a.1)
 
 desks_of : (ports : List Port) → AreFinePorts ports → AreTrueDesks (map (λ (p : Port). p.desk) ports)
 desks_of [] a = tt
@@ -263,8 +261,7 @@ all_old (s ∷ sites) a = (record { base = s.link; fine = a.0.link; is = refl; n
 
 old_clean : (sites : List Site) → AllByRecursion IsOld sites → AreClean sites
 old_clean [] a = tt
-old_clean (s ∷ sites) a =
-    (subst (λ (l : Link). Clean l.controller.side) (sym a.0.is) a.0.fine.line.near, old_clean sites a.1)
+old_clean (s ∷ sites) a = (subst (λ (l : Link). Clean l.controller.side) (sym a.0.is) a.0.fine.line.near, old_clean sites a.1)
 
 -- the sites after a tick of the controller, in which its ends had these turns
 near_sites : (late : ℕ → Bool) (had : ℕ → Node) → ((h : ℕ) → AreSendableTurns (had h).turns) → (sites : List Site) → AllByRecursion IsOld sites
@@ -340,15 +337,9 @@ IsPlain (Starts value) = ⊥
 IsPlain Stops = ⊥
 IsPlain NoInput = Unit {0}
 
-plain_comes : (l : Link) (comes : Comes) → IsPlain comes → CanCome l comes
-plain_comes l comes p = grind arith
-
-plain_may : (comes : Comes) → IsPlain comes → MayCome comes
-plain_may comes p = grind arith
-
 pub plain_reach : (h : ℕ) (comes : Comes) → IsPlain comes → (sites : List Site) → AllByRecursion (AtHostOnly (CanReach comes) h) sites
 plain_reach h comes p [] = tt
-plain_reach h comes p (s ∷ sites) = ((λ q. plain_comes (exchanged s.link) comes p), plain_reach h comes p sites)
+plain_reach h comes p (s ∷ sites) = ((λ q. grind arith), plain_reach h comes p sites)
 
 comes_fine : (w : NodeWorld) (e : End) (comes : Comes) → MayCome comes → AllByRecursion (AtHostOnly (CanReach comes) e.link) w.sites → IsFineWorld w
     → IsFineWorld (comes_at w e comes).0
@@ -358,7 +349,7 @@ comes_fine w e comes may reach fine =
     (λ i near q. controller_fine w e.link comes (steps (AtEnd e.link i)) may (λ v a. steps_fine (AtEnd e.link i) v a) fine)
 
 plain_fine : (w : NodeWorld) (e : End) (comes : Comes) → IsPlain comes → IsFineWorld w → IsFineWorld (comes_at w e comes).0
-plain_fine w e comes p fine = comes_fine w e comes (plain_may comes p) (plain_reach e.link comes p w.sites) fine
+plain_fine w e comes p fine = comes_fine w e comes (grind arith) (plain_reach e.link comes p w.sites) fine
 
 -- ### Messages and inits
 
@@ -475,15 +466,14 @@ line_fine w l p fine = by_option (refusal_in w l) (λ q. rw q (goes_fine w l p q
 
 new_sites : (content : List ℕ) (hosts : List ℕ) → AreFineSites (map (new_site content) hosts)
 new_sites content [] = tt
-new_sites content (h ∷ hosts) = (record { link = new_fine; node = tt }, new_sites content hosts)
+new_sites content (h ∷ hosts) = (record { link = grind arith; node = tt }, new_sites content hosts)
 
 pub lines_fine : (lines : List Line) (w : NodeWorld) → ArePlayable lines → IsFineWorld w → IsFineWorld (world_after w lines)
 lines_fine [] w p fine = fine
 lines_fine (l ∷ lines) w p fine = lines_fine lines (line_step w l).0 p.1 (line_fine w l p.0 fine)
 
 pub world_fine : (hosts : List ℕ) (lines : List Line) → ArePlayable lines → IsFineWorld (world_after (new_world hosts) lines)
-world_fine hosts lines p =
-    lines_fine lines (new_world hosts) p (record { sites = new_sites (replicate 65536 255) hosts; controller = tt })
+world_fine hosts lines p = lines_fine lines (new_world hosts) p (record { sites = new_sites (replicate 65536 255) hosts; controller = tt })
 
 all_run : (sites : List Site) → AreFineSites sites → AllByRecursion (λ (s : Site). IsRun s.link) sites
 all_run [] a = tt

@@ -1,24 +1,23 @@
 -- What is read of the controller's notices over whatever happens, and over the lines of a schedule.
 use Rattle.node_laws.proofs.Words.{Activates, AllByRecursion, AreHosts, AreTables, AreTables-apply, AreTables-close, AreTables-none, Arms, AsksReset}
 use Rattle.node_laws.proofs.Words.{AtController, AtHost, Boots, Broken, Command, Controller, ControllerReads, CutOff, Desk, End, Entry, FollowsNodes, Gives}
-use Rattle.node_laws.proofs.Words.{Happening, HciTables, Header, Host, IfHostNode, IfReads, Inits, IsCommand, IsCut, IsHost, IsKeptNotice, IsRightNotice}
-use Rattle.node_laws.proofs.Words.{JoinTwo, KeepsNotices, Line, LineStep, Link, List, Lose, Loses, Loss, MayBoot, Memory, NextFrame, NoInput, NodeHistory}
-use Rattle.node_laws.proofs.Words.{NodeWorld, None, NoticesAreRead, OnWire, Option, Resets, Running, Site, Some, Step, Takes, Ticks, [], after_planned, ap}
-use Rattle.node_laws.proofs.Words.{append-nil, applied, apply, arith, asking_in, beginning, boot_found, boot_writes, boot_written, boots, by_boot, by_counts}
-use Rattle.node_laws.proofs.Words.{by_memory, by_power, by_running, by_test, close, command_of, controller_cut, count_of, counts, entries_for, entries_in, eqb}
-use Rattle.node_laws.proofs.Words.{eqb-true, errors_all, false, first_lost, flat_map, fold, found, frame_lost, happens, host_cut, link_to, links_of}
-use Rattle.node_laws.proofs.Words.{loses_power_at, map, memory_at, new_desk, new_site, new_world, no_tables, node_at, node_entries, notice_at, notice_in}
-use Rattle.node_laws.proofs.Words.{occurrences_of, option_map_or, records, refl, replicate, sending, spelled_by, subst, sym, tables_of, true, with_error}
-use Rattle.node_laws.proofs.Words.{with_memory, with_node, with_site, world_after, world_step, written_off, ℕ, ◌++◌, ◌∷◌, ◌≡◌}
+use Rattle.node_laws.proofs.Words.{Happening, HciTables, Header, Host, IfReads, Inits, IsCommand, IsCut, IsHost, IsKeptNotice, IsRightNotice, JoinTwo}
+use Rattle.node_laws.proofs.Words.{KeepsNotices, Line, LineStep, Link, List, Lose, Loses, Loss, MayBoot, Memory, NextFrame, NoInput, NodeHistory, NodeWorld}
+use Rattle.node_laws.proofs.Words.{None, NoticesAreRead, OnWire, Option, Resets, Running, Site, Some, Step, Takes, Ticks, [], after_planned, ap, append-nil}
+use Rattle.node_laws.proofs.Words.{applied, apply, arith, asking_in, beginning, boot_found, boot_writes, boot_written, boots, by_boot, by_memory, by_power}
+use Rattle.node_laws.proofs.Words.{by_running, by_test, close, command_of, controller_cut, count_of, counts, entries_for, entries_in, eqb, eqb-true, errors_all}
+use Rattle.node_laws.proofs.Words.{false, first_lost, flat_map, fold, found, frame_lost, happens, host_cut, link_to, links_of, loses_power_at, map, memory_at}
+use Rattle.node_laws.proofs.Words.{new_desk, new_site, new_world, no_tables, node_at, node_entries, notice_at, notice_in, occurrences_of, option_map_or}
+use Rattle.node_laws.proofs.Words.{records, refl, replicate, sending, spelled_by, subst, sym, tables_of, true, with_error, with_memory, with_node, with_site}
+use Rattle.node_laws.proofs.Words.{world_after, world_step, written_off, ℕ, ◌++◌, ◌∷◌, ◌≡◌}
 use Rattle.link_laws.specs.entries.Entries.{End as Side}
 use Rattle.tables_laws.proofs.tables.TwoHosts.{JoinTwo-after, JoinTwo-closed}
 use Rattle.node_laws.proofs.kept.Booting.{command_read}
 use Rattle.node_laws.proofs.notices.Near.{AreGood, AreHushed, Reads, activates_reads, asking_more, beginning_own, begins_reads, comes_reads, far_hushed}
-use Rattle.node_laws.proofs.notices.Near.{far_shut, good_map, good_with, quiet_far, sending_own, still_reads, ticks_reads}
+use Rattle.node_laws.proofs.notices.Near.{far_shut, good_map, good_with, sending_own, still_reads, ticks_reads}
 use Rattle.node_laws.proofs.notices.Turning.{notice_more}
 use Rattle.node_laws.proofs.notices.Steps.{here_shut}
 use Rattle.node_laws.proofs.readings.Noticed.{event_up, numbers}
-use Rattle.node_laws.proofs.readings.Sites.{lost_quiet}
 use Rattle.node_laws.proofs.telling.Lasting.{AnyLine, all_lines, boots_may, lines_last, new_orderly, step_orderly}
 use Rattle.trace_model.specs.declared.entry.Entry.TheVariants as entry
 
@@ -36,8 +35,7 @@ fine_one t (Some c) may fine = (AreTables-apply t c (may c refl) fine.0, JoinTwo
 
 fine_fold : (t : HciTables) (bodies : List (List ℕ)) → AreFine t → AreFine (fold applied t bodies)
 fine_fold t [] fine = fine
-fine_fold t (body ∷ bodies) fine =
-    fine_fold (applied t body) bodies (fine_one t (command_of body) (λ c e. command_read (spelled_by body) c e) fine)
+fine_fold t (body ∷ bodies) fine = fine_fold (applied t body) bodies (fine_one t (command_of body) (λ c e. command_read (spelled_by body) c e) fine)
 
 fine_found : (content : List ℕ) → AreFine (close (tables_of content))
 fine_found content =
@@ -81,13 +79,10 @@ module _ (t : List Entry) (w : NodeWorld) (a : Reads t w) where
     reads_so = λ x. (notice_more x t (entry.Cut 0 ∷ []), asking_more x t (entry.Cut 0 ∷ []));
   }
 
-  cut_hushed : (n : ℕ) → eqb n 0 ≡ false → AreHushed (entry.Cut n ∷ [])
-  cut_hushed n e = far_hushed (entry.Cut n ∷ []) (e, tt)
-
   far_cut : (n : ℕ) → eqb n 0 ≡ false → Reads (t ++ entry.Cut n ∷ []) (record w { sites = with_site n host_cut w.sites })
   far_cut n e = record {
     sites = good_with n host_cut (λ s b. record { host = b.host; node = tt; shut = far_shut s.link (Step NoInput [] CutOff) b.shut }) w.sites a.sites;
-    reads_so = still_reads t (entry.Cut n ∷ []) w.controller (cut_hushed n e) a.reads_so;
+    reads_so = still_reads t (entry.Cut n ∷ []) w.controller (far_hushed (entry.Cut n ∷ []) (e, tt)) a.reads_so;
   }
 
   cut_reads : (n : ℕ) → Reads (t ++ entry.Cut n ∷ []) (loses_power_at n w)
@@ -142,21 +137,18 @@ counted_reads t (Broken fault) h (Some r) a = record {
 }
 counted_reads t _ h o a = a
 
-counted_node : (why : Loss) (h : ℕ) (o : Option Running) → IfHostNode o → IfHostNode (counts why h o)
-counted_node why h o a = by_counts IfHostNode why h o a (λ r q. subst IfHostNode q a)
-
 lost_reads : (t : List Entry) (w : NodeWorld) (e : End) (why : Loss) → Reads t w → Reads (t ++ (frame_lost w e why).1) (frame_lost w e why).0
 lost_reads t w e why a = by_test e.at_host
     (λ b. rw b (record {
       sites = good_with e.link (λ s. record s { link = happens s.link (AtHost (Lose why)); node = counts why e.link s.node })
-          (λ s k. record { host = k.host; node = counted_node why e.link s.node k.node; shut = far_shut s.link (Lose why) k.shut }) w.sites a.sites;
-      reads_so = still_reads t (lost Host l.to_host) w.controller (hushed Host l.to_host) a.reads_so;
+          (λ s k. record { host = k.host; node = grind arith; shut = far_shut s.link (Lose why) k.shut }) w.sites a.sites;
+      reads_so = still_reads t (lost Host l.to_host) w.controller (grind arith) a.reads_so;
     }))
     (λ b. rw b (record {
       sites = good_with e.link (λ s. record s { link = happens s.link (AtController (Lose why)) })
           (λ s k. record { host = k.host; node = k.node; shut = here_shut s.link (Lose why) k.shut }) w.sites a.sites;
       reads_so = counted_reads (t ++ lost Controller l.to_controller) why e.link w.controller
-          (still_reads t (lost Controller l.to_controller) w.controller (hushed Controller l.to_controller) a.reads_so);
+          (still_reads t (lost Controller l.to_controller) w.controller (grind arith) a.reads_so);
     }))
   where
     l : Link
@@ -164,9 +156,6 @@ lost_reads t w e why a = by_test e.at_host
 
     lost : Side → List OnWire → List Entry
     lost who wire = entries_for e.link (first_lost who why wire)
-
-    hushed : (who : Side) (wire : List OnWire) → AreHushed (lost who wire)
-    hushed who wire = far_hushed (lost who wire) (quiet_far e.link (first_lost who why wire) (lost_quiet who why wire))
 
 -- ### Events
 

@@ -9,15 +9,14 @@ use Rattle.node_laws.proofs.Words.{Turn, Work, [], activates, after_host, after_
 use Rattle.node_laws.proofs.Words.{all_done, all_map, all_of_host, all_owed, all_owed_hold, all_synced_hold, and-false, anyone, ap, append-nil, append_assoc}
 use Rattle.node_laws.proofs.Words.{arith, arrival, asking_after, asking_in, beginning, begins_with, body_of, by_coming, by_controller, by_controller_tick}
 use Rattle.node_laws.proofs.Words.{by_host, by_host_tick, by_option, by_test, comes_at, comes_to, commit, commit_writes, cond_both, controller_does}
-use Rattle.node_laws.proofs.Words.{controller_ticks, controller_work, deeds_of, done, end_c, end_h, end_of, end_of_node, end_view, ending_entries, ending_of}
+use Rattle.node_laws.proofs.Words.{controller_ticks, controller_work, deeds_of, done, end_c, end_h, end_of_node, end_view, ending_entries, ending_of}
 use Rattle.node_laws.proofs.Words.{entries_for, eqb, exchanged, fails_within, false, flat_map, fold, fold-append, forgets, forgotten, forgotten_hold}
 use Rattle.node_laws.proofs.Words.{frames_noted, happens, has_input, host_deeds, host_does, host_tick, host_ticks, host_work, hosts_in, hosts_tick, inl}
-use Rattle.node_laws.proofs.Words.{input_at, input_of, inr, is_command_message, is_late, is_late_at, is_waiting, length, link_after_controller, link_to, map}
-use Rattle.node_laws.proofs.Words.{near_end_in, near_tick, not, noted_of, notice_at, notice_in, notified, noting, option_map_or, own_side, own_view, port_at}
-use Rattle.node_laws.proofs.Words.{port_for, refl, report, runs_left, runs_none, runs_on, same_end, same_side, sending, site_at, site_ticked, site_unticked}
-use Rattle.node_laws.proofs.Words.{steps, subst, sym, synced, tick_host, ticked_so, ticks_at_controller, times_out, told, told_at, told_late, true, true≢false}
-use Rattle.node_laws.proofs.Words.{turn_at, turns_at, whole_acked, wires_for, with_desk, with_older, with_site, work_of, world_ticks, ℕ, ◌&&◌, ◌++◌, ◌∙◌, ◌∷◌}
-use Rattle.node_laws.proofs.Words.{◌≡◌}
+use Rattle.node_laws.proofs.Words.{input_at, input_of, inr, is_command_message, is_late_at, is_waiting, length, link_after_controller, link_to, map}
+use Rattle.node_laws.proofs.Words.{near_end_in, near_tick, not, noted_of, notice_at, notice_in, notified, noting, own_side, own_view, port_at, port_for, refl}
+use Rattle.node_laws.proofs.Words.{report, runs_left, runs_none, runs_on, same_end, same_side, sending, site_at, site_ticked, site_unticked, steps, subst, sym}
+use Rattle.node_laws.proofs.Words.{synced, tick_host, ticked_so, ticks_at_controller, times_out, told, told_at, told_late, true, true≢false, turn_at, turns_at}
+use Rattle.node_laws.proofs.Words.{whole_acked, wires_for, with_desk, with_older, with_site, work_of, world_ticks, ℕ, ◌&&◌, ◌++◌, ◌∙◌, ◌∷◌, ◌≡◌}
 use Rattle.link_laws.specs.entries.Entries.{End as Side}
 use Rattle.link_laws.specs.entries.Entries.Entry.{Tick}
 use Rattle.node_laws.proofs.links.Sites.{here_host}
@@ -27,7 +26,7 @@ use Rattle.node_laws.proofs.notices.Steps.{here_shut, steps_stand, ticks_shut}
 use Rattle.node_laws.proofs.notices.Telling.{AreRight, noticed}
 use Rattle.node_laws.proofs.readings.Turning.{IsQuiet, rest_quiet, told_rest}
 use Rattle.node_laws.proofs.readings.Sites.{comes_outside, ending_quiet, near_end_side}
-use Rattle.node_laws.proofs.steps.StepWalks.{Lasts, all_do as all_far, got_at, rest_lasts, sessions_node}
+use Rattle.node_laws.proofs.steps.StepWalks.{Lasts, all_do as all_far, got_at, rest_lasts}
 use Rattle.node_laws.proofs.telling.Ticks.{wires_all}
 use Rattle.node_laws.proofs.telling.Events.{hosts_same_of_nodes as hosts_same, ports_for}
 use Rattle.trace_model.specs.declared.entry.Entry.TheVariants as entry
@@ -98,12 +97,9 @@ pub not_near : (e : End) (x : ℕ) → e.at_host ≡ true → same_end e (end_c 
 not_near e x far = ap (λ b. eqb e.link x && same_side b false) far ∙ and-false (eqb e.link x)
 
 module _ (x : ℕ) where
-  one_far : (e : Entry) → IsFar e → (r : Option (List ℕ)) → reads x (e ∷ []) r ≡ r
-  one_far e a r = grind arith
-
   pub far_reads : (es : List Entry) → AreFar es → (r : Option (List ℕ)) → reads x es r ≡ r
   far_reads [] a r = refl
-  far_reads (e ∷ es) a r = ap (reads x es) (one_far e a.0 r) ∙ far_reads es a.1 r
+  far_reads (e ∷ es) a r = ap (reads x es) (grind arith) ∙ far_reads es a.1 r
 
   -- ### Creations
 
@@ -113,12 +109,9 @@ module _ (x : ℕ) where
   pub asking_more : (t es : List Entry) → asking_in (t ++ es) x ≡ asks es (asking_in t x)
   asking_more t es = fold-append (asking_after x) None t es
 
-  one_asks : (e : Entry) → IsFar e → (r : Option (List ℕ)) → asks (e ∷ []) r ≡ r
-  one_asks e a r = grind arith
-
   pub far_asks : (es : List Entry) → AreFar es → (r : Option (List ℕ)) → asks es r ≡ r
   far_asks [] a r = refl
-  far_asks (e ∷ es) a r = ap (asks es) (one_asks e a.0 r) ∙ far_asks es a.1 r
+  far_asks (e ∷ es) a r = ap (asks es) (grind arith) ∙ far_asks es a.1 r
 
 -- ### Notes
 
@@ -165,9 +158,7 @@ with_core : (w : Work) (c : Core) → c.node ≡ w.core.node → IsFarWork w →
 with_core w c same a = record { number = ap (λ n. eqb n 0) same ∙ a.number; far = a.far }
 
 turns : (h : ℕ) (t : Turn) (w : Work) → IsFarWork w → IsFarWork (turn_at h t w)
-turns h t w a = record { number = a.number; far = far-append w.entries _ a.far (go (port_at w.ports h)) } where
-  go : (o : Option Port) → AreFar (option_map_or (noted_of w.core t) o [])
-  go o = grind arith
+turns h t w a = record { number = a.number; far = far-append w.entries _ a.far (grind arith) }
 
 desks : (h : ℕ) (f : Desk → Desk) (w : Work) → IsFarWork w → IsFarWork (with_desk h f w)
 desks h f w a = record { number = a.number; far = a.far }
@@ -208,16 +199,13 @@ all_do h deeds w q a = all_far IsFarWork IsOwn does h deeds w q a
 
 -- ### Turns
 
-end_far : (core : Core) (h : ℕ) → own_side core ≡ Host → (end_of_node core h).at_host ≡ true
-end_far core h side = ap (λ s. (end_of h s).at_host) side
-
 abbrev Any : ℕ → Message → Type 0
 Any h m = Unit {0}
 
 far_lasts : Lasts IsFarWork IsOwn Any
 far_lasts = record {
   does = does;
-  turn_told = λ h m w any a. notes (entry.Turn (end_of_node w.core h) m.0 m.1 ∷ []) w (end_far w.core h (host_side w a), tt) a;
+  turn_told = λ h m w any a. notes (entry.Turn (end_of_node w.core h) m.0 m.1 ∷ []) w (grind arith, tt) a;
   held_told = λ h need spare w a. notes (entry.Held (end_of_node w.core h) need spare ∷ []) w (tt, tt) a;
   fetched = λ h w a. turns h FetchMessage w a;
   held = λ h flag w a. turns h (Hold flag) w a;
@@ -227,9 +215,6 @@ far_lasts = record {
 }
 
 -- ### Steps
-
-late_far : (core : Core) (p : Port) → own_side core ≡ Host → AreFar (told_late core p)
-late_far core p side = by_test (is_late p) (λ q. rw q (come_far core p (Some (Reset None)) side)) (λ q. rw q tt)
 
 came_far : (input : NodeInput) (w : Work) → IsFarWork w → IsFarWork (all_come input w)
 came_far input w a = record {
@@ -241,7 +226,7 @@ times_far : (input : NodeInput) (w : Work) → IsFarWork w → IsFarWork (times_
 times_far (AtEnd h i) w a = a
 times_far TimePasses w a = record {
   number = a.number;
-  far = far-append w.entries _ a.far (far_flat (told_late w.core) (λ p. late_far w.core p (host_side w a)) (map with_older w.ports));
+  far = far-append w.entries _ a.far (far_flat (told_late w.core) (λ p. grind arith) (map with_older w.ports));
 }
 
 pub steps_far : (input : NodeInput) (w : Work) → IsFarWork w → IsFarWork (steps input w)
@@ -253,9 +238,8 @@ steps_far input w a =
       core = after_sessions came.core came.ports;
       ports = map Rattle.node_machine.specs.Node.without_notice left;
     } in
-    let first : IsFarWork begun = record { number = ap (λ n. eqb n 0) (sessions_node came.core came.ports) ∙ b.number; far = b.far } in
     rest_lasts IsFarWork IsOwn Any far_lasts (forgotten came.ports) (flat_map (synced w.core input) w.ports) (all_owed left) begun
-    (forgotten_own came.ports) (all_synced_own w.core input w.ports) (all_owed_own left) first
+    (forgotten_own came.ports) (all_synced_own w.core input w.ports) (all_owed_own left) (grind arith)
 
 -- ## What stays of the hosts of a world and of the links to them, and what is read of the controller's notices as a host acts
 
@@ -270,19 +254,16 @@ pub record Reads (t : List Entry) (w : NodeWorld) : Type 0 where
 abbrev pub AreHushed : List Entry → Type 0
 AreHushed es = (x : ℕ) (r : Option (List ℕ)) → (reads x es r ≡ r) × (asks x es r ≡ r)
 
-same_in : (t es : List Entry) (x : ℕ) → AreHushed es → notice_in (t ++ es) x ≡ notice_in t x
-same_in t es x hushed = notice_more x t es ∙ (hushed x (notice_in t x)).0
-
 same_asking : (t es : List Entry) (x : ℕ) → AreHushed es → asking_in (t ++ es) x ≡ asking_in t x
 same_asking t es x hushed = asking_more x t es ∙ (hushed x (asking_in t x)).1
 
 pub still_reads : (t es : List Entry) (o : Option Running) → AreHushed es → IfReads t o → IfReads (t ++ es) o
-still_reads t es None hushed a = λ x. (same_in t es x hushed ∙ (a x).0, same_asking t es x hushed ∙ (a x).1)
+still_reads t es None hushed a = λ x. ((notice_more x t es ∙ (hushed x (notice_in t x)).0) ∙ (a x).0, same_asking t es x hushed ∙ (a x).1)
 still_reads t es (Some r) hushed a = record {
   sorted = a.sorted;
   two = a.two;
   right = a.right;
-  kept = λ x. subst (λ m. IsKeptNotice m (notice_at r.desks x)) (sym (same_in t es x hushed)) (a.kept x);
+  kept = λ x. subst (λ m. IsKeptNotice m (notice_at r.desks x)) (sym (notice_more x t es ∙ (hushed x (notice_in t x)).0)) (a.kept x);
 }
 
 pub far_hushed : (es : List Entry) → AreFar es → AreHushed es
@@ -325,9 +306,6 @@ arrival_quiet who h l comes = grind arith
 
 -- ### A host acts
 
-runs_far : (k : Work) → IsFarWork k → IfHostNode (runs_on k)
-runs_far k a = by_test k.cut (λ e. rw e tt) (λ e. rw e a.number)
-
 module _ (t : List Entry) (w : NodeWorld) (a : Reads t w) where
   nothing : Reads (t ++ []) w
   nothing = subst (λ l. Reads l w) (sym (append-nil t)) a
@@ -343,7 +321,7 @@ module _ (t : List Entry) (w : NodeWorld) (a : Reads t w) where
       let far : IsFarWork k = grind arith in
       record {
         sites = good_with h (after_host comes k)
-            (λ z b. record { host = b.host; node = runs_far k far; shut = far_shut z.link (Step comes (turns_at k z.host) (ending_of k)) b.shut })
+            (λ z b. record { host = b.host; node = grind arith; shut = far_shut z.link (Step comes (turns_at k z.host) (ending_of k)) b.shut })
             w.sites a.sites;
         reads_so = still_reads t (k.entries ++ frames) w.controller
             (far_hushed (k.entries ++ frames) (far-append k.entries frames far.far (frames_quiet Host h (wires_for (exchanged s.link) comes) k))) a.reads_so;
@@ -377,7 +355,7 @@ one_tick s good =
     let k : Work = host_tick s r in
     let far : IsFarWork k = steps_far TimePasses (work_of r s.memory.plan (λ h. s.link.host) [])
     (record { number = subst IfHostNode e good.node; far = tt }) in (
-      record { host = good.host; node = runs_far k far; shut = far_tick_shut s.link (turns_at k s.host) (ending_of k) good.shut },
+      record { host = good.host; node = grind arith; shut = far_tick_shut s.link (turns_at k s.host) (ending_of k) good.shut },
       far-append k.entries (frames_noted Host s.host (exchanged s.link) k) far.far (frames_quiet Host s.host (exchanged s.link) k),
     ))
 

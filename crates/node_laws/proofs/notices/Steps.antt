@@ -1,16 +1,15 @@
 -- A whole step of a controller: its unanswered notice to a host stays the one that is read, and so do the blocks that an end has to spare.
-use Rattle.node_laws.proofs.Words.{ActEvent, ActStart, ActStop, AllByRecursion, AreDifferent, AtEnd, Bool, Commits, Control, Controller, Core, Creation, Deed}
-use Rattle.node_laws.proofs.Words.{End, EndEvent, Ending, Entry, Fetch, FromNode, HciTables, IsComing, IsCommand, IsFresh, IsHost, IsKeptNotice, IsOutside}
-use Rattle.node_laws.proofs.Words.{IsRightNotice, IsShut, Link, LinkEnd, LinkInput, List, NodeInput, None, NumberedEnd, Option, Port, Release, Releases, Reset}
-use Rattle.node_laws.proofs.Words.{Response, Role, Sends, Some, Start, Stop, Take, TakeBroken, TakeUnknown, Tick, TimePasses, Turn, Up, Work, [], act_answer}
-use Rattle.node_laws.proofs.Words.{activated, after_input, after_sessions, all_append, all_come, all_done, all_flat, all_map, all_owed, answers_and_passes, ap}
-use Rattle.node_laws.proofs.Words.{ap₂, arith, asked_at, by_option, by_test, cond, ended_by, eq-eqb, eqb, false, filter, filter_map, flat_map, forgets}
-use Rattle.node_laws.proofs.Words.{frame_fetched, had_tick, happens_at_controller, has_come, in_use, input_at, is_asked_at, is_forgotten, is_late, is_notice}
-use Rattle.node_laws.proofs.Words.{is_of_creation, is_open, is_over, is_some, list_any, map, moved, ne_eqb, need_of_all, new_link_end, node_of, option_and_then}
-use Rattle.node_laws.proofs.Words.{option_map, option_map_or, or-false, owed, own_side, passes, port_at, refl, renewed, reset_late, role_after, sent_all}
-use Rattle.node_laws.proofs.Words.{session_now, spare, spare_at, steps, stopped, subst, sym, synced, ticked, ticks_at_controller, times_out, told_at, told_late}
-use Rattle.node_laws.proofs.Words.{took, true, true≢false, turn, turn_at, turned, turned_role, unacknowledged_in, unless_cut, with_older, without_notice, ℕ}
-use Rattle.node_laws.proofs.Words.{◌&&◌, ◌++◌, ◌+◌, ◌-◌, ◌||◌, ◌∙◌, ◌∷◌, ◌≡◌}
+use Rattle.node_laws.proofs.Words.{ActEvent, AllByRecursion, AreDifferent, AtEnd, Bool, Commits, Controller, Core, Creation, Deed, End, EndEvent, Ending, Entry}
+use Rattle.node_laws.proofs.Words.{Fetch, FromNode, HciTables, IsComing, IsCommand, IsFresh, IsHost, IsKeptNotice, IsOutside, IsRightNotice, IsShut, Link}
+use Rattle.node_laws.proofs.Words.{LinkEnd, LinkInput, List, NodeInput, None, NumberedEnd, Option, Port, Release, Releases, Reset, Role, Sends, Some, Start}
+use Rattle.node_laws.proofs.Words.{Stop, Take, TakeBroken, TakeUnknown, Tick, TimePasses, Turn, Up, Work, [], act_answer, activated, after_input}
+use Rattle.node_laws.proofs.Words.{after_sessions, all_append, all_come, all_done, all_flat, all_map, all_owed, answers_and_passes, ap, ap₂, arith, asked_at}
+use Rattle.node_laws.proofs.Words.{by_option, by_test, cond, ended_by, eq-eqb, eqb, false, filter, filter_map, flat_map, forgets, happens_at_controller}
+use Rattle.node_laws.proofs.Words.{has_come, input_at, is_asked_at, is_forgotten, is_late, is_notice, is_of_creation, is_open, is_over, is_some, list_any, map}
+use Rattle.node_laws.proofs.Words.{ne_eqb, new_link_end, option_and_then, option_map, option_map_or, or-false, owed, own_side, passes, port_at, refl, renewed}
+use Rattle.node_laws.proofs.Words.{reset_late, role_after, sent_all, spare, spare_at, steps, subst, sym, synced, ticked, ticks_at_controller, times_out}
+use Rattle.node_laws.proofs.Words.{told_at, told_late, true, true≢false, turn, turn_at, turned, turned_role, unless_cut, with_older, without_notice, ℕ, ◌&&◌}
+use Rattle.node_laws.proofs.Words.{◌++◌, ◌+◌, ◌-◌, ◌||◌, ◌∙◌, ◌∷◌, ◌≡◌}
 use Rattle.shdlc_core.specs.declared.answers.LinkState.TheVariants.{Down}
 use Rattle.node_laws.specs.notices.Spares.{IsEndRead}
 use Rattle.node_laws.proofs.links.Sites.{here_is, tick_is}
@@ -35,40 +34,22 @@ activated_shut : (e : LinkEnd) (event : ActEvent) → (is_open (role_after e.rol
     → e.shdlc.phase ≡ Down) → IsShut (activated e event)
 activated_shut e event a q = grind arith
 
-restart_shut : (e : LinkEnd) (event : ActEvent) → IsShut (activated (moved e true (stopped e.shdlc)) event)
-restart_shut e event = activated_shut (moved e true (stopped e.shdlc)) event (λ q n. refl)
-
 -- ### Inputs
 
-took_shut : (e : LinkEnd) (c : Control) → IsShut e → IsShut (took e c)
-took_shut e c a = grind arith
-
-tick_shut : (e : LinkEnd) → IsShut e → IsShut (had_tick e)
-tick_shut e a = grind arith
-
-reset_shut : (e : LinkEnd) (window : Option Rattle.std.specs.Prelude.ℕ) → IsShut e → IsShut (after_input e (Reset window))
-reset_shut e window a = grind arith
-
-turn_shut : (e : LinkEnd) (t : Turn) → IsShut e → IsShut (turn e t)
-turn_shut e t a = same_shut e (turn e t) (turned_role e (t ∷ [])) (turn-phase e t) a
-
-fetch_shut : (e : LinkEnd) → IsShut e → IsShut (frame_fetched e)
-fetch_shut e a = grind arith
-
 pub input_shut : (e : LinkEnd) (i : LinkInput) → IsShut e → IsShut (after_input e i)
-input_shut e (Take c) a = took_shut e c a
+input_shut e (Take c) a = grind arith
 input_shut e TakeUnknown a = a
 input_shut e (TakeBroken fault) a = a
-input_shut e Tick a = tick_shut e a
-input_shut e (Reset window) a = reset_shut e window a
-input_shut e (Start value) a = restart_shut e (ActStart value)
-input_shut e Stop a = restart_shut e ActStop
-input_shut e (FromNode t) a = turn_shut e t a
-input_shut e Fetch a = fetch_shut e a
+input_shut e Tick a = grind arith
+input_shut e (Reset window) a = grind arith
+input_shut e (Start value) a = grind arith
+input_shut e Stop a = grind arith
+input_shut e (FromNode t) a = (same_shut e (turn e t) (turned_role e (t ∷ [])) (turn-phase e t) a)
+input_shut e Fetch a = grind arith
 
 turns_shut : (e : LinkEnd) (ts : List Turn) → IsShut e → IsShut (turned e ts)
 turns_shut e [] a = a
-turns_shut e (t ∷ ts) a = turns_shut (turn e t) ts (turn_shut e t a)
+turns_shut e (t ∷ ts) a = turns_shut (turn e t) ts (same_shut e (turn e t) (turned_role e (t ∷ [])) (turn-phase e t) a)
 
 sent_shut : (e : LinkEnd) → IsShut e → IsShut (sent_all e)
 sent_shut e a o = sent_phase e [] ∙ a o
@@ -110,9 +91,6 @@ no_notices_may x F (Sends to m ∷ deeds) a = (a.0, no_notices_may x (λ n. (eqb
 no_notices_may x F (Releases asker ∷ deeds) a = no_notices_may x (λ n. ⊥) deeds a.1
 no_notices_may x F (_ ∷ deeds) a = absurd a.0
 
-owed_no_notices : (r : Response) (o : Option Creation) → TellNoNotices (owed r o)
-owed_no_notices r o = grind arith
-
 pub synced_no_notices : (core : Core) (input : NodeInput) (p : Port) → IsHost p.desk.host → TellNoNotices (synced core input p)
 synced_no_notices core input p host = grind arith
 
@@ -142,8 +120,7 @@ module _ (x : ℕ) where
 
   pub told_here : (core : Core) → own_side core ≡ Controller → (p : Port) (i : LinkInput) (r : Option (List ℕ)) → p.desk.host ≡ x
       → reads x (told_at core p (Some i)) r ≡ cond (is_some (ended_by p.side i)) None r
-  told_here core side p i r e =
-      told_reads x core p i r side ∙ ap (λ b. cond (b && is_some (ended_by p.side i)) None r) (eq-eqb p.desk.host x e)
+  told_here core side p i r e = told_reads x core p i r side ∙ ap (λ b. cond (b && is_some (ended_by p.side i)) None r) (eq-eqb p.desk.host x e)
 
   pub late_elsewhere : (core : Core) → own_side core ≡ Controller → (p : Port) (r : Option (List ℕ)) → eqb p.desk.host x ≡ false
       → reads x (told_late core p) r ≡ r
@@ -214,9 +191,6 @@ hosts_map : (f : Port → Port) → ((p : Port) → (f p).desk.host ≡ p.desk.h
 hosts_map f host [] = refl
 hosts_map f host (p ∷ ports) =
     ap (λ h. h ∷ map (λ (q : Port). q.desk.host) (map f ports)) (host p) ∙ ap (λ l. p.desk.host ∷ l) (hosts_map f host ports)
-
-come_right : (p : Port) (o : Option LinkInput) → IsRightNotice p.desk.notice → IsRightNotice (has_come p o).desk.notice
-come_right p o a = grind arith
 
 older_right : (p : Port) → IsRightNotice p.desk.notice → IsRightNotice (with_older p).desk.notice
 older_right p a = grind arith
@@ -299,9 +273,9 @@ module _ (x : ℕ) (before : List Entry) (w : Work) (a : IsOn x before w) where
   pub owed_all : (left : List Port) → TellNoNotices (all_owed left)
   owed_all left =
       all_append TellsNoNotice _ _ (all_flat TellsNoNotice (λ p. owed response.NotConnected (asked_at p))
-      (λ p. owed_no_notices response.NotConnected (asked_at p))
+      (λ p. grind arith)
       (filter (λ (p : Port). p.ended) left))
-      (all_flat TellsNoNotice (λ p. owed response.Timeout (asked_at p)) (λ p. owed_no_notices response.Timeout (asked_at p))
+      (all_flat TellsNoNotice (λ p. owed response.Timeout (asked_at p)) (λ p. grind arith)
       (filter (λ (p : Port). p.late) left))
 
   -- ### What comes
@@ -349,7 +323,7 @@ module _ (x : ℕ) (before : List Entry) (w : Work) (a : IsOn x before w) where
 
     come_rights : AreRight (map come w.ports)
     come_rights =
-        all_map (λ (p : Port). IsRightNotice p.desk.notice) (λ (p : Port). IsRightNotice p.desk.notice) come (λ p b. come_right p (input_at input p) b) w.ports
+        all_map (λ (p : Port). IsRightNotice p.desk.notice) (λ (p : Port). IsRightNotice p.desk.notice) come (λ p b. grind arith) w.ports
         a.right
 
   pub came_near : (h : ℕ) (i : LinkInput) → IsComing i → AreDifferent (map (λ (p : Port). p.desk.host) w.ports) → AllByRecursion IsFresh w.ports
@@ -445,9 +419,5 @@ asked_is message p kept = grind arith
 
 -- ## The blocks that an end has to spare are those that are read
 
-in_use_is : (t : List Entry) (e : End) (near_end : NumberedEnd) → IsEndRead t e near_end
-    → need_of_all (unacknowledged_in t e (session_now t e (node_of e))) ≡ in_use near_end.side
-in_use_is t e near_end a = grind arith
-
 pub spare_is : (t : List Entry) (e : End) (near_end : NumberedEnd) → IsEndRead t e near_end → spare_at t e ≡ spare near_end.side
-spare_is t e near_end a = ap₂ (λ n m. 128 - (n + m)) (in_use_is t e near_end a) a.aside
+spare_is t e near_end a = ap₂ (λ n m. 128 - (n + m)) (grind arith) a.aside

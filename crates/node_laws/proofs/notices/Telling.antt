@@ -5,11 +5,11 @@ use Rattle.node_laws.proofs.Words.{IsNoticeOf, IsRecordableDecision, IsRightNoti
 use Rattle.node_laws.proofs.Words.{Plain, Port, Releases, Removed, Response, SaysOk, Sends, Set, SetOpened, SetsErrors, Some, Tells, [], agreed, all_false}
 use Rattle.node_laws.proofs.Words.{all_of_controller, all_so, and_parts, answer_of, answers_on, arith, asked_at, body_in, by_test, commit_deeds, commits}
 use Rattle.node_laws.proofs.Words.{commits_and_tells, cond, cond_both, controller_deeds, controller_holds, creation_in, decided, decided_as_allowed}
-use Rattle.node_laws.proofs.Words.{decided_holds, decision_deeds, dest_in, ends_of, eqb, eqb-false, eqb-true, false, far_end_of, filter, finds_room, gates, has}
-use Rattle.node_laws.proofs.Words.{has_notice, identity_served, inl, inr, is_connected, is_notice, is_response, leb-true, length, link_deeds, link_served}
-use Rattle.node_laws.proofs.Words.{list_any, map, mask_of, nat_le, ne_eqb, new_row, not, option_and_then, option_map_or, others_opened, own_gate, own_view}
-use Rattle.node_laws.proofs.Words.{param_in, pipe_at, port_at, refl, shares, subst, suc, sym, tests_to_clear, tests_to_create, tests_to_delete}
-use Rattle.node_laws.proofs.Words.{told_of_clearing, told_of_deletion, true, true≢false, value_in, view_for, view_of, zero, ℕ, ◌&&◌, ◌||◌, ◌∙◌, ◌∷◌, ◌≡◌, ◌≤◌}
+use Rattle.node_laws.proofs.Words.{decided_holds, decision_deeds, ends_of, eqb, eqb-false, eqb-true, false, far_end_of, filter, finds_room, gates, has}
+use Rattle.node_laws.proofs.Words.{has_notice, identity_served, is_connected, is_notice, is_response, length, list_any, map, mask_of, ne_eqb, new_row}
+use Rattle.node_laws.proofs.Words.{option_and_then, option_map_or, others_opened, own_view, param_in, pipe_at, port_at, refl, shares, suc, sym, tests_to_clear}
+use Rattle.node_laws.proofs.Words.{tests_to_create, tests_to_delete, told_of_clearing, told_of_deletion, true, true≢false, value_in, view_for, view_of, zero, ℕ}
+use Rattle.node_laws.proofs.Words.{◌&&◌, ◌||◌, ◌∙◌, ◌∷◌, ◌≡◌, ◌≤◌}
 use Rattle.gate_admin.proofs.CreationLemmas.{AllFalse}
 use Rattle.gate_admin.specs.View.{hosts_where, is_noticed}
 use Rattle.node_machine.proofs.Walks.{AnswersNone}
@@ -42,12 +42,6 @@ pub record IsAsking (h : ℕ) (notice : List ℕ) (c : Command) (answer : List �
 
 pub answer_other : (r : Response) (value : List ℕ) → IsOther (answer_of r value)
 answer_other r value = grind arith
-
-deleted_notice : (pid : ℕ) → IsRemoval (19 ∷ pid ∷ [])
-deleted_notice pid = record { test = refl; short = omega arith; about = inl refl }
-
-cleared_notice : (h : ℕ) → IsRemoval (21 ∷ h ∷ [])
-cleared_notice h = record { test = refl; short = omega arith; about = inr refl }
 
 -- each of these is told of a removal, and isn't this host
 abbrev pub AreTold : ℕ → List ℕ → List ℕ → Type 0
@@ -116,10 +110,10 @@ module _ (v : LinkView) (h : ℕ) where
         makes = λ _ controller. commits_say (Create row) (ends_of row);
         asks = λ _ other. record { row = row; command = refl; creator = refl; notice_is = refl; other = answer_other response.Ok (ends_of row) };
         deletes = λ _.
-            tells_say (Delete (param_in body)) (told_of_deletion t v h (param_in body)) (19 ∷ param_in body ∷ []) (deleted_notice (param_in body))
+            tells_say (Delete (param_in body)) (told_of_deletion t v h (param_in body)) (19 ∷ param_in body ∷ []) (grind arith)
             (deletion_else (pipe_at t.rows (param_in body)) (λ r e. joins_two t.rows (param_in body) r two e));
         clears = λ _.
-            tells_say (Clear h) (told_of_clearing t v h) (21 ∷ h ∷ []) (cleared_notice h)
+            tells_say (Clear h) (told_of_clearing t v h) (21 ∷ h ∷ []) (grind arith)
             (sharing t (hosts_where (has (mask_of (told_of_clearing t v h)))) (all_in (has (mask_of (told_of_clearing t v h)))));
       })
 
@@ -164,9 +158,6 @@ module _ (x : ℕ) where
 
   no_and : (a b : Bool) → b ≡ false → (a && b) ≡ false
   no_and a b e = grind arith
-
-  off_and : (a b : Bool) → a ≡ false → (a && b) ≡ false
-  off_and a b e = grind arith
 
   either : (F : List ℕ → Type 0) (b : Bool) (d e : List Deed) → MayTell F d → MayTell F e → MayTell F (cond b d e)
   either F b d e y z = grind arith
@@ -230,11 +221,6 @@ module _ (x : ℕ) where
         commit_may (finds_room core c) pipe c answer.items notice.items (hosts_where (has tell)) may says.0 (mask_different (has tell)) says.1
     decision_may core v pipe (Ask asked notice c answer) says may allowed = asked_may core.tables v asked notice.items c answer.items says may allowed
 
-    -- ### Gates
-
-    link_may : (pipe : ℕ) (answer : List ℕ × Option ℕ) → eqb pipe 1 ≡ false → May (link_deeds h pipe answer)
-    link_may pipe answer e = grind arith
-
     -- ### Of a controller
 
     -- a message of the host h answers a notice to it
@@ -251,13 +237,6 @@ module _ (x : ℕ) where
 
     module _ (core : Core) (ports : List Port) (sorted : AreTables core.tables) (two : JoinTwo core.tables.rows) (some : 1 ≤ h) (most : h ≤ 7)
         (right : AreRight ports) (up : UpAt (port_at ports x)) where
-      -- pipe 01 leads to the administration gate
-      own_gate_one : (pipe : ℕ) → eqb pipe 1 ≡ true → own_gate core.tables h pipe ≡ None
-      own_gate_one pipe e = subst (λ n. own_gate core.tables h n ≡ None) (sym (eqb-true pipe 1 e)) refl
-
-      gate_off : (pipe gate : ℕ) → own_gate core.tables h pipe ≡ Some gate → eqb pipe 1 ≡ false
-      gate_off pipe gate is = by_test (eqb pipe 1) (λ e. let z : None ≡ Some gate = sym (own_gate_one pipe e) ∙ is in absurd (cc z)) (λ e. e)
-
       right_there : (p : Port) (c : Creation) → port_at ports h ≡ Some p → asked_at p ≡ Some c → IsRight c
       right_there p c here waits = go p.desk.notice (at_port (λ (p : Port). IsRightNotice p.desk.notice) ports h p right here) waits where
         go : (o : Option Notice) → IsRightNotice o → creation_in o ≡ Some c → IsRight c
@@ -277,7 +256,7 @@ module _ (x : ℕ) where
           let v : LinkView = view_for core.tables ports h in
           controller_holds (Outcome ports m) core ports h m (record {
             drops = λ pid none. Leaves (dropped m none) tt;
-            goes_on = λ to off. Leaves (no_reply ports m (rw off refl)) (off_and (eqb m.0 1) (is_notice m.1) off, tt);
+            goes_on = λ to off. Leaves (no_reply ports m (rw off refl)) (grind arith, tt);
             goes_back =
                 λ n event. Leaves (no_reply ports m (no_and (eqb m.0 1) (is_response m.1) (rw event refl)))
                 (no_and (eqb m.0 1) (is_notice m.1) (rw event refl), tt);
@@ -287,7 +266,7 @@ module _ (x : ℕ) where
                 (other_may IsShort h m.0 (identity_served gates n (body_in m.1)) (grind arith));
             counts =
                 λ errors n served gate. Leaves (no_reply ports m (no_and (eqb m.0 1) (is_response m.1) (rw served.command refl)))
-                (link_may m.0 (link_served errors n (body_in m.1)) (gate_off m.0 6 gate));
+                (grind arith);
             decides =
                 λ n served gate. Leaves (no_reply ports m (no_and (eqb m.0 1) (is_response m.1) (rw served.command refl)))
                 (decision_may core v m.0 (decided core.tables v h m.0 n (body_in m.1)) (decided_says v h core.tables m.0 n (body_in m.1) two)
@@ -309,13 +288,9 @@ Frees v (Answer answer) = Unit {0}
 Frees v (Commit c answer tell notice) = AllByRecursion (IsFree v) (hosts_where (has tell))
 Frees v (Ask dest notice c answer) = IsFree v dest
 
--- a host in a mask is 01 at least
-has_some : (m y : ℕ) → has m y ≡ true → 1 ≤ y
-has_some m y q = by_test (nat_le 1 y) (λ p. leb-true 1 y p) (λ p. absurd (true≢false (sym (rw p at q))))
-
 module _ (v : LinkView) where
   free_of : (m y : ℕ) → has m y ≡ true → is_noticed v y ≡ false → IsFree v y
-  free_of m y q e = (e, has_some m y q, has_small m y q)
+  free_of m y q e = (e, grind arith, has_small m y q)
 
   none_told_of_freeing : AllByRecursion (IsFree v) (hosts_where (has 0))
   none_told_of_freeing = rw nobody tt
@@ -354,12 +329,9 @@ module _ (v : LinkView) where
       → AllByRecursion (IsFree v) (hosts_where (has (mask_of (one_told_of_freeing o))))
   deletion_frees None e = none_told_of_freeing
   deletion_frees (Some end) e = go (is_connected v end.0) refl e where
-    first : (a : Bool) → (a || false) ≡ false → a ≡ false
-    first a f = grind arith
-
     go : (b : Bool) → is_connected v end.0 ≡ b → list_any (is_noticed v) (cond b (end.0 ∷ []) []) ≡ false
         → AllByRecursion (IsFree v) (hosts_where (has (mask_of (cond b (end.0 ∷ []) []))))
-    go true q f = alone (IsFree v) v.connected end.0 q (free_of v.connected end.0 q (first (is_noticed v end.0) f))
+    go true q f = alone (IsFree v) v.connected end.0 q (free_of v.connected end.0 q (grind arith))
     go false q f = none_told_of_freeing
 
   sharing_frees : (t : HciTables) (h : ℕ) → list_any (is_noticed v) (told_of_clearing t v h) ≡ false → (hosts : List ℕ)
@@ -367,15 +339,12 @@ module _ (v : LinkView) where
   sharing_frees t h e [] a = tt
   sharing_frees t h e (y ∷ hosts) a =
       let m : ℕ = mask_of (told_of_clearing t v h) in (
-        free_of m y a.0 (one_of (is_noticed v) (shares t v h) e y (has_some m y a.0) (has_small m y a.0) (from_mask (shares t v h) y a.0)),
+        free_of m y a.0 (one_of (is_noticed v) (shares t v h) e y (grind arith) (has_small m y a.0) (from_mask (shares t v h) y a.0)),
         sharing_frees t h e hosts a.1,
       )
 
   tells_free : (c : Command) (told notice : List ℕ) → AllByRecursion (IsFree v) (hosts_where (has (mask_of told))) → Frees v (commits_and_tells c told notice)
   tells_free c told notice a = grind arith
-
-  asked_free : (d : ℕ) → eqb d 0 ≡ false → (not (eqb d 0) && not (is_connected v d)) ≡ false → (not (eqb d 0) && is_noticed v d) ≡ false → IsFree v d
-  asked_free d off connected noticed = grind arith
 
   decided_frees : (t : HciTables) (h pipe instruction : ℕ) (body : List ℕ) → Frees v (decided t v h pipe instruction body)
   unfolding AllFalse
@@ -386,7 +355,7 @@ module _ (v : LinkView) where
         sets = λ _. none_told_of_freeing;
         makes = λ _ controller. none_told_of_freeing;
         asks = λ passed other.
-            let none = all_false (tests_to_create t v h body) passed in asked_free (dest_in body) other none.1.1.1.1.0 none.1.1.1.1.1.1.0;
+            let none = all_false (tests_to_create t v h body) passed in (grind arith);
         deletes = λ passed.
             let none = all_false (tests_to_delete t v h body) passed in
             tells_free (Delete (param_in body)) (told_of_deletion t v h (param_in body)) (19 ∷ param_in body ∷ [])

@@ -95,8 +95,7 @@ else_same k x g ports host off =
     go : (o : Option Port) → port_at ports x ≡ o → option_map (λ (p : Port). changed_if (eqb p.desk.host k) g p) o ≡ o
     go None e = refl
     go (Some p) e =
-        let other : eqb p.desk.host k ≡ false = ne_eqb p.desk.host k (λ s. eqb-false k x off (sym s ∙ at_host ports x p e)) in
-        ap (λ b. Some (changed_if b g p)) other
+        ap (λ b. Some (changed_if b g p)) (ne_eqb p.desk.host k (λ s. eqb-false k x off (sym s ∙ at_host ports x p e)))
 
 module _ (x : ℕ) (before : List Entry) where
   -- what is read of the notice to the host x
@@ -152,14 +151,6 @@ module _ (x : ℕ) (before : List Entry) where
 
   -- ### Ends
 
-  noticed_map : (f : Port → Port) → ((q : Port) → (f q).desk.notice ≡ q.desk.notice) → (o : Option Port)
-      → option_and_then (λ (p : Port). p.desk.notice) (option_map f o) ≡ option_and_then (λ (p : Port). p.desk.notice) o
-  noticed_map f notice o = grind arith
-
-  up_map : (f : Port → Port) → ((q : Port) → (f q).desk.notice ≡ q.desk.notice) → ((q : Port) → (f q).side.shdlc.phase ≡ q.side.shdlc.phase)
-      → (o : Option Port) → UpAt o → UpAt (option_map f o)
-  up_map f notice phase o a = grind arith
-
   -- ends are changed that keep their hosts, phases and notices
   alters : (K : Option (List ℕ) → Option Notice → Type 0) (f : Port → Port) (w : Work) → ((q : Port) → (f q).desk.host ≡ q.desk.host)
       → ((q : Port) → (f q).side.shdlc.phase ≡ q.side.shdlc.phase) → ((q : Port) → (f q).desk.notice ≡ q.desk.notice)
@@ -172,9 +163,9 @@ module _ (x : ℕ) (before : List Entry) where
     hosts = all_map (λ (p : Port). IsHost p.desk.host) (λ (p : Port). IsHost p.desk.host) f (λ p b. subst IsHost (sym (host p)) b) w.ports a.hosts;
     right = all_map (λ (p : Port). IsRightNotice p.desk.notice) (λ (p : Port). IsRightNotice p.desk.notice) f
         (λ p b. subst IsRightNotice (sym (notice p)) b) w.ports a.right;
-    up = subst UpAt (sym (at_all w.ports x f host)) (up_map f notice phase (port_at w.ports x) a.up);
+    up = subst UpAt (sym (at_all w.ports x f host)) (grind arith);
     kept = subst (K (read_in w)) (sym (ap (λ o. option_and_then (λ (p : Port). p.desk.notice) o) (at_all w.ports x f host)
-        ∙ noticed_map f notice (port_at w.ports x))) a.kept;
+        ∙ (grind arith))) a.kept;
   }
 
   alters_one : (K : Option (List ℕ) → Option Notice → Type 0) (k : ℕ) (g : Port → Port) (w : Work) → ((q : Port) → (g q).desk.host ≡ q.desk.host)
@@ -282,7 +273,7 @@ module _ (x : ℕ) (before : List Entry) where
       right = all_map (λ (p : Port). IsRightNotice p.desk.notice) (λ (p : Port). IsRightNotice p.desk.notice) told (told_right right)
           (map given w.ports) (all_map (λ (p : Port). IsRightNotice p.desk.notice) (λ (p : Port). IsRightNotice p.desk.notice) given given_right w.ports
           a.right);
-      up = subst UpAt (sym (at_told w.ports)) (ups (port_at w.ports x) refl takes a.up);
+      up = subst UpAt (sym (at_told w.ports)) (grind arith);
       kept = subst (λ r. IsKeptNotice r (noticed (notified k about message w).ports x))
           (sym (read_more x before w.entries (option_map_or (noted_of w.core (Give (1, message))) (port_at w.ports k) []) (read_in w)
           (reads x (option_map_or (noted_of w.core (Give (1, message))) (port_at w.ports k) []) (read_in w)) refl refl))
@@ -290,21 +281,13 @@ module _ (x : ℕ) (before : List Entry) where
           (option_and_then (λ (p : Port). p.desk.notice) o)) (sym (at_told w.ports))
           (subst (λ n. IsKeptNotice (reads x (option_map_or (noted_of w.core (Give (1, message))) (port_at w.ports n) []) (read_in w))
           (option_and_then (λ (p : Port). p.desk.notice) (option_map told (option_map given (port_at w.ports x))))) (sym (eqb-true k x here))
-          (keeps_it (port_at w.ports x) refl takes a.kept)));
+          (grind arith)));
     } where
       is_told : (p : Port) → port_at w.ports x ≡ Some p → told (given p) ≡ as_new (after_turn (Give (1, message)) p)
       is_told p e =
           let there : eqb p.desk.host k ≡ true = eq-eqb p.desk.host k (at_host w.ports x p e ∙ sym (eqb-true k x here)) in
           ap (λ b. told (changed_if b (after_turn (Give (1, message))) p)) there
           ∙ ap (λ b. changed_if b as_new (after_turn (Give (1, message)) p)) there
-
-      ups : (o : Option Port) → port_at w.ports x ≡ o → Takes o message → UpAt o → UpAt (option_map told (option_map given o))
-      ups o e t u = grind arith
-
-      keeps_it : (o : Option Port) → port_at w.ports x ≡ o → Takes o message → IsKeptNotice (read_in w) (option_and_then (λ (p : Port). p.desk.notice) o)
-          → IsKeptNotice (reads x (option_map_or (noted_of w.core (Give (1, message))) o []) (read_in w))
-          (option_and_then (λ (p : Port). p.desk.notice) (option_map told (option_map given o)))
-      keeps_it o e t b = grind arith
 
     pub tells : (w : Work) → (eqb k x ≡ true → Takes (port_at w.ports x) message) → is_notice message ≡ true → IsAbout about message
         → IsRightAbout about → IsOn w → IsOn (notified k about message w)
@@ -458,10 +441,6 @@ module _ (x : ℕ) (before : List Entry) (k : ℕ) where
   abbrev pending : Message → Option (List ℕ) → Option Notice → Type 0
   pending m r n = ((eqb k x && answers x k m) ≡ true → r ≡ None) × ((eqb k x && answers x k m) ≡ false → IsKeptNotice r n)
 
-  turn_read : (w : Work) (m : Message) → w.core.node ≡ 0 → (r : Option (List ℕ))
-      → reads x (entry.Turn (end_of_node w.core k) m.0 m.1 ∷ []) r ≡ cond (eqb k x && answers x k m) None r
-  turn_read w m node r = grind arith
-
   fetched_holds : (K : Option (List ℕ) → Option Notice → Type 0) (m : Message) (w : Work)
       → ((r : Option (List ℕ)) (n : Option Notice) → IsKeptNotice r n → K (cond (eqb k x && answers x k m) None r) n) → On w
       → Holds x before K (fetched m w)
@@ -470,7 +449,7 @@ module _ (x : ℕ) (before : List Entry) (k : ℕ) where
       desks x before K k (λ d. record d { holds = false }) (turn_at k FetchMessage noted) (λ d. refl) (λ d. refl)
       (turns x before K k FetchMessage noted (λ p r. refl)
       (notes x before IsKeptNotice K (entry.Turn (end_of_node w.core k) m.0 m.1 ∷ []) w
-      (λ r n b. subst (λ z. K z n) (sym (turn_read w m a.node r)) (one r n b)) a))
+      (λ r n b. subst (λ z. K z n) (sym (grind arith)) (one r n b)) a))
 
   fetched_takes : (m : Message) (w : Work) (message : List ℕ) → Takes (port_at w.ports x) message → Takes (port_at (fetched m w).ports x) message
   fetched_takes m w message takes =
@@ -486,7 +465,7 @@ module _ (x : ℕ) (before : List Entry) (k : ℕ) where
     two = a.two;
     hosts = all_map (λ (p : Port). IsHost p.desk.host) (λ (p : Port). IsHost p.desk.host) f (λ p b. subst IsHost (sym (host p)) b) w.ports a.hosts;
     right = all_map (λ (p : Port). IsRightNotice p.desk.notice) (λ (p : Port). IsRightNotice p.desk.notice) f right w.ports a.right;
-    up = subst UpAt (sym (at_all w.ports x f host)) (ups (port_at w.ports x) a.up);
+    up = subst UpAt (sym (at_all w.ports x f host)) (grind arith);
     kept = subst (λ o. IsKeptNotice (read_in x before w) (option_and_then (λ (p : Port). p.desk.notice) o)) (sym (at_all w.ports x f host))
         (go (cases_Bool (eqb k x)) (port_at w.ports x) refl a.kept);
   } where
@@ -501,9 +480,6 @@ module _ (x : ℕ) (before : List Entry) (k : ℕ) where
 
     right : (p : Port) → IsRightNotice p.desk.notice → IsRightNotice (f p).desk.notice
     right p b = by_test (eqb p.desk.host k) (λ q. rw q tt) (λ q. rw q b)
-
-    ups : (o : Option Port) → UpAt o → UpAt (option_map f o)
-    ups o u = grind arith
 
     go : (eqb k x ≡ true) ⊎ (eqb k x ≡ false) → (o : Option Port) → port_at w.ports x ≡ o
         → pending m (read_in x before w) (option_and_then (λ (p : Port). p.desk.notice) o)
@@ -544,7 +520,7 @@ module _ (x : ℕ) (before : List Entry) (k : ℕ) where
           (turns x before IsKeptNotice k FetchMessage noted (λ p r. refl)
           (notes x before K IsKeptNotice (entry.Turn (end_of_node w.core k) m.0 m.1 ∷ []) w
           (λ r n b. grind arith)
-          ((grind arith)))))
+          (grind arith))))
           (λ e. fetched_holds IsKeptNotice m w (λ r n kept. subst (λ c. IsKeptNotice (cond c None r) n) (sym e) kept) a)
 
   heard_stand : (m : Message) (deeds : List Deed) (w : Work) → On w → answers x k m ≡ true

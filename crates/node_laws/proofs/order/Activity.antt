@@ -87,9 +87,6 @@ IsLined r = is_open (renewed r) ≡ false
 pub lined_acts : (r : Role) (event : ActEvent) → IsLined r → IsLined (role_after r event)
 lined_acts r event a = grind arith
 
-lined_renewed : (r : Role) → IsLined r → IsLined (renewed r)
-lined_renewed r a = grind arith
-
 abbrev HasLine : LinkEnd → Type 0
 HasLine e = IsLined e.role
 
@@ -100,17 +97,14 @@ lined_turns : (e : LinkEnd) (ts : List Turn) → HasLine e → HasLine (turned e
 lined_turns e ts a = subst IsLined (sym (turned_role e ts)) a
 
 lined_here : (l : Link) (x : EndEvent) → HasLine l.controller.side → HasLine (happens_at_controller l x).controller.side
-lined_here l x a = here_is HasLine lined_input lined_turns (λ e b. b) (λ e b. lined_renewed e.role b) l x a
+lined_here l x a = here_is HasLine lined_input lined_turns (λ e b. b) (λ e b. grind arith) l x a
 
 lined_tick : (l : Link) (ts : List Turn) (ending : Ending) → HasLine l.controller.side → HasLine (ticks_at_controller l ts ending).controller.side
-lined_tick l ts ending a = tick_is HasLine lined_input lined_turns (λ e b. b) (λ e b. lined_renewed e.role b) l ts ending a
+lined_tick l ts ending a = tick_is HasLine lined_input lined_turns (λ e b. b) (λ e b. grind arith) l ts ending a
 
 -- what an input tells of activation is what it makes of the end
 abbrev BecomesSo : LinkEnd → LinkInput → Bool → Type 0
 BecomesSo e i b = if_became (report e i).became_active b ≡ is_open (after_input e i).role
-
-ticks_so : (e : LinkEnd) → BecomesSo e HasTick (is_open e.role)
-ticks_so e = grind arith
 
 -- activation that begins or ends leaves the end inactive
 starts_so : (e : LinkEnd) (value : ℕ) → HasLine e → BecomesSo e (Start value) false
@@ -159,8 +153,7 @@ module _ (who : End) (l k : Link) (number : ℕ) (i : LinkInput) (ts : List Turn
   input_acted b so a =
       let e : LinkEnd = l.controller.side in
       let n : ℕ = number_of (record l.controller { took = number }) in
-      let first : List Noted = told who n (report e i) (whole_acked (after_input e i)) in
-      acting-append who b first (rest_entries who k (after_input e i) ts ending)
+      acting-append who b (told who n (report e i) (whole_acked (after_input e i))) (rest_entries who k (after_input e i) ts ending)
       ∙ (ap (λ z. all_acting who z (rest_entries who k (after_input e i) ts ending))
       (told_parts who who n (report e i) (whole_acked (after_input e i)) b ∙ (grind arith))
       ∙ rest_acted who k (after_input e i) ts ending (if_became (report e i).became_active b) so (lined_input e i a))
@@ -169,8 +162,7 @@ module _ (who : End) (l k : Link) (number : ℕ) (i : LinkInput) (ts : List Turn
   input_beside b =
       let e : LinkEnd = l.controller.side in
       let n : ℕ = number_of (record l.controller { took = number }) in
-      let first : List Noted = told who n (report e i) (whole_acked (after_input e i)) in
-      acting-append (far who) b first (rest_entries who k (after_input e i) ts ending)
+      acting-append (far who) b (told who n (report e i) (whole_acked (after_input e i))) (rest_entries who k (after_input e i) ts ending)
       ∙ (ap (λ z. all_acting (far who) z (rest_entries who k (after_input e i) ts ending))
       (told_parts (far who) who n (report e i) (whole_acked (after_input e i)) b ∙ (grind arith))
       ∙ rest_beside who k (after_input e i) ts ending b)
@@ -189,7 +181,7 @@ own_input who l i ts ending so a =
 
 tick_acted : (who : End) (l : Link) (node : Node) → HasLine l.controller.side
     → Acted who l (ticks_at_controller l node.turns node.ending) (tick_entries who l node)
-tick_acted who l node a = own_input who l HasTick node.turns node.ending (ticks_so l.controller.side) a
+tick_acted who l node a = own_input who l HasTick node.turns node.ending (grind arith) a
 
 -- activation begins or ends
 restart_acted : (who : End) (l : Link) (i : LinkInput) (ts : List Turn) (ending : Ending) → BecomesSo l.controller.side i false → HasLine l.controller.side
@@ -199,10 +191,9 @@ restart_acted who l i ts ending so a =
     let k : Link = silent l (after_input l.controller.side i) in
     let us : List Noted = told_of who l.controller i ++ rest_entries who k (after_input l.controller.side i) ts ending in
     let q = same_self who in
-    let p = same_far who in
     record {
       here = ap (λ x. all_acting who (if x then false else acts l.controller) us) q ∙ input_acted who l k l.controller.took i ts ending false so a;
-      there = λ b. ap (λ x. all_acting (far who) (if x then false else b) us) p ∙ input_beside who l k l.controller.took i ts ending b;
+      there = λ b. ap (λ x. all_acting (far who) (if x then false else b) us) (same_far who) ∙ input_beside who l k l.controller.took i ts ending b;
     }
 
 -- a step that takes no frame
@@ -232,13 +223,12 @@ frame_acted who l ts ending order a = go l.to_controller refl
     go [] q = grind arith
     go (x ∷ xs) q =
         let some : u ≡ taken_entries who l x xs ts ending = rw q refl in
-        let next : m ≡ has_taken l x xs ts ending = rw q refl in
         let W : List OnWire → Type 0 = λ w. ActsInOrder l.controller.side.role l.host.side.role w l.to_host in
         let so : BecomesSo l.controller.side (Take x.frame) (acts l.controller) =
         takes_so l.controller.side l.host.side.role x xs l.to_host (subst W q order) in
         let k : Link = left_after l x xs in
         let number : ℕ = took_with l.controller.took x in
-        subst P (sym next) (subst (λ (z : List Noted). Acted who l (has_taken l x xs ts ending) z) (sym some) (record {
+        subst P (sym (rw q refl)) (subst (λ (z : List Noted). Acted who l (has_taken l x xs ts ending) z) (sym some) (record {
           here = input_acted who l k number (Take x.frame) ts ending (acts l.controller) so a;
           there = input_beside who l k number (Take x.frame) ts ending;
         }))

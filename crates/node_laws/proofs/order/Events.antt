@@ -1,16 +1,15 @@
 -- What is known of each link by what was noted so far lasts: each event of a world but a tick leaves each link told.
 use Rattle.node_laws.proofs.Words.{AllByRecursion, AtController, AtEnd, AtHost, Bool, Clf, Comes, Controller, CutOff, Deed, Desk, End, EndEvent, Entry, HasEnds}
 use Rattle.node_laws.proofs.Words.{Host, IfItRuns, IfOff, IsClf, IsLinkTold, IsOrderly, IsUicc, Link, LinkEnd, LinkEvent, LinkInput, List, Lose, Loss, Memory}
-use Rattle.node_laws.proofs.Words.{NoInput, NodeWorld, None, NumberedEnd, OnWire, Option, Role, Running, Site, Some, Standing, StandsOf, Step, TellOf, Turn}
-use Rattle.node_laws.proofs.Words.{Uicc, Work, [], after_controller, after_host, after_link_events, after_planned, ap, append-nil, arith, arrival, begins_with}
-use Rattle.node_laws.proofs.Words.{boot_found, boot_writes, boot_written, boots, by_boot, by_coming, by_controller, by_counts, by_memory, by_option, by_power}
-use Rattle.node_laws.proofs.Words.{by_running, by_test, changed_if, changed_same, comes_at, comes_to, cond, controller_does, controller_work, count_of, counts}
-use Rattle.node_laws.proofs.Words.{ending_of, entries, entries_for, eqb-true, errors_all, event_entries, exchanged, false, first_lost, fold-append, frame_lost}
-use Rattle.node_laws.proofs.Words.{happens, happens_at_controller, host_cut, host_does, host_work, hosts_in, input_of, kept, law_noted, link_after_controller}
-use Rattle.node_laws.proofs.Words.{link_to, links_of, loses_power_at, map, memory_at, near_end_in, new_clf, new_desk, new_line, new_link_end, new_standing}
-use Rattle.node_laws.proofs.Words.{new_uicc, of_link, refl, renewed, runs_on, same_number, site_at, standing, standing_by_law, stands_noted, steps, subst, sym}
-use Rattle.node_laws.proofs.Words.{true, turns_at, with_memory, with_node, with_site, work_of, ℕ, ◌++◌, ◌==◌, ◌∙◌, ◌∷◌, ◌≡◌}
-use Rattle.link_laws.specs.entries.Entries.{End as Side}
+use Rattle.node_laws.proofs.Words.{NoInput, NodeWorld, None, NumberedEnd, Option, Role, Running, Site, Some, Standing, StandsOf, Step, TellOf, Turn, Uicc, Work}
+use Rattle.node_laws.proofs.Words.{[], after_controller, after_host, after_link_events, after_planned, ap, append-nil, arith, arrival, begins_with, boot_found}
+use Rattle.node_laws.proofs.Words.{boot_writes, boot_written, boots, by_boot, by_coming, by_controller, by_counts, by_memory, by_option, by_power, by_running}
+use Rattle.node_laws.proofs.Words.{by_test, changed_if, changed_same, comes_at, comes_to, cond, controller_does, controller_work, count_of, counts, ending_of}
+use Rattle.node_laws.proofs.Words.{entries, entries_for, eqb-true, errors_all, event_entries, exchanged, false, first_lost, fold-append, frame_lost, happens}
+use Rattle.node_laws.proofs.Words.{happens_at_controller, host_cut, host_does, host_work, hosts_in, input_of, kept, law_noted, link_after_controller, link_to}
+use Rattle.node_laws.proofs.Words.{links_of, loses_power_at, map, memory_at, near_end_in, new_clf, new_desk, new_line, new_link_end, new_standing, new_uicc}
+use Rattle.node_laws.proofs.Words.{of_link, refl, renewed, runs_on, same_number, site_at, standing, standing_by_law, stands_noted, steps, subst, sym, true}
+use Rattle.node_laws.proofs.Words.{turns_at, with_memory, with_node, with_site, work_of, ℕ, ◌++◌, ◌==◌, ◌∙◌, ◌∷◌, ◌≡◌}
 use Rattle.node_laws.proofs.links.Works.{AreFine, IsFineWork, all_done_fine, steps_fine}
 use Rattle.node_laws.proofs.links.Sites.{MayCome, can_come, can_end, clf_line, here_clf, here_host, here_uicc, run_of_more, uicc_line}
 use Rattle.node_laws.proofs.links.Worlds.{AreTrueDesks, AtHostOnly, CanReach, IsFineNode, IsFineSite, IsFineWorld, fine_clean, may_here, memory_fine}
@@ -274,14 +273,13 @@ module _ (w : NodeWorld) (t : List Entry) (X : ℕ → WatchedLink) (a : IsWell 
         let fine : IsFineSite s = site_is IsFineSite w.sites h s a.fine.sites there in
         let here : Comes = comes_to k comes s.host in
         let e : LinkEvent = near_event s in
-        let number : s.host ≡ h = site_host w.sites h s there in
         let n : IsStepOf h s.link e u = near_step h s there in
         record {
           told = told_more h s.link e t u n b.told;
           shown = let W : ℕ → Type 0 = λ m. Shown (happens s.link e) (watched h (opened (comes_to k comes m) (X h)) u) in
-              subst W number (step_shown h s.link e t u (X h) b.told n b.shown Controller here (ending_of v)
+              subst W (site_host w.sites h s there) (step_shown h s.link e t u (X h) b.told n b.shown Controller here (ending_of v)
               (shaped_step Controller s.link here (turns_at v s.host) (ending_of v) (cond (s.host == k) (Some i) None) (arrives (s.host == k) refl)
-              (is_so (s.host == k))));
+              (grind arith)));
           near = off v.cut refl fine.link.line.clf;
           far = subst (IfOff s.node (new_link_end (Uicc new_uicc))) (sym (near_side s.link (Step here (turns_at v s.host) (ending_of v)))) b.far;
           none = b.none;
@@ -292,21 +290,17 @@ module _ (w : NodeWorld) (t : List Entry) (X : ℕ → WatchedLink) (a : IsWell 
             ap (λ l. input_of l comes) (sym (ap (link_to w.sites) (sym (eqb-true s.host k e) ∙ site_host w.sites h s there) ∙ link_is w.sites h s there)) ∙ q
         arrives false e = refl
 
-        is_so : (b : Bool) → IsStep (cond b comes NoInput) (cond b (Some i) None)
-        is_so b = grind arith
-
         off : (c : Bool) → v.cut ≡ c → IsClf s.link.controller.side.role
             → IfOff (runs_on v) (new_link_end (Clf new_clf))
             (happens s.link (AtController (Step (comes_to k comes s.host) (turns_at v s.host) (ending_of v)))).controller.side
         off true e clf =
             let none : runs_on v ≡ None = rw e refl in
-            let ending : ending_of v ≡ CutOff = rw e refl in
             let G : Option Running → Type 0 = λ o. IfOff o (new_link_end (Clf new_clf))
             (happens s.link (AtController (Step (comes_to k comes s.host) (turns_at v s.host) (ending_of v)))).controller.side in
             subst G (sym none)
-            (ap (λ x. (happens s.link (AtController (Step (comes_to k comes s.host) (turns_at v s.host) x))).controller.side) ending
+            (ap (λ x. (happens s.link (AtController (Step (comes_to k comes s.host) (turns_at v s.host) x))).controller.side) (rw e refl)
             ∙ cut_clf s.link (comes_to k comes s.host) (turns_at v s.host) (cond (s.host == k) (Some i) None) (arrives (s.host == k) refl)
-            (is_so (s.host == k)) clf)
+            (grind arith) clf)
         off false e clf = grind arith
 
     pub after : Each (t ++ u) Y (after_controller w k comes v).0
@@ -382,7 +376,7 @@ module _ (w : NodeWorld) (t : List Entry) (X : ℕ → WatchedLink) (a : IsWell 
               (shaped_step Host (exchanged s.link) comes (turns_at worked s.host) (ending_of worked) o (q s there) so));
           near = subst N (sym (far_side s.link (Step comes (turns_at worked s.host) (ending_of worked)))) b.near;
           far = off worked.cut refl;
-          none = runs_none worked (plain _ (record { host = host; none = ports_none r.desks desks_none }));
+          none = runs_none worked (plain _ (record { host = host; none = ports_none r.desks (subst IfNone runs b.none) }));
         }
       where
         host : (r.core.node == 0) ≡ false
@@ -390,9 +384,6 @@ module _ (w : NodeWorld) (t : List Entry) (X : ℕ → WatchedLink) (a : IsWell 
             let node : HasEnds s.host (s.host ∷ []) r =
             node_is s.host (s.host ∷ []) s.node r (site_is (λ (x : Site). IfItRuns x.host (x.host ∷ []) x.node) w.sites k s a.orderly.nodes there) runs in
             ap (λ n. n == 0) node.number ∙ site_is (λ (x : Site). (x.host == 0) ≡ false) w.sites k s a.orderly.hosts there
-
-        desks_none : AllByRecursion (λ (d : Desk). d.notice ≡ None) r.desks
-        desks_none = subst IfNone runs b.none
 
         ports_none : (ds : List Desk) → AllByRecursion (λ (d : Desk). d.notice ≡ None) ds
             → AllByRecursion (λ p. p.desk.notice ≡ None) (ports_for (λ j. near_end_in (exchanged s.link) comes) ds)
@@ -404,11 +395,10 @@ module _ (w : NodeWorld) (t : List Entry) (X : ℕ → WatchedLink) (a : IsWell 
             (happens_at_controller (exchanged s.link) (Step comes (turns_at worked s.host) (ending_of worked))).controller.side
         off true e =
             let none : runs_on worked ≡ None = rw e refl in
-            let ending : ending_of worked ≡ CutOff = rw e refl in
             let G : Option Running → Type 0 = λ o. IfOff o (new_link_end (Uicc new_uicc))
             (happens_at_controller (exchanged s.link) (Step comes (turns_at worked s.host) (ending_of worked))).controller.side in
             subst G (sym none)
-            (ap (λ x. (happens_at_controller (exchanged s.link) (Step comes (turns_at worked s.host) x)).controller.side) ending
+            (ap (λ x. (happens_at_controller (exchanged s.link) (Step comes (turns_at worked s.host) x)).controller.side) (rw e refl)
             ∙ cut_uicc (exchanged s.link) comes (turns_at worked s.host) o (q s there) so site_fine.link.line.uicc)
         off false e = grind arith
 
@@ -434,22 +424,17 @@ module _ (w : NodeWorld) (t : List Entry) (X : ℕ → WatchedLink) (a : IsWell 
 
 -- ### What comes to an end
 
--- activation neither begins nor ends
-plain_at : (comes : Comes) → ((x : WatchedLink) → opened comes x ≡ x) → (b : Bool) (x : WatchedLink) → opened (cond b comes NoInput) x ≡ x
-plain_at comes plain b x = grind arith
-
 pub comes_each : (w : NodeWorld) (t : List Entry) (X : ℕ → WatchedLink) (e : End) (comes : Comes) → IsWell w → Each t X w → MayCome comes
     → AllByRecursion (AtHostOnly (CanReach comes) e.link) w.sites → ((x : WatchedLink) → opened comes x ≡ x)
     → Each (t ++ (comes_at w e comes).1) (later X (comes_at w e comes).1) (comes_at w e comes).0
 comes_each w t X e comes a each may reach plain =
     by_coming (λ z. Each (t ++ z.1) (later X z.1) z.0) w e comes (each_empty t X w each)
     (λ i at q.
-    let input : (s : Site) → site_at w.sites e.link ≡ Some s → input_of (exchanged s.link) comes ≡ Some i =
-    λ s found. ap (λ l. input_of (exchanged l) comes) (sym (link_is w.sites e.link s found)) ∙ q in
+    let input : (s : Site) → site_at w.sites e.link ≡ Some s → input_of (exchanged s.link) comes ≡ Some i = grind arith in
     host_each w t X a each e.link comes (steps (AtEnd e.link i)) reach
     (λ s n found runs. host_does_step w s n e.link a.orderly found runs comes i (input s found))
     (λ v b. steps_fine (AtEnd e.link i) v b) (λ v b. steps_none (AtEnd e.link i) v b) (Some i) (is_step comes i) input (λ s found. plain (X e.link)))
-    (λ i at q. controller_each w t X a each e.link comes i may q (λ h. plain_at comes plain (h == e.link) (X h)))
+    (λ i at q. controller_each w t X a each e.link comes i may q (λ h. grind arith))
 
 pub begins_each : (w : NodeWorld) (t : List Entry) (X : ℕ → WatchedLink) (k : ℕ) (deeds : List Deed) → AreMute deeds → AreFine deeds → AreUnnoticed deeds
     → IsWell w → Each t X w
@@ -575,8 +560,7 @@ lost_each w t X e why each = by_test e.at_host
     (λ q. rw q (each_site w w.memory w.controller t to_host X e.link
     (λ s. record s { link = happens s.link (AtHost (Lose why)); node = counts why e.link s.node }) (λ s. refl) (λ h s b. b)
     (λ s there b.
-    let told : TellOf e.link s.link (AtHost (Lose why)) to_host =
-    ap (λ (l : Link). of_link e.link (entries_for e.link (first_lost Host why l.to_host))) (link_is w.sites e.link s there) in
+    let told : TellOf e.link s.link (AtHost (Lose why)) to_host = grind arith in
     let n : IsStepOf e.link s.link (AtHost (Lose why)) to_host = record {
       can = tt;
       tells = told;
@@ -591,7 +575,7 @@ lost_each w t X e why each = by_test e.at_host
       far = counts_off why e.link s.node (new_link_end (Uicc new_uicc)) s.link.host.side b.far;
       none = counts_none why e.link s.node b.none;
     })
-    (λ h z. leaves Host (link_to w.sites e.link).to_host h z) each))
+    (λ h z. grind arith) each))
     (λ q. rw q (each_site w w.memory (counts why e.link w.controller) t to_controller X e.link
     (λ s. record s { link = happens s.link (AtController (Lose why)) }) (λ s. refl)
     (λ h s b. counts_off why e.link w.controller (new_link_end (Clf new_clf)) s.link.controller.side b)
@@ -612,13 +596,10 @@ lost_each w t X e why each = by_test e.at_host
       far = b.far;
       none = b.none;
     })
-    (λ h z. leaves Controller (link_to w.sites e.link).to_controller h z) each))
+    (λ h z. grind arith) each))
   where
     to_host : List Entry
     to_host = entries_for e.link (first_lost Host why (link_to w.sites e.link).to_host)
 
     to_controller : List Entry
     to_controller = entries_for e.link (first_lost Controller why (link_to w.sites e.link).to_controller)
-
-    leaves : (who : Side) (wire : List OnWire) (h : ℕ) → (e.link == h) ≡ false → LeaveLink h (entries_for e.link (first_lost who why wire))
-    leaves who wire h z = grind arith

@@ -5,20 +5,18 @@ use Rattle.node_laws.proofs.Words.{GoesOut, Good, Got, HasTick, Host, IsDown, Is
 use Rattle.node_laws.proofs.Words.{Loss, Lost, Message, NextFrame, NoInput, Node, NumberedEnd, OnWire, Option, Reached, Report, Reset, Restarted, SafeLink}
 use Rattle.node_laws.proofs.Words.{Seen, Sent, Start, Starts, Step, Stop, Stops, Take, TicksWithout, Took, Turn, [], activated, after_input, aged, aged_entries}
 use Rattle.node_laws.proofs.Words.{all_at_controller, ap, arith, begins, by_list, by_test, clf_starts, core_end, core_event, core_here, core_of, core_tick_rest}
-use Rattle.node_laws.proofs.Words.{ended_by, ending_entries, entries, entries_of_events, eqb-true, event_entries, event_step, exchanged, false, far, finished}
+use Rattle.node_laws.proofs.Words.{ended_by, ending_entries, entries, entries_of_events, eqb-true, event_entries, event_step, exchanged, false, finished}
 use Rattle.node_laws.proofs.Words.{first_lost, frames_out, happens, happens_at_controller, here_entries, host_finished, if_so, inl, inr, is_some, kept}
-use Rattle.node_laws.proofs.Words.{left_after, list_any, map, most_frames, moved, nat_lt, number_of, option_to_list, pushed_out, put, put_entries, puts_entries}
+use Rattle.node_laws.proofs.Words.{left_after, list_any, map, most_frames, moved, nat_lt, number_of, option_to_list, put, put_entries, puts_entries}
 use Rattle.node_laws.proofs.Words.{reached_more, refl, report, reset_role, rest_entries, rests_of, safe_reached, see, see_all, silences, silent, step_entries}
-use Rattle.node_laws.proofs.Words.{steps_at_controller, stopped, subst, sym, taken_entries, tick_entries, ticks_at_controller, told, told_of, took_with, true}
-use Rattle.node_laws.proofs.Words.{true≢false, turn, turn_entries, turn_entry, turned, turned_same, whole_acked, wire_with, with_ended, ℕ, ◌++◌, ◌<◌, ◌==◌}
-use Rattle.node_laws.proofs.Words.{◌||◌, ◌∙◌, ◌∷◌, ◌≡◌, ◌≤◌, ◌⊎◌}
+use Rattle.node_laws.proofs.Words.{steps_at_controller, stopped, subst, sym, tick_entries, ticks_at_controller, told, told_of, took_with, true, true≢false}
+use Rattle.node_laws.proofs.Words.{turn, turn_entries, turn_entry, turned, turned_same, whole_acked, with_ended, ℕ, ◌++◌, ◌==◌, ◌∙◌, ◌∷◌, ◌≡◌, ◌≤◌, ◌⊎◌}
 use Rattle.link_laws.proofs.entries.Noting.{restart_can, tick_can}
 use Rattle.link_laws.proofs.entries.Running.{host_here}
 use Rattle.link_laws.proofs.entries.Seeing.{all_seen, here_seen, seen_as, step_seen, tick_seen}
 use Rattle.link_laws.proofs.messages.Finishing.{can_end, restart_mid, step_tick, took_can}
 use Rattle.link_laws.proofs.messages.Project.{Now, Tells, frames_alike, host_ended as ended_host}
 use Rattle.link_laws.proofs.messages.Runs.{all_step, own_here, own_turns, rest_both}
-use Rattle.link_laws.proofs.sessions.Data.{bound}
 use Rattle.link_laws.proofs.sessions.Steps.{safe_aged, safe_turns, tick_if_waiting, tick_or_cut}
 use Rattle.link_laws.specs.entries.Entries.{End, Entry}
 use Rattle.link_laws.specs.entries.Entries.Entry.{Tick, Up}
@@ -84,19 +82,15 @@ module _ (f : Entry → Bool) where
         let g : List Entry = map (Got who n) r.got in
         began (hears_parts b (c ++ (d ++ (e ++ g))) (none (none_option (Down who) r.ended (deaf.down who)) (hears_parts a (b ++ (c ++ (d ++ (e ++ g)))) q)))
       where
-        so : (x : Bool) → Hears (if_so x (Up who n)) → (x ≡ true) × (f (Up who n) ≡ true)
-        so x z = grind arith
-
         began : Hears (if_so r.began (Up who n)) ⊎ Hears (if_so r.became_active (Active who) ++ (map (GaveUp who) (option_to_list r.gave_up)
             ++ (if_so (nat_lt 0 r.acked) (Acked who n acked) ++ map (Got who n) r.got))) → (r.began ≡ true) × (f (Up who n) ≡ true)
-        began (inl x) = so r.began x
+        began (inl x) = grind arith
         began (inr x) =
             let c : List Entry = if_so r.became_active (Active who) in
             let d : List Entry = map (GaveUp who) (option_to_list r.gave_up) in
             let e : List Entry = if_so (nat_lt 0 r.acked) (Acked who n acked) in
             let g : List Entry = map (Got who n) r.got in
-            let y = none (none_so r.became_active (Active who) (deaf.active who)) (hears_parts c (d ++ (e ++ g)) x) in
-            let z = none (none_option (GaveUp who) r.gave_up (deaf.gave_up who)) (hears_parts d (e ++ g) y) in
+            let z = none (none_option (GaveUp who) r.gave_up (deaf.gave_up who)) (hears_parts d (e ++ g) (grind arith)) in
             absurd (none_got who n r.got
             (none (none_so (nat_lt 0 r.acked) (Acked who n acked) (deaf.acked who n acked)) (hears_parts e g z)))
 
@@ -111,15 +105,12 @@ module _ (f : Entry → Bool) where
     none_first : (who : End) (why : Loss) (w : List OnWire) → Hears (first_lost who why w) → ⊥
     none_first who why w q = grind arith
 
-    none_pushed : (who : End) (w : List OnWire) → Hears (pushed_out who w) → ⊥
-    none_pushed who w q = grind arith
-
     none_puts : (who : End) (cs : List Control) (l : Link) → AllByRecursion (λ c. f (Emit who c) ≡ false) cs → Hears (puts_entries who l cs) → ⊥
     none_puts who [] l a q = true≢false (sym q)
     none_puts who (c ∷ cs) l a q = go (hears_parts (put_entries who l c) (puts_entries who (put l c) cs) q) (none_puts who cs (put l c) a.1)
       where
         go : Hears (put_entries who l c) ⊎ Hears (puts_entries who (put l c) cs) → (Hears (puts_entries who (put l c) cs) → ⊥) → ⊥
-        go (inl x) later = none_pushed (far who) (wire_with l c) (let r = a.0 in let z = x in rw r at z)
+        go (inl x) later = grind arith
         go (inr x) later = later x
 
     -- a cut
@@ -129,12 +120,9 @@ module _ (f : Entry → Bool) where
         go ending (none (none_turns who (number_of l.controller) ts e)
         (hears_parts (turn_entries who (number_of l.controller) e ts) (ending_entries who l (turned e ts) ending) q))
       where
-        up : (y : Bool) → (y || false) ≡ true → y ≡ true
-        up y w = grind arith
-
         go : (ending : Ending) → Hears (ending_entries who l (turned e ts) ending) → (ending ≡ CutOff) × (f (Cut who) ≡ true)
         go GoesOut x = absurd (none_puts who (frames_out (turned e ts)) l (deaf.emit who (turned e ts)) x)
-        go CutOff x = (refl, up (f (Cut who)) x)
+        go CutOff x = (refl, grind arith)
 
     -- of a step in which an input comes
     input_heard : (who : End) (h : NumberedEnd) (i : LinkInput) (k : Link) (e : LinkEnd) (ts : List Turn) (ending : Ending)
@@ -212,8 +200,7 @@ step_down who l NextFrame ts ending a now q = go l.to_controller refl
     go (x ∷ xs) p =
         let h : NumberedEnd = record l.controller { took = took_with l.controller.took x } in
         let k : Link = left_after l x xs in
-        let z : Hears silences (taken_entries who l x xs ts ending) = rw p at q in
-        let c = cut_of not_so (input_heard silences silences_deaf who h (Take x.frame) k (after_input e (Take x.frame)) ts ending z) in
+        let c = cut_of not_so (input_heard silences silences_deaf who h (Take x.frame) k (after_input e (Take x.frame)) ts ending (rw p at q)) in
         rw p (cut_down k (turned (after_input e (Take x.frame)) ts) ending
         (can_end (after_input e (Take x.frame)) ts (took_frame e x.frame).role ending refl (took_can e x.frame ending a.1)) c.0)
 step_down who l (AsksReset window) ts ending a now q =
@@ -241,10 +228,6 @@ tick_down who l node a q =
     let c = cut_of not_so (input_heard silences silences_deaf who l.controller HasTick k (after_input e HasTick) node.turns node.ending q) in
     cut_down k (turned (after_input e HasTick) node.turns) node.ending (tick_can e node.turns node.ending a.1) c.0
 
--- an end that is Down with a number
-down_past : (n : ℕ) (h : NumberedEnd) → h.side.shdlc.phase ≡ IsDown → n ≤ number_of h → n < bound (core_end h)
-down_past n h p q = rw p (omega (arith, q))
-
 -- ### What no step notes
 
 -- nor are these heard at all
@@ -266,9 +249,8 @@ module _ (f : Entry → Bool) (mute : HearsNone f) where
   step_mute who l NextFrame ts ending q = by_list l.to_controller
       (λ p. true≢false (sym (rw p at q)))
       (λ x xs p. let h : NumberedEnd = record l.controller { took = took_with l.controller.took x } in
-      let z : Hears f (taken_entries who l x xs ts ending) = rw p at q in
       let r = mute.deaf.took who x.frame in
-      input_mute who h (Take x.frame) (left_after l x xs) (after_input l.controller.side (Take x.frame)) ts ending (rw r at z))
+      input_mute who h (Take x.frame) (left_after l x xs) (after_input l.controller.side (Take x.frame)) ts ending (rw r at (rw p at q)))
   step_mute who l (AsksReset window) ts ending q =
       let i : LinkInput = Reset window in
       input_mute who l.controller i (with_ended l (is_some (ended_by l.controller.side i))) (after_input l.controller.side i) ts ending q
@@ -280,8 +262,7 @@ module _ (f : Entry → Bool) (mute : HearsNone f) where
       let i : LinkInput = Stop in
       let r = mute.restarted who in
       input_mute who l.controller i (silent l (after_input l.controller.side i)) (after_input l.controller.side i) ts ending (let z = q in rw r at z)
-  step_mute who l NoInput ts ending q =
-      true≢false (sym (rest_heard f mute.deaf who l l.controller.side ts ending q).1 ∙ mute.cut who)
+  step_mute who l NoInput ts ending q = true≢false (sym (rest_heard f mute.deaf who l l.controller.side ts ending q).1 ∙ mute.cut who)
 
   here_mute : (who : End) (l : Link) (e : EndEvent) → Hears f (here_entries who l e) → ⊥
   here_mute who l (Step comes ts ending) q = step_mute who l comes ts ending q
@@ -308,22 +289,20 @@ module _ (f : Entry → Bool) (mute : HearsNone f) where
       let ds : List Entry = entries_of_events Controller near es in
       let fs : List Entry = tick_entries Host (exchanged (all_at_controller near es)) h in
       let tick = mute.deaf.tick in
-      let first : Hears f (aged_entries Controller l.to_controller ++ (aged_entries Host l.to_host ++ (cs ++ (ds ++ fs)))) = rw tick at q in
       tick_mute Host (exchanged (all_at_controller near es)) h (none f mute.deaf (all_mute es near) (hears_parts f ds fs
       (none f mute.deaf (tick_mute Controller (aged l) c) (hears_parts f cs (ds ++ fs)
       (none f mute.deaf (none_aged f mute.deaf Host l.to_host) (hears_parts f (aged_entries Host l.to_host) (cs ++ (ds ++ fs))
       (none f mute.deaf (none_aged f mute.deaf Controller l.to_controller)
-      (hears_parts f (aged_entries Controller l.to_controller) (aged_entries Host l.to_host ++ (cs ++ (ds ++ fs))) first))))))))
+      (hears_parts f (aged_entries Controller l.to_controller) (aged_entries Host l.to_host ++ (cs ++ (ds ++ fs))) (rw tick at q)))))))))
   event_mute l (TicksWithout es h) q =
       let near : Link = aged l in
       let ds : List Entry = entries_of_events Controller near es in
       let fs : List Entry = tick_entries Host (exchanged (all_at_controller near es)) h in
       let tick = mute.deaf.tick in
-      let first : Hears f (aged_entries Controller l.to_controller ++ (aged_entries Host l.to_host ++ (ds ++ fs))) = rw tick at q in
       tick_mute Host (exchanged (all_at_controller near es)) h (none f mute.deaf (all_mute es near) (hears_parts f ds fs
       (none f mute.deaf (none_aged f mute.deaf Host l.to_host) (hears_parts f (aged_entries Host l.to_host) (ds ++ fs)
       (none f mute.deaf (none_aged f mute.deaf Controller l.to_controller)
-      (hears_parts f (aged_entries Controller l.to_controller) (aged_entries Host l.to_host ++ (ds ++ fs)) first))))))
+      (hears_parts f (aged_entries Controller l.to_controller) (aged_entries Host l.to_host ++ (ds ++ fs)) (rw tick at q)))))))
   event_mute l (Activate power c id h) q =
       let k : Link = exchanged (steps_at_controller l (Starts power) c.turns c.ending) in
       step_mute Host k (Starts id) h.turns h.ending (none f mute.deaf (step_mute Controller l (Starts power) c.turns c.ending)
@@ -371,11 +350,7 @@ step_gone n who l k u seen w r q down =
 -- more RSETs only
 resets_more : (n : ℕ) (who : End) (l k : Link) (u : List Entry) → see_all (seen_as who l) u ≡ seen_as who k → n ≤ l.resets → n ≤ k.resets
 resets_more n who l k u seen r =
-    let a = all_resets u (seen_as who l) in
-    let b : (see_all (seen_as who l) u).resets ≡ (seen_as who k).resets = ap (λ (s : Seen). s.resets) seen in
-    let c = near_resets who l in
-    let d = near_resets who k in
-    omega (arith, r, a, b, c, d)
+    omega (arith, r, all_resets u (seen_as who l), (ap (λ (s : Seen). s.resets) seen), near_resets who l, near_resets who k)
 
 -- things of its own happen there
 all_keeps : (n kf : ℕ) (es : List EndEvent) (l : Link) → AreOwn l es → Tells l.controller → SafeLink 0 kf (core_of l)
@@ -431,8 +406,7 @@ rest_silenced : (n : ℕ) (es : List EndEvent) (near : Link) (h : Node) → AreO
     → Tells near.controller → SafeLink 0 1 (core_of near) → n ≤ near.resets
     → Hears silences (entries_of_events Controller near es) ⊎ Hears silences (tick_entries Host (exchanged (all_at_controller near es)) h)
     → Gone n (exchanged (ticks_at_controller (exchanged (all_at_controller near es)) h.turns h.ending))
-rest_silenced n es near h a node tells safe r (inl x) =
-    inl (tick_keeps n (all_at_controller near es) h (all_silenced n 1 es near a tells safe r x))
+rest_silenced n es near h a node tells safe r (inl x) = inl (tick_keeps n (all_at_controller near es) h (all_silenced n 1 es near a tells safe r x))
 rest_silenced n es near h a node tells safe r (inr x) =
     let m : Link = all_at_controller near es in
     let all = all_step 1 near es a tells safe in
@@ -455,8 +429,7 @@ event_silenced n l (AtHost e) a g r i q =
 event_silenced n l (Ticks c es h) a g r i q =
     let s0 = safe_aged (core_of l) (safe_reached (core_of l) r) in
     let near : Link = ticks_at_controller (aged l) c.turns c.ending in
-    let rests = rests_of 1 1 (core_of (aged l)) s0 in
-    let one = step_tick (aged l) c.turns c.ending a.0.0 a.0.1 g.controller rests in
+    let one = step_tick (aged l) c.turns c.ending a.0.0 a.0.1 g.controller (rests_of 1 1 (core_of (aged l)) s0) in
     let t1 = core_tick l.controller.side c.turns c.ending in
     let rest : List CoreEndEvent = core_tick_rest l.controller.side c.turns c.ending in
     let first : CoreLink = core_ticks_or_cut t1 (core_aged (core_of l)) in
@@ -490,12 +463,11 @@ event_silenced n l (TicksWithout es h) a g r i q =
     let s0 = safe_aged (core_of l) (safe_reached (core_of l) r) in
     let near : Link = aged l in
     let same : core_ticks_if_waiting (core_aged (core_of l)) ≡ core_of near = rw a.0 refl in
-    let near_safe : SafeLink 0 1 (core_of near) = subst (λ (d : CoreLink). SafeLink 0 1 d) same (tick_if_waiting 1 (core_aged (core_of l)) s0) in
     let aged_near : List Entry = aged_entries Controller l.to_controller in
     let aged_far : List Entry = aged_entries Host l.to_host in
     let ds : List Entry = entries_of_events Controller near es in
     let fs : List Entry = tick_entries Host (exchanged (all_at_controller near es)) h in
-    rest_silenced n es near h a.1 a.2 g.controller near_safe i
+    rest_silenced n es near h a.1 a.2 g.controller (subst (λ (d : CoreLink). SafeLink 0 1 d) same (tick_if_waiting 1 (core_aged (core_of l)) s0)) i
     (hears_parts silences ds fs (but (none_aged silences silences_deaf Host l.to_host) (hears_parts silences aged_far (ds ++ fs)
     (but (none_aged silences silences_deaf Controller l.to_controller) (hears_parts silences aged_near (aged_far ++ (ds ++ fs)) q)))))
 event_silenced n l (Activate power c id h) a g r i q =
@@ -507,11 +479,10 @@ event_silenced n l (Activate power c id h) a g r i q =
     let next : Reached (core_of near) = subst Reached (sym one.core) (reached_more (core_of l) (core_event l (AtController x)) one.allowed r) in
     let host : near.host ≡ l.host = host_here l x (clf, a.2) g r in
     let Q : NumberedEnd → Type 0 = λ z. IsUicc z.side.role × IsNode (exchanged (record l { host = z })) h.turns h.ending in
-    let there : Q near.host = subst Q (sym host) (a.1, a.3) in
     let more : n ≤ near.resets = resets_more n Controller l near (here_entries Controller l x) (here_seen Controller l x) i in
     inr (step_gone n Host k (steps_at_controller k (Starts id) h.turns h.ending) (step_entries Host k (Starts id) h.turns h.ending)
     (step_seen Host k (Starts id) h.turns h.ending) (safe_reached (core_of near) next).hand.f_bound more refl
-    (restart_down k (ActStart id) h.turns h.ending there.1.1 one.good.host.now))
+    (restart_down k (ActStart id) h.turns h.ending (subst Q (sym host) (a.1, a.3)).1.1 one.good.host.now))
 
 -- ### It stays so
 
@@ -521,8 +492,7 @@ event_keeps n l e a g r seen (inl (inl j)) = inl (inl (subst (λ (z : Seen). Jum
 event_keeps n l e a g r seen (inr (inl j)) = inr (inl (subst (λ (z : Seen). Jumps n Host z) seen (all_jump n Host (event_entries l e) (kept l) j)))
 event_keeps n l e a g r seen (inl (inr p)) =
     let st = event_step l e a g r in
-    let P : CoreLink → Type 0 = λ c. IsPast n c.controller in
-    inl (inr (subst P (sym st.core) (near_past n (core_event l e) (core_of l) st.allowed (safe_reached (core_of l) r) p)))
+    inl (inr (subst (λ c. IsPast n c.controller) (sym st.core) (near_past n (core_event l e) (core_of l) st.allowed (safe_reached (core_of l) r) p)))
 event_keeps n l e a g r seen (inr (inr p)) =
     let st = event_step l e a g r in
     inr (inr (subst (λ (c : CoreLink). IsPast n c.host) (sym st.core) (far_past n (core_event l e) (core_of l) st.allowed (safe_reached (core_of l) r) p)))
@@ -563,8 +533,7 @@ own_begins n who l (Step Stops ts ending) o q =
     let i : LinkInput = Stop in
     neither
     (input_heard (begins n) (begins_deaf n) who l.controller i (silent l (after_input l.controller.side i)) (after_input l.controller.side i) ts ending q)
-own_begins n who l (Step NoInput ts ending) o q =
-    true≢false (sym (rest_heard (begins n) (begins_deaf n) who l l.controller.side ts ending q).1)
+own_begins n who l (Step NoInput ts ending) o q = true≢false (sym (rest_heard (begins n) (begins_deaf n) who l l.controller.side ts ending q).1)
 
 tick_begins : (n : ℕ) (who : End) (l : Link) (node : Node) → Hears (begins n) (tick_entries who l node) → ⊥
 tick_begins n who l node q =
@@ -598,18 +567,14 @@ frame_begins n who l ts ending w q = go l.to_controller refl
         let h : NumberedEnd = record l.controller { took = took_with l.controller.took x } in
         let k : Link = left_after l x xs in
         let u : List Entry = told_of who h i ++ rest_entries who k (after_input l.controller.side i) ts ending in
-        let z : Hears (begins n) (taken_entries who l x xs ts ending) = rw p at q in
-        let y : number_of h ≡ n = by (input_heard (begins n) (begins_deaf n) who h i k (after_input l.controller.side i) ts ending z) in
+        let y : number_of h ≡ n = by (input_heard (begins n) (begins_deaf n) who h i k (after_input l.controller.side i) ts ending (rw p at q)) in
         let s : Seen = see (seen_as who l) (Took who x.frame) in
         let grows : number_seen who s ≤ number_seen who (see_all s u) =
         all_number who u s (see_within who (seen_as who l) (Took who x.frame) (near_within who l w)) in
         let entries_are : step_entries who l NextFrame ts ending ≡ Took who x.frame ∷ u = rw p refl in
         let seen : see_all s u ≡ seen_as who (steps_at_controller l NextFrame ts ending) =
         ap (see_all (seen_as who l)) (sym entries_are) ∙ step_seen who l NextFrame ts ending in
-        let last : number_seen who (see_all s u) ≡ number_seen who (seen_as who (steps_at_controller l NextFrame ts ending)) = ap (number_seen who) seen in
-        let first = took_first who x xs p in
-        let is = near_number who (steps_at_controller l NextFrame ts ending) in
-        omega (arith, y, grows, last, first, is)
+        omega (arith, y, grows, ap (number_seen who) seen, took_first who x xs p, near_number who (steps_at_controller l NextFrame ts ending))
       where
         by : {A : Type 0} {B : Type 0} {m : ℕ} → (A × ((m == n) ≡ true)) ⊎ (B × (false ≡ true)) → m ≡ n
         by {m = m} (inl v) = eqb-true m n v.1
@@ -637,12 +602,9 @@ event_begins n l (AtController e) a g r q =
     let P : CoreLink → Type 0 = λ c. SafeLink 0 0 c in
     let safe : SafeLink 0 0 (core_of m) = subst P (sym st.core) (safe_reached _ (reached_more (core_of l) (core_event l (AtController e)) st.allowed r)) in
     let i : n ≤ number_of m.controller = here_begins n Controller l e (safe_reached (core_of l) r).hand.n_bound q in
-    let x = safe.hand.n_bound in
-    let y = safe.hand.n_took in
-    let z = safe.hand.f_bound in
     record {
-      used = omega (arith, i, x, y, z);
-      gone = λ s. inl (inr (down_past n m.controller (here_down Controller l e a g.controller.now s) i));
+      used = omega (arith, i, safe.hand.n_bound, safe.hand.n_took, safe.hand.f_bound);
+      gone = λ s. inl (inr (rw (here_down Controller l e a g.controller.now s) (omega (arith, i))));
     }
 event_begins n l (AtHost e) a g r q =
     let m : Link = happens_at_controller (exchanged l) e in
@@ -650,12 +612,9 @@ event_begins n l (AtHost e) a g r q =
     let safe : SafeLink 0 0 (core_of (exchanged m)) =
     subst (λ (c : CoreLink). SafeLink 0 0 c) (sym st.core) (safe_reached _ (reached_more (core_of l) (core_event l (AtHost e)) st.allowed r)) in
     let i : n ≤ number_of m.controller = here_begins n Host (exchanged l) e (safe_reached (core_of l) r).hand.f_bound q in
-    let x = safe.hand.n_bound in
-    let y = safe.hand.f_took in
-    let z = safe.hand.f_bound in
     record {
-      used = omega (arith, i, x, y, z);
-      gone = λ s. inr (inr (down_past n m.controller (here_down Host (exchanged l) e a g.host.now s) i));
+      used = omega (arith, i, safe.hand.n_bound, safe.hand.f_took, safe.hand.f_bound);
+      gone = λ s. inr (inr (rw (here_down Host (exchanged l) e a g.host.now s) (omega (arith, i))));
     }
 event_begins n l (Ticks c es h) a g r q =
     let near : Link = ticks_at_controller (aged l) c.turns c.ending in

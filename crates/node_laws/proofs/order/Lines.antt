@@ -1,32 +1,31 @@
 -- Whatever lines are played each link of the world is told, an activation of it, too, and nothing is told of links with strangers.
 use Rattle.node_laws.proofs.Words.{Activates, AllByRecursion, AreHosts, ArePlayable, Arms, AsksReset, AtController, AtEnd, AtHost, Bare, Bool, Boots, Comes}
 use Rattle.node_laws.proofs.Words.{Controller, CutOff, Deed, Desk, End, Ending, Entry, FollowsNodes, Gives, Happening, HasEnds, Header, Host, IfItRuns, IfOff}
-use Rattle.node_laws.proofs.Words.{Inits, IsCut, IsLine, IsOrderly, IsPlayable, IsUicc, Line, LineStep, Link, LinkInput, List, Loses, Loss, Memory, Message}
-use Rattle.node_laws.proofs.Words.{NextFrame, NoInput, NodeHistory, NodeWorld, None, Noted, NoticesAreUp, NumberedEnd, Occurrence, Option, Resets, Role}
-use Rattle.node_laws.proofs.Words.{Running, Site, Some, Standing, Start, Starts, Step, Takes, Ticks, Turn, Uicc, Work, [], activates, after_controller}
-use Rattle.node_laws.proofs.Words.{after_host, after_planned, aged, aged_entries, all_aged, ap, append-nil, append_assoc, arith, arrival, as_event_begins}
-use Rattle.node_laws.proofs.Words.{as_event_ends, beginning, begins_with, boot_found, boot_writes, boot_written, boots, by_boot, by_coming, by_controller}
-use Rattle.node_laws.proofs.Words.{by_controller_tick, by_host, by_loss, by_memory, by_option, by_power, by_running, by_test, changed_if, comes_at, comes_to}
-use Rattle.node_laws.proofs.Words.{cond, controller_does, controller_ticks, controller_work, counts, end_c, end_h, ending_of, entries_for, entries_in, eqb-true}
-use Rattle.node_laws.proofs.Words.{exchanged, fails_within, false, first_lost, flat_map, flat_map-append, fold-append, found, frame_lost, frames_at}
-use Rattle.node_laws.proofs.Words.{frames_noted, from_start, happenings, happens, host_cut, host_does, host_work, hosts_in, hosts_tick, if_off, inactive}
-use Rattle.node_laws.proofs.Words.{input_of, is_some, length, link_after_controller, link_to, loses_power_at, map, memory_at, near_end_in, near_tick, new_line}
-use Rattle.node_laws.proofs.Words.{new_link, new_link_end, new_site, new_standing, new_uicc, new_world, occurrences_in, of_link, port_at, readiness_of, refl}
-use Rattle.node_laws.proofs.Words.{refusal_in, replicate, same_number, sending, site_at, site_lost, site_ticked, site_unticked, standing, standing_behind}
-use Rattle.node_laws.proofs.Words.{steps, steps_from, subst, sym, taken_of, true, true≢false, turns_at, unwrap_or, wires_for, with_memory, with_node, with_site}
+use Rattle.node_laws.proofs.Words.{Inits, IsCut, IsLine, IsOrderly, IsPlayable, IsUicc, Line, LineStep, Link, LinkInput, List, Loses, Loss, Memory, NextFrame}
+use Rattle.node_laws.proofs.Words.{NoInput, NodeHistory, NodeWorld, None, Noted, NoticesAreUp, NumberedEnd, Occurrence, Option, Resets, Running, Site, Some}
+use Rattle.node_laws.proofs.Words.{Standing, Start, Starts, Step, Takes, Ticks, Turn, Uicc, Work, [], activates, after_controller, after_host, after_planned}
+use Rattle.node_laws.proofs.Words.{aged, aged_entries, all_aged, ap, append-nil, append_assoc, arith, arrival, as_event_begins, as_event_ends, beginning}
+use Rattle.node_laws.proofs.Words.{begins_with, boot_found, boot_writes, boot_written, boots, by_boot, by_coming, by_controller, by_controller_tick, by_host}
+use Rattle.node_laws.proofs.Words.{by_loss, by_memory, by_option, by_power, by_running, by_test, changed_if, comes_at, comes_to, cond, controller_does}
+use Rattle.node_laws.proofs.Words.{controller_ticks, controller_work, counts, end_c, end_h, ending_of, entries_for, entries_in, eqb-true, exchanged}
+use Rattle.node_laws.proofs.Words.{fails_within, false, first_lost, flat_map, flat_map-append, fold-append, found, frame_lost, frames_at, frames_noted}
+use Rattle.node_laws.proofs.Words.{from_start, happenings, happens, host_cut, host_does, host_work, hosts_in, hosts_tick, if_off, inactive, input_of, is_some}
+use Rattle.node_laws.proofs.Words.{length, link_after_controller, link_to, loses_power_at, map, memory_at, near_end_in, near_tick, new_line, new_link}
+use Rattle.node_laws.proofs.Words.{new_link_end, new_site, new_standing, new_uicc, new_world, occurrences_in, of_link, port_at, readiness_of, refl, refusal_in}
+use Rattle.node_laws.proofs.Words.{replicate, same_number, sending, site_at, site_lost, site_ticked, site_unticked, standing, standing_behind, steps}
+use Rattle.node_laws.proofs.Words.{steps_from, subst, sym, taken_of, true, true≢false, turns_at, unwrap_or, wires_for, with_memory, with_node, with_site}
 use Rattle.node_laws.proofs.Words.{work_of, world_after, world_behind, world_step, world_ticks, ℕ, ◌++◌, ◌==◌, ◌∙◌, ◌∷◌, ◌≡◌}
 use Rattle.node_laws.proofs.kept.Events.{hosts_same, hosts_with}
 use Rattle.node_laws.proofs.links.Sites.{here_host}
 use Rattle.node_laws.proofs.links.Worlds.{AreLasting, IsFineSite, MayHappen, plain_reach, repeated, runs_then, sending_fine, starts_fine, starts_then}
 use Rattle.node_laws.proofs.links.Worlds.{step_fine, world_fine}
 use Rattle.node_laws.proofs.links.Works.{steps_fine}
-use Rattle.node_laws.proofs.order.Activity.{IsLined}
 use Rattle.node_laws.proofs.order.Events.{Each, IsWell, Knows, after, begins_each, boots_each, comes_each, each_alike, each_known, host_each, later, lost_each}
 use Rattle.node_laws.proofs.order.Events.{memory_each, power_each, was_there}
 use Rattle.node_laws.proofs.order.Wires.{AreEmpty, empty_shown, started_empty, started_unready}
 use Rattle.node_laws.proofs.order.Ticking.{ticks_each}
-use Rattle.node_laws.proofs.order.Marking.{AreUnnoticed, steps_none}
-use Rattle.node_laws.proofs.order.Watches.{WatchedLink, ends_whole, opened, rewatched, untouched, unwatched, watch_begins, watch_ends, watched, watched-append}
+use Rattle.node_laws.proofs.order.Marking.{steps_none}
+use Rattle.node_laws.proofs.order.Watches.{WatchedLink, opened, rewatched, untouched, unwatched, watch_begins, watch_ends, watched, watched-append}
 use Rattle.node_laws.proofs.readings.Noticed.{event_up, lines_up, numbers}
 use Rattle.node_laws.proofs.telling.Accounts.{AreMute, of-append, of_other}
 use Rattle.node_laws.proofs.telling.Steps.{Away, away_steps, frames_of}
@@ -57,10 +56,9 @@ module _ (w : NodeWorld) (t : List Entry) (X : ℕ → WatchedLink) (a : IsWell 
       let fine : IsFineSite was.site = site_is IsFineSite w.sites h was.site a.fine.sites was.there in
       let acts : l.controller.side.acts ≡ [] =
       subst (λ (k : Link). k.controller.side.acts ≡ []) b.told.run.is (from_start new_line IsLine b.told.events b.told.run.allowed).good.controller.now.acts in
-      let here : (was.site.host == h) ≡ true = ap (λ n. n == h) (site_host w.sites h was.site was.there) ∙ same_number h in
       let Q : Comes → Type 0 = λ c. AreEmpty (happens l (AtController (Step c (turns_at v was.site.host) (ending_of v)))) in
       subst (λ (z : Site). AreEmpty z.link) was.is
-      (subst (λ b. Q (cond b (Starts power) NoInput)) (sym here)
+      (subst (λ b. Q (cond b (Starts power) NoInput)) (sym (ap (λ n. n == h) (site_host w.sites h was.site was.there) ∙ same_number h))
       (started_empty l power (turns_at v was.site.host) (ending_of v) fine.link.line.clf acts))
 
 begun_at : (b : Bool) (power : ℕ) (x : WatchedLink) → opened (cond b (Starts power) NoInput) x ≡ cond b (unwatched x) x
@@ -85,9 +83,6 @@ module _ (w : NodeWorld) (h sync : ℕ) (hosts : (s : Site) → site_at w.sites 
   abbrev AreAllUnready : NodeWorld → Type 0
   AreAllUnready z = (v : Site) → site_at z.sites h ≡ Some v → AreUnready v.link
 
-  uicc_lined : (r : Role) → IsUicc r → IsLined r
-  uicc_lined r c = grind arith
-
   off_unready : (s : Site) → site_at w.sites h ≡ Some s → s.node ≡ None → AreUnready s.link
   off_unready s there none =
       let G : Option Running → Type 0 = λ o. IfOff o (new_link_end (Uicc new_uicc)) s.link.host.side in
@@ -98,7 +93,7 @@ module _ (w : NodeWorld) (h sync : ℕ) (hosts : (s : Site) → site_at w.sites 
   on_unready s there ts ending =
       record {
         near = ap (λ (e : NumberedEnd). readiness_of e.side) (here_host (exchanged s.link) (Step (Starts sync) ts ending)) ∙ (clean s there).unready;
-        far = started_unready (exchanged s.link) sync ts ending (uicc_lined s.link.host.side.role (hosts s there));
+        far = started_unready (exchanged s.link) sync ts ending (grind arith);
       }
 
   host_unready : AreAllUnready (host_does w h (Starts sync) begins).0
@@ -280,8 +275,7 @@ no_port near_ends (d ∷ desks) [] h e a = absurd (cc e)
 no_port near_ends (d ∷ desks) (n ∷ hosts) h e a =
     let one : d.host ≡ n = cc in
     let others : map (λ (d : Desk). d.host) desks ≡ hosts = cc in
-    let off : (d.host == h) ≡ false = ap (λ x. x == h) one ∙ a.0 in
-    rw off (no_port near_ends desks hosts h others a.1)
+    rw (ap (λ x. x == h) one ∙ a.0) (no_port near_ends desks hosts h others a.1)
 
 -- what is noted of sites, each of its own link
 of_sites : (h : ℕ) (f : Site → List Entry) → ((x : Site) → (x.host == h) ≡ false → of_link h (f x) ≡ []) → (sites : List Site) → IsStrange h (hosts_in sites)
@@ -291,9 +285,7 @@ of_sites h f one (x ∷ sites) a = of-append h (f x) (flat_map f sites) ∙ (ap 
 
 module _ (h : ℕ) (w : NodeWorld) (orderly : IsOrderly w) (strange : IsStrange h (hosts_in w.sites)) where
   link_none : (k : ℕ) → (k == h) ≡ true → link_to w.sites k ≡ new_link Bare Bare
-  link_none k q =
-      let none : site_at w.sites k ≡ None = ap (site_at w.sites) (eqb-true k h q) ∙ no_site w.sites h strange in
-      rw none refl
+  link_none k q = rw (ap (site_at w.sites) (eqb-true k h q) ∙ no_site w.sites h strange) refl
 
   arrival_none : (k : ℕ) (comes : Comes) → of_link h (entries_for k (arrival Controller (link_to w.sites k) comes)) ≡ []
   arrival_none k comes = by_test (k == h)
@@ -430,9 +422,6 @@ host_number w h s a found =
 
 -- ### One thing that happens
 
-sending_unnoticed : (h : ℕ) (m : Message) → AreUnnoticed (sending h m)
-sending_unnoticed h m = grind arith
-
 module _ (known : ℕ → Bool) (hosts : List ℕ) where
   step_each : (w : NodeWorld) (os : List Occurrence) (c : Happening) → MayHappen w c → IsSoSince known hosts os w
       → Each (entries_in os ++ (world_step w c).1) (behind c (watches known os) (world_step w c).1) (world_step w c).0
@@ -440,7 +429,7 @@ module _ (known : ℕ → Bool) (hosts : List ℕ) where
   step_each w os (IsCut n) m a = power_each n w (entries_in os) (watches known os) a.well a.each
   step_each w os (Gives e message) m a =
       begins_each w (entries_in os) (watches known os) e.link (sending e.link message) (sending_mute e.link message)
-      (sending_fine e.link message m) (sending_unnoticed e.link message) a.well a.each
+      (sending_fine e.link message m) (grind arith) a.well a.each
   step_each w os (Inits e identity pipes) m a =
       begins_each w (entries_in os) (watches known os) e.link (beginning identity pipes) (tt, (tt, tt)) (tt, (omega arith, tt)) (tt, (tt, tt)) a.well
       a.each
@@ -451,8 +440,7 @@ module _ (known : ℕ → Bool) (hosts : List ℕ) where
   step_each w os (Resets e window) m a =
       comes_each w (entries_in os) (watches known os) e (AsksReset window) a.well a.each m (plain_reach e.link (AsksReset window) m w.sites) (λ x. refl)
   step_each w os (Activates h sync power) m a = activates_each w (entries_in os) (watches known os) h sync power m a.well a.each
-  step_each w os (Arms n plan) m a =
-      memory_each n (record (memory_at w n) { plan = Some plan }) w (entries_in os) (watches known os) a.each
+  step_each w os (Arms n plan) m a = memory_each n (record (memory_at w n) { plan = Some plan }) w (entries_in os) (watches known os) a.each
 
   -- what happens withholds no answer of the links of which it is known
   abbrev pub LeavesKnown : NodeWorld → Happening → Type 0
@@ -476,7 +464,7 @@ module _ (known : ℕ → Bool) (hosts : List ℕ) where
             (each_known (entries_in os ++ u) (behind c (watches known os) u) (watches known (os ++ occurs w c ∷ [])) v
             (λ h. grind arith)
             (λ h k. grind arith)
-            (λ h k. ends_whole h c (watches known os h) u refl) (step_each w os c m a));
+            (λ h k. grind arith) (step_each w os c m a));
         strange = λ h q.
             ap (of_link h) (sym more)
             ∙ (of-append h (entries_in os) u
@@ -542,9 +530,8 @@ pub history_so : (header : Header) (lines : List Line) (t : NodeHistory) → Fol
 history_so header lines t follows are p front back q =
     let hosts : List ℕ = header.hosts.items in
     let P : List Occurrence → Type 0 = λ events. EachHolds (IsSo hosts) MayHappen IsPlayable (step_so hosts) line_may [] (new_world hosts) events in
-    let is : events_of_steps (steps_from (new_world hosts) lines) ≡ front ++ back = ap events_of_steps (sym follows.steps_are) ∙ q in
     front_each (IsSo hosts) MayHappen IsPlayable (step_so hosts) line_may front back [] (new_world hosts)
-    (subst P is (lines_each (IsSo hosts) MayHappen IsPlayable (step_so hosts) line_may lines [] (new_world hosts) (new_so hosts are) p))
+    (subst P (grind arith) (lines_each (IsSo hosts) MayHappen IsPlayable (step_so hosts) line_may lines [] (new_world hosts) (new_so hosts are) p))
 
 -- behind all of them
 pub all_so_behind : (header : Header) (lines : List Line) (t : NodeHistory) → FollowsNodes header lines t → AreHosts header.hosts.items → ArePlayable lines
@@ -569,8 +556,7 @@ new_hosts_of_hosts_stay content [] = refl
 new_hosts_of_hosts_stay content (h ∷ hosts) = ap (λ (hs : List ℕ). h ∷ hs) (new_hosts_of_hosts_stay content hosts)
 
 pub hosts_stay : (lines : List Line) (w : NodeWorld) → hosts_in (world_after w lines).sites ≡ hosts_in w.sites
-hosts_stay lines w =
-    ap (λ (v : NodeWorld). hosts_in v.sites) (sym (behind_lines lines w)) ∙ behind_kept (events_of_steps (steps_from w lines)) w
+hosts_stay lines w = ap (λ (v : NodeWorld). hosts_in v.sites) (sym (behind_lines lines w)) ∙ behind_kept (events_of_steps (steps_from w lines)) w
 
 -- so behind any lines it has those of its header
 pub hosts_stay_behind : (header : Header) (lines : List Line) → hosts_in (world_after (new_world header.hosts.items) lines).sites ≡ header.hosts.items

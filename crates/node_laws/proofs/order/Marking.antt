@@ -1,13 +1,13 @@
 -- The numbers of ended sessions: none comes again, and an end that was below another goes past it, if its number grows.
-use Rattle.node_laws.proofs.Words.{Acts, AllByRecursion, AllShdlcAllowed, AreTurns, Asks, AtEnd, Bool, Command, Commits, Control, Controller, Core, Cut, Deed}
-use Rattle.node_laws.proofs.Words.{Deliver, Desk, Emit, EndState, FetchMessage, Give, Hold, Host, Ignore, IsAnswered, LinkInput, LinkState, List, Lost, Message}
-use Rattle.node_laws.proofs.Words.{NodeInput, None, NumberedShdlc, OfHost, OnWire, Option, Orders, Plain, Port, Release, Releases, Restarted, Running, SafeLink}
-use Rattle.node_laws.proofs.Words.{Seen, Sends, Session, SetsErrors, ShdlcEndEvent, ShdlcLink, ShdlcLinkEvent, ShdlcTurn, Some, Tells, TimePasses, Took, Turn}
-use Rattle.node_laws.proofs.Words.{Turns, Up, Waiting, Work, [], act_frame, after_sessions, after_turn, all_changed, all_come, all_done, all_map, all_of_host}
-use Rattle.node_laws.proofs.Words.{all_owed, all_owed_hold, all_synced_hold, anyone, ap, arith, asked_at, by_option, by_test, commit, deeds_of, done, drop}
-use Rattle.node_laws.proofs.Words.{ended_session, false, flat_map, forgets, forgotten, forgotten_hold, frames_of, has_come, if◌then◌else◌, inl, input_at, inr}
-use Rattle.node_laws.proofs.Words.{is_forgotten, is_late, is_over, is_rset, is_some, is_up, is_waiting, list_any, ltb-false, ltb-true, map, max, most_frames}
-use Rattle.node_laws.proofs.Words.{nat_lt, new_end, no_session, older, port_at, refl, reset_late, reset_with, runs_on, see, see_all, shdlc_after, shdlc_aged}
+use Rattle.node_laws.proofs.Words.{Acts, AllByRecursion, AllShdlcAllowed, AreTurns, Asks, AtEnd, Bool, Commits, Control, Controller, Core, Cut, Deed, Deliver}
+use Rattle.node_laws.proofs.Words.{Desk, Emit, EndState, FetchMessage, Give, Hold, Host, Ignore, IsAnswered, LinkState, List, Lost, Message, NodeInput, None}
+use Rattle.node_laws.proofs.Words.{NumberedShdlc, OfHost, OnWire, Option, Orders, Plain, Port, Release, Releases, Restarted, Running, SafeLink, Seen, Sends}
+use Rattle.node_laws.proofs.Words.{Session, SetsErrors, ShdlcEndEvent, ShdlcLink, ShdlcLinkEvent, ShdlcTurn, Some, Tells, TimePasses, Took, Turn, Turns, Up}
+use Rattle.node_laws.proofs.Words.{Waiting, Work, [], act_frame, after_sessions, after_turn, all_changed, all_come, all_done, all_map, all_of_host, all_owed}
+use Rattle.node_laws.proofs.Words.{all_owed_hold, all_synced_hold, anyone, ap, arith, asked_at, by_option, by_test, deeds_of, done, ended_session, false}
+use Rattle.node_laws.proofs.Words.{flat_map, forgets, forgotten, forgotten_hold, frames_of, has_come, if◌then◌else◌, inl, input_at, inr, is_forgotten, is_late}
+use Rattle.node_laws.proofs.Words.{is_over, is_rset, is_some, is_up, is_waiting, list_any, ltb-false, ltb-true, map, max, most_frames, nat_lt, new_end}
+use Rattle.node_laws.proofs.Words.{no_session, older, port_at, refl, reset_late, reset_with, runs_on, see, see_all, shdlc_after, shdlc_aged}
 use Rattle.node_laws.proofs.Words.{shdlc_all_at_controller, shdlc_becomes, shdlc_exchanged, shdlc_happens, shdlc_happens_at_controller, shdlc_number_of}
 use Rattle.node_laws.proofs.Words.{shdlc_put, shdlc_put_all, shdlc_session_of, shdlc_silent, shdlc_ticks_at_controller, shdlc_turned, silences, steps, stopped}
 use Rattle.node_laws.proofs.Words.{subst, sym, synced, take_answer, taken, tick_answer, ticked, ticks_if_waiting, ticks_or_cut, times_out, took_with, true}
@@ -66,11 +66,8 @@ turn_none h t w a = record { host = a.host; none = port_none h (after_turn t) (�
 desk_none : (h : ℕ) (f : Desk → Desk) (w : Work) → ((d : Desk) → d.notice ≡ None → (f d).notice ≡ None) → HasNoNotices w → HasNoNotices (with_desk h f w)
 desk_none h f w one a = record { host = a.host; none = port_none h (λ p. record p { desk = f p.desk }) (λ p b. one p.desk b) w.ports a.none }
 
-commit_none : (c : Command) (w : Work) → HasNoNotices w → HasNoNotices (commit c w)
-commit_none c w a = grind arith
-
 done_none : (h : ℕ) (d : Deed) (w : Work) → IsUnnoticed d → HasNoNotices w → HasNoNotices (done h d w)
-done_none h (Commits c) w u a = commit_none c w a
+done_none h (Commits c) w u a = grind arith
 done_none h (Sends to m) w u a = turn_none to (Give m) w a
 done_none h (Asks to message c) w u a = absurd u
 done_none h (Releases asker) w u a = turn_none asker Release w a
@@ -108,9 +105,6 @@ none_lasts = record {
 
 -- ### Steps
 
-come_none : (p : Port) (o : Option LinkInput) → HasNone p → HasNone (has_come p o)
-come_none p o a = grind arith
-
 older_none : (p : Port) → HasNone p → HasNone (with_older p)
 older_none p a = rw a refl
 
@@ -124,20 +118,19 @@ forgets_none : (ports : List Port) (p : Port) → HasNone p → HasNone (forgets
 forgets_none ports p a = by_test (is_forgotten ports (asked_at p)) (λ q. rw (q, a) refl) (λ q. rw q a)
 
 came_none : (input : NodeInput) (w : Work) → HasNoNotices w → AllByRecursion HasNone (times_out input (all_come input w)).ports
-came_none (AtEnd h i) w a = all_map HasNone HasNone (λ p. has_come p (input_at (AtEnd h i) p)) (λ p b. come_none p (input_at (AtEnd h i) p) b) w.ports a.none
+came_none (AtEnd h i) w a = all_map HasNone HasNone (λ p. has_come p (input_at (AtEnd h i) p)) (λ p b. grind arith) w.ports a.none
 came_none TimePasses w a =
     all_map HasNone HasNone reset_late late_none _
     (all_map HasNone HasNone with_older older_none _
-    (all_map HasNone HasNone (λ p. has_come p (input_at TimePasses p)) (λ p b. come_none p (input_at TimePasses p) b) w.ports a.none))
+    (all_map HasNone HasNone (λ p. has_come p (input_at TimePasses p)) (λ p b. grind arith) w.ports a.none))
 
 pub steps_none : (input : NodeInput) (w : Work) → HasNoNotices w → HasNoNotices (steps input w)
 steps_none input w a =
     let came : Work = times_out input (all_come input w) in
     let left : List Port = map (forgets came.ports) came.ports in
     let begun : Work = record came { core = after_sessions came.core came.ports; ports = map without_notice left } in
-    let so : (came.core.node == 0) ≡ false = ap (λ (c : Core). c.node == 0) (came_node input w) ∙ a.host in
     let first : HasNoNotices begun = record {
-      host = ap (λ n. n == 0) (sessions_node came.core came.ports) ∙ so;
+      host = ap (λ n. n == 0) (sessions_node came.core came.ports) ∙ (ap (λ (c : Core). c.node == 0) (came_node input w) ∙ a.host);
       none = all_map HasNone HasNone without_notice without_none left
           (all_map HasNone HasNone (forgets came.ports) (forgets_none came.ports) came.ports (came_none input w a));
     } in
@@ -197,9 +190,6 @@ module _ (n : ℕ) where
   over_push [] x a b = (b, tt)
   over_push (y ∷ w) x a b = (a.0, over_push w x a.1 b)
 
-  over_drop : (w : List OnWire) → AreOver w → AreOver (drop 1 w)
-  over_drop w a = grind arith
-
   over_older : (w : List OnWire) → AreOver w → AreOver (older w)
   over_older [] a = tt
   over_older (x ∷ w) a = (a.0, over_older w a.1)
@@ -233,7 +223,7 @@ module _ (n : ℕ) where
   see_jumps Host s (Took Controller c) j = record { over = j.over; resets = j.resets; gave = j.gave; took = j.took }
   see_jumps Controller s (Lost Controller c why) j = grind arith
   see_jumps Controller s (Lost Host c why) j = record { over = j.over; resets = j.resets; gave = j.gave; took = j.took }
-  see_jumps Host s (Lost Host c why) j = record { over = over_drop s.to_host j.over; resets = j.resets; gave = j.gave; took = j.took }
+  see_jumps Host s (Lost Host c why) j = record { over = grind arith; resets = j.resets; gave = j.gave; took = j.took }
   see_jumps Host s (Lost Controller c why) j = record { over = j.over; resets = j.resets; gave = j.gave; took = j.took }
   see_jumps Controller s Tick j = record { over = over_older s.to_controller j.over; resets = j.resets; gave = j.gave; took = j.took }
   see_jumps Host s Tick j = record { over = over_older s.to_host j.over; resets = j.resets; gave = j.gave; took = j.took }
@@ -279,9 +269,7 @@ all_number who (e ∷ t) s w = omega (arith, see_number who s e w, all_number wh
 pub silenced : (n : ℕ) (who : End) (t : List Entry) (s : Seen) → StaysWithin who s → n ≤ s.resets → list_any silences t ≡ true
     → Jumps n who (see_all s t) ⊎ (n ≤ number_seen who (see_all s t))
 silenced n who [] s w r q = absurd (true≢false (sym q))
-silenced n who (e ∷ t) s w r q =
-    let r' = see_resets s e in
-    go (silences e) refl (silenced n who t (see s e) (see_within who s e w) (omega (arith, r, r')))
+silenced n who (e ∷ t) s w r q = go (silences e) refl (silenced n who t (see s e) (see_within who s e w) (omega (arith, r, see_resets s e)))
   where
     empty : (who : End) → silences e ≡ true → mail who (see s e) ≡ []
     empty who p = grind arith
@@ -294,11 +282,9 @@ silenced n who (e ∷ t) s w r q =
     decide p true z =
         let low : number_seen who (see s e) < n = ltb-true (number_seen who (see s e)) n z in
         let res = see_resets s e in
-        inl (all_jump n who t (see s e) ((grind arith)))
+        inl (all_jump n who t (see s e) (grind arith))
     decide p false z =
-        let high : n ≤ number_seen who (see s e) = ltb-false (number_seen who (see s e)) n z in
-        let more = all_number who t (see s e) (see_within who s e w) in
-        inr (omega (arith, high, more))
+        inr (omega (arith, ltb-false (number_seen who (see s e)) n z, all_number who t (see s e) (see_within who s e w)))
 
     go : (b : Bool) → silences e ≡ b
         → (list_any silences t ≡ true → Jumps n who (see_all (see s e) t) ⊎ (n ≤ number_seen who (see_all (see s e) t)))
@@ -335,12 +321,9 @@ waiting_first : (l : ShdlcLink) (ts : List ShdlcTurn) → l.controller.side.phas
 waiting_first l ts x = rw x refl
 
 module _ (p q : List (ℕ × Session)) where
-  put_marked : (l : ShdlcLink) (c : Control) → shdlc_put (marked p q l) c ≡ marked p q (shdlc_put l c)
-  put_marked l c = by_test (is_rset c) (λ e. rw e refl) (λ e. rw e refl)
-
   puts_marked : (cs : List Control) (l : ShdlcLink) → shdlc_put_all (marked p q l) cs ≡ marked p q (shdlc_put_all l cs)
   puts_marked [] l = refl
-  puts_marked (c ∷ cs) l = ap (λ k. shdlc_put_all k cs) (put_marked l c) ∙ puts_marked cs (shdlc_put l c)
+  puts_marked (c ∷ cs) l = ap (λ k. shdlc_put_all k cs) (grind arith) ∙ puts_marked cs (shdlc_put l c)
 
   becomes_marked : (l : ShdlcLink) (e : EndState) → shdlc_becomes (marked p q l) e ≡ marked p q (shdlc_becomes l e)
   becomes_marked l e =
@@ -508,8 +491,7 @@ near_bound kn kf p q l h =
     below_right (bound l.controller) l.controller.past p (subst (λ (b : ℕ). Below b (l.controller.past ++ p)) (bound_below p l.controller) h.n_past)
 
 far_bound : (kn kf : ℕ) (p q : List (ℕ × Session)) (l : ShdlcLink) → SafeLink kn kf (marked p q l) → Below (bound l.host) q
-far_bound kn kf p q l h =
-    below_right (bound l.host) l.host.past q (subst (λ (b : ℕ). Below b (l.host.past ++ q)) (bound_below q l.host) h.f_past)
+far_bound kn kf p q l h = below_right (bound l.host) l.host.past q (subst (λ (b : ℕ). Below b (l.host.past ++ q)) (bound_below q l.host) h.f_past)
 
 -- ### What is past stays so
 

@@ -1,15 +1,15 @@
 -- Sessions are read off a history, messages are in order at each moment of it, and quiet or still links have delivered all.
 use Rattle.node_laws.proofs.Words.{AreHosts, ArePlayable, AreReadOff, AreSessionsRead, AreUpTogether, Bool, Controller, Cut, Down, Emit, End, Entry}
 use Rattle.node_laws.proofs.Words.{FollowsNodes, HasSettled, Header, Host, IsLine, IsLinkTold, IsRead, IsReadOff, IsStillInSession, Line, Link, List, Message}
-use Rattle.node_laws.proofs.Words.{NodeHistory, NodeWorld, None, Noted, NumberedEnd, Occurrence, Option, Restarted, Saying, Site, Some, Standing, Up as IsUpNow}
-use Rattle.node_laws.proofs.Words.{[], acked-all, acked_after, acked_in, ap, arith, at_end, begins, by_option, by_test, cond, cons_option, end_c, end_h, end_of}
+use Rattle.node_laws.proofs.Words.{NodeHistory, NodeWorld, None, Noted, Occurrence, Option, Restarted, Saying, Site, Some, Standing, Up as IsUpNow, []}
+use Rattle.node_laws.proofs.Words.{acked-all, acked_after, acked_in, ap, arith, at_end, begins, by_option, by_test, cond, cons_option, end_c, end_h, end_of}
 use Rattle.node_laws.proofs.Words.{entries, entries_for, entries_in, entry_of, false, filter, filter_map, flat_map, fold, good_of, got-all, got_in}
 use Rattle.node_laws.proofs.Words.{got_in_session, hosts_in, if◌then◌else◌, is_of, law_noted, length, list_any, new_line, new_standing, new_world, node_entries}
 use Rattle.node_laws.proofs.Words.{number_of, occurrences_in, of_link, one_number, or_none, other_end, read_here, read_there, refl, said, said_far, said_near}
 use Rattle.node_laws.proofs.Words.{said_of, same_end, same_number, sent-all, sent_by, sent_in, session_at, session_now, silences, since, site_at, standing}
 use Rattle.node_laws.proofs.Words.{standing_by_law, stands_noted, subst, sym, talk_now, talk_of, tells_of, true, true≢false, world_behind, ℕ, ◌++◌, ◌==◌, ◌||◌}
 use Rattle.node_laws.proofs.Words.{◌∙◌, ◌∷◌, ◌≡◌}
-use Rattle.history.proofs.legal.Sessions.{ArePlain, AtEnd, IsOneAtMost, empty, fault-all, front_given, if_said, one_entry, order_at, read_as}
+use Rattle.history.proofs.legal.Sessions.{ArePlain, AtEnd, empty, fault-all, front_given, if_said, order_at, read_as}
 use Rattle.history.proofs.legal.Settled.{no_bytes, or_right, since-all, undisturbed}
 use Rattle.history.specs.Filters.{session_after}
 use Rattle.history.specs.Filters.Saying.{Ends}
@@ -81,12 +81,9 @@ module _ (h : ℕ) (who : Side) (host : (h == 0) ≡ false) where
 
   -- ### What the law of one link notes
 
-  one_law : (x : Standing) (n : Noted) → part who (law_noted h x n) ≡ hear who (part who x) n
-  one_law x n = grind arith
-
   pub all_law : (notes : List Noted) (x : Standing) → part who (standing_by_law h x notes) ≡ fold (hear who) (part who x) notes
   all_law [] x = refl
-  all_law (n ∷ notes) x = all_law notes (law_noted h x n) ∙ ap (λ s. fold (hear who) s notes) (one_law x n)
+  all_law (n ∷ notes) x = all_law notes (law_noted h x n) ∙ ap (λ s. fold (hear who) s notes) (grind arith)
 
   -- ### A link that is told
 
@@ -150,9 +147,6 @@ end_alike t v e n q a =
 
 -- ### Fronts of what is noted
 
-one_filtered : (p : Entry → Bool) (xs : List Entry) → IsOneAtMost xs → IsOneAtMost (filter p xs)
-one_filtered p xs a = grind arith
-
 of_flat : (h : ℕ) (notes : List Noted) → of_link h (entries_for h notes) ≡ flat_map (λ x. of_link h (entry_of h x)) notes
 of_flat h [] = refl
 of_flat h (x ∷ notes) = of-append h (entry_of h x) (entries_for h notes) ∙ ap (λ z. of_link h (entry_of h x) ++ z) (of_flat h notes)
@@ -161,7 +155,7 @@ of_flat h (x ∷ notes) = of-append h (entry_of h x) (entries_for h notes) ∙ a
 at_moment : (h : ℕ) (l : Link) (t front back : List Entry) → IsLinkTold h l t → t ≡ front ++ back → (e : End) (n : ℕ) → e.link ≡ h → AtEnd front e n
 at_moment h l t front back a q e n is =
     let notes : List Noted = entries new_line a.events in
-    let parts = front_given (λ x. of_link h (entry_of h x)) (λ x. one_filtered (tells_of h) (entry_of h x) (one_entry h x)) notes
+    let parts = front_given (λ x. of_link h (entry_of h x)) (λ x. grind arith) notes
     (of_link h front) (of_link h back) (sym (of_flat h notes) ∙ (sym a.told ∙ (ap (of_link h) q ∙ of-append h front back))) in
     let p : List Noted = parts.0 in
     let order : (who : Side) (n : ℕ) → InOrderIn p who n = at_each_moment new_line IsLine a.events a.run.allowed p parts.1 in
@@ -209,10 +203,7 @@ no_faults : (t : List Entry) → ((h : ℕ) → list_any is_chain_fault (of_link
 no_faults [] a = refl
 no_faults (x ∷ t) a = by_test (is_chain_fault x)
     (λ r. let tells : TellsOf x = fault_tells x r in
-    let here : tells_of tells.link x ≡ true = tells.is in
-    let z : list_any is_chain_fault (x ∷ of_link tells.link t) ≡ false = rw here at (a tells.link) in
-    let w : true ≡ false = rw r at z in
-    absurd (cc w))
+    absurd (cc (rw r at (rw tells.is at (a tells.link)))))
     (λ r. rw r (no_faults t (λ h. less h)))
   where
     less : (h : ℕ) → list_any is_chain_fault (of_link h t) ≡ false
@@ -300,10 +291,6 @@ module _ (h : ℕ) (l : Link) (t : List Entry) (a : IsLinkTold h l t) where
   pub read_off : AreReadOff t h l
   read_off = record { controller = read_controller; host = read_host }
 
-  -- the session that goes on at an end
-  talk_up : (k : NumberedEnd) → k.side.shdlc.phase ≡ IsUpNow → talk_of k (number_of k) ≡ talk_now k.side
-  talk_up k up = grind arith
-
   numbers : l.controller.side.shdlc.phase ≡ IsUpNow → l.host.side.shdlc.phase ≡ IsUpNow → number_of l.controller ≡ number_of l.host
   numbers =
       let P : Link → Type 0 = λ k. k.controller.side.shdlc.phase ≡ IsUpNow → k.host.side.shdlc.phase ≡ IsUpNow → number_of k.controller ≡ number_of k.host in
@@ -313,13 +300,13 @@ module _ (h : ℕ) (l : Link) (t : List Entry) (a : IsLinkTold h l t) where
   pub near_now : l.controller.side.shdlc.phase ≡ IsUpNow → IsReadOff t (end_c h) (number_of l.controller) (talk_now l.controller.side)
   near_now up =
       let P : Talk
-      → Type 0 = λ k. IsReadOff t (end_c h) (number_of l.controller) k in subst P (talk_up l.controller up) (read_controller (number_of l.controller))
+      → Type 0 = λ k. IsReadOff t (end_c h) (number_of l.controller) k in subst P (grind arith) (read_controller (number_of l.controller))
 
   pub far_now : l.controller.side.shdlc.phase ≡ IsUpNow → l.host.side.shdlc.phase ≡ IsUpNow
       → IsReadOff t (end_h h) (number_of l.controller) (talk_now l.host.side)
   far_now near up =
       let Q : ℕ → Type 0 = λ n. IsReadOff t (end_h h) n (talk_now l.host.side) in
-      subst Q (sym (numbers near up)) (subst (λ (k : Talk). IsReadOff t (end_h h) (number_of l.host) k) (talk_up l.host up) (read_host (number_of l.host)))
+      subst Q (sym (numbers near up)) (subst (λ (k : Talk). IsReadOff t (end_h h) (number_of l.host) k) (grind arith) (read_host (number_of l.host)))
 
   module _ (host : (h == 0) ≡ false) where
     -- what is read of both ends says that they are up, and the number
@@ -347,13 +334,13 @@ module _ (h : ℕ) (l : Link) (t : List Entry) (a : IsLinkTold h l t) where
           let near = near_now q.controller in
           let far = far_now q.controller q.host in
           let all : AllDelivered (talk_now l.controller.side) (talk_now l.host.side) = delivers_to_host l events r q in
-          subst (λ (m : ℕ). IsDelivered t (end_c h) m) (up_near n u).1 ((grind arith));
+          subst (λ (m : ℕ). IsDelivered t (end_c h) m) (up_near n u).1 (grind arith);
       to_controller = λ n u events r s.
           let q : IsQuiet l (losses_of new_line events) = quiet n (losses_of new_line events) u s in
           let near = near_now q.controller in
           let far = far_now q.controller q.host in
           let all : AllDelivered (talk_now l.host.side) (talk_now l.controller.side) = delivers_to_controller l events r q in
-          subst (λ (m : ℕ). IsDelivered t (end_h h) m) (up_near n u).1 ((grind arith));
+          subst (λ (m : ℕ). IsDelivered t (end_h h) m) (up_near n u).1 (grind arith);
     }
 
     pub has_settled : HasSettled t h l
@@ -405,10 +392,7 @@ module _ (h : ℕ) where
 
 since_none : (f : Noted → Bool) (n : ℕ) (t_of_still : List Noted) → list_any f t_of_still ≡ false → list_any f (since n t_of_still) ≡ false
 since_none f n [] q = refl
-since_none f n (e ∷ t_of_still) q = by_test (begins n e) (λ p. rw p later) (λ p. rw p (since_none f n t_of_still later))
-  where
-    later : list_any f t_of_still ≡ false
-    later = (or_none (f e) (list_any f t_of_still) q).1
+since_none f n (e ∷ t_of_still) q = by_test (begins n e) (λ p. rw p (grind arith)) (λ p. rw p (since_none f n t_of_still (grind arith)))
 
 are_plain : (t_of_still : List Noted) → list_any silences t_of_still ≡ false → list_any misnumbered t_of_still ≡ false → ArePlain t_of_still
 are_plain [] a b = tt
@@ -446,9 +430,8 @@ module _ (h : ℕ) (l : Link) (events : List Occurrence) (host : (h == 0) ≡ fa
       let here : k.controller.side.shdlc.phase ≡ IsUpNow = subst (λ (z : Link). z.controller.side.shdlc.phase ≡ IsUpNow) is near.0 in
       let there : k.host.side.shdlc.phase ≡ IsUpNow = subst (λ (z : Link). z.host.side.shdlc.phase ≡ IsUpNow) is far.0 in
       let mine : number_of k.controller ≡ n = ap (λ (z : Link). number_of z.controller) a.run.is ∙ near.1 in
-      let theirs : number_of k.host ≡ n = ap (λ (z : Link). number_of z.host) a.run.is ∙ far.1 in
       let late : List Noted = since n notes_of_still in
-      let uncut : list_any silences late ≡ false = none_silenced n a.events a.run.allowed here there mine theirs in
+      let uncut : list_any silences late ≡ false = none_silenced n a.events a.run.allowed here there mine (grind arith) in
       let fits : list_any misnumbered late ≡ false = since_none misnumbered n notes_of_still (events_mute misnumbered misnumbered_mute a.events new_line) in
       let lost : has_lost h (entries_for h late) ≡ false =
       sym (ap (has_lost h) (since-all h n notes_of_still)) ∙ (sym (lost_alike h n t_of_still v a.told) ∙ s.lossless) in
@@ -492,16 +475,13 @@ module _ (h : ℕ) (l : Link) (events : List Occurrence) (host : (h == 0) ≡ fa
 
 -- ### A host that isn't there has no session
 
-none_after : (h : ℕ) (far : Bool) (node : ℕ) (x : Entry) → is_of h (said x) ≡ false → after (record { link = h; at_host = far }) node None x ≡ None
-none_after h far node x q = grind arith
-
 unread : (h : ℕ) (far : Bool) (node : ℕ) (t_of_still : List Entry) → of_link h t_of_still ≡ []
     → session_now t_of_still (record { link = h; at_host = far }) node ≡ None
 unread h far node [] q = refl
 unread h far node (x ∷ t_of_still) q = by_test (tells_of h x)
     (λ p. absurd (cc (rw p at q)))
     (λ p. let others : of_link h t_of_still ≡ [] = rw p at q in
-    ap (λ s. fold (after e node) s t_of_still) (none_after h far node x (untold h x p)) ∙ unread h far node t_of_still others)
+    ap (λ s. fold (after e node) s t_of_still) (grind arith) ∙ unread h far node t_of_still others)
   where
     e : End
     e = record { link = h; at_host = far }

@@ -1,14 +1,13 @@
 -- A tick in which the controller's end of a link is reset is read off what is noted of it.
 use Rattle.node_laws.proofs.Words.{Acked, Act, Active, AllByRecursion, Asked, AsksReset, Bool, Cause, Clt, Control, Controller, Cut, CutOff, Down, Emit, Ending}
 use Rattle.node_laws.proofs.Words.{Entry, FindsReady, GaveUp, GoesOut, Got, HasTick, Host, I, IsRunOf, Link, LinkEnd, LinkEvent, LinkInput, List, Loss, Lost}
-use Rattle.node_laws.proofs.Words.{Message, Node, None, Noted, OnWire, Option, Report, Reset, Restarted, Rset, S, Sent, Some, Step, TicksWithout, TooMany}
-use Rattle.node_laws.proofs.Words.{TooOld, Turn, Ua, [], after_input, aged, aged_entries, ap, append_assoc, arith, behind_reset_of, by_test, cond, cuts_on}
-use Rattle.node_laws.proofs.Words.{end_c, end_h, end_of, ended_by, entries_for, event_entries, exchanged, false, far, first_lost, frames_out, happens}
-use Rattle.node_laws.proofs.Words.{happens_at_controller, if_so, is_act, is_own_reset, is_reset_down, is_rset, is_some, length, list_any, list_any-append}
-use Rattle.node_laws.proofs.Words.{lost_as, lpdu_of, map, nat_lt, not, number_of, of_link, option_to_list, or_none, pushed_out, put, puts_entries, refl, report}
-use Rattle.node_laws.proofs.Words.{reset_refusal, rest_entries, said, same_number, step_entries, sym, tells_of, tick_entries, ticks_at_controller, told}
-use Rattle.node_laws.proofs.Words.{told_of, true, true≢false, turn, turn_entries, turn_entry, turned, whole_acked, wire_with, with_ended, withholds, ℕ, ◌++◌}
-use Rattle.node_laws.proofs.Words.{◌||◌, ◌∙◌, ◌∷◌, ◌≡◌}
+use Rattle.node_laws.proofs.Words.{Message, Node, None, Noted, OnWire, Option, Report, Reset, Restarted, Rset, S, Sent, Some, Step, TicksWithout, TooOld, Turn}
+use Rattle.node_laws.proofs.Words.{Ua, [], after_input, aged, aged_entries, ap, append_assoc, arith, behind_reset_of, by_test, cond, cuts_on, end_c, end_h}
+use Rattle.node_laws.proofs.Words.{end_of, ended_by, entries_for, event_entries, exchanged, false, far, frames_out, happens, happens_at_controller, if_so}
+use Rattle.node_laws.proofs.Words.{is_act, is_own_reset, is_reset_down, is_rset, is_some, list_any, list_any-append, lost_as, lpdu_of, map, nat_lt, not}
+use Rattle.node_laws.proofs.Words.{number_of, of_link, option_to_list, or_none, pushed_out, put, puts_entries, refl, report, reset_refusal, rest_entries, said}
+use Rattle.node_laws.proofs.Words.{same_number, step_entries, sym, tells_of, tick_entries, ticks_at_controller, told, told_of, true, true≢false, turn}
+use Rattle.node_laws.proofs.Words.{turn_entries, turn_entry, turned, whole_acked, wire_with, with_ended, withholds, ℕ, ◌++◌, ◌||◌, ◌∙◌, ◌∷◌, ◌≡◌}
 use Rattle.link_laws.specs.entries.Entries.{End, End as Side}
 use Rattle.link_laws.specs.entries.Entries.Entry.{Tick, Up}
 use Rattle.node_laws.specs.order.Resets.{asks_at}
@@ -55,22 +54,13 @@ module _ (D : Noted → Type 0) (who : End) (holds : Holds D who) where
 
   pub are_turns : (n : ℕ) (e : LinkEnd) (ts : List Turn) → Are (turn_entries who n e ts)
   are_turns n e [] = tt
-  are_turns n e (t ∷ ts) = are-append (turn_entry who n e t) (turn_entries who n (turn e t) ts) (one t) (are_turns n (turn e t) ts)
-    where
-      one : (t : Turn) → Are (turn_entry who n e t)
-      one t = grind arith
-
-  pub are_lost : (w : End) (why : Loss) (xs : List OnWire) → Are (first_lost w why xs)
-  are_lost w why xs = grind arith
-
-  are_pushed : (w : End) (wire : List OnWire) → Are (pushed_out w wire)
-  are_pushed w wire = by_test (nat_lt 64 (length wire)) (λ q. rw q (are_lost w TooMany wire)) (λ q. rw q tt)
+  are_turns n e (t ∷ ts) = are-append (turn_entry who n e t) (turn_entries who n (turn e t) ts) (grind arith) (are_turns n (turn e t) ts)
 
   pub are_puts : (cs : List Control) (l : Link) → Are (puts_entries who l cs)
   are_puts [] l = tt
   are_puts (c ∷ cs) l = (
     holds.emit c,
-    are-append (pushed_out (far who) (wire_with l c)) (puts_entries who (put l c) cs) (are_pushed (far who) (wire_with l c)) (are_puts cs (put l c)),
+    are-append (pushed_out (far who) (wire_with l c)) (puts_entries who (put l c) cs) (grind arith) (are_puts cs (put l c)),
   )
 
   pub are_aged : (w : End) (xs : List OnWire) → Are (aged_entries w xs)
@@ -215,8 +205,7 @@ module _ (h : ℕ) where
   alike_behind : (f : Entry → Bool) → ((e : Entry) → tells_of h e ≡ false → f e ≡ false)
       → ((e : Entry) → tells_of h e ≡ false → is_reset_down (end_c h) e ≡ false) → (t u : List Entry) → of_link h t ≡ of_link h u
       → list_any f (behind_reset_of (end_c h) t) ≡ list_any f (behind_reset_of (end_c h) u)
-  alike_behind f off down t u q =
-      kept_behind f off down t ∙ (ap (λ l. list_any f (behind_reset_of (end_c h) l)) q ∙ sym (kept_behind f off down u))
+  alike_behind f off down t u q = kept_behind f off down t ∙ (ap (λ l. list_any f (behind_reset_of (end_c h) l)) q ∙ sym (kept_behind f off down u))
 
   down_off : (e : Entry) → tells_of h e ≡ false → is_reset_down (end_c h) e ≡ false
   down_off e q = grind arith
@@ -356,20 +345,16 @@ module _ (h : ℕ) (l : Link) (c n : Node) (u : List Entry) (events : List LinkE
   tick_reset : (ending : Ending) → IsStepOf h l (turned_out ending) u → list_any asked (event_entries l (turned_out ending)) ≡ true → FindsReady l
       → IsSince (happens l (turned_out ending))
   tick_reset CutOff m some ready =
-      let notes : List Noted = event_entries l (turned_out CutOff) in
       let cut : list_any is_cut (step_entries Controller (aged l) (AsksReset None) c.turns CutOff) ≡ true =
       input_cut Controller (aged l) (Reset None) c.turns in
-      absurd (true≢false (sym cut ∙ first_none (no_cut h u notes says.powered m.stands)))
+      absurd (true≢false (sym cut ∙ first_none (no_cut h u (event_entries l (turned_out CutOff)) says.powered m.stands)))
     where
       first_none : list_any is_cut (event_entries l (turned_out CutOff)) ≡ false
           → list_any is_cut (step_entries Controller (aged l) (AsksReset None) c.turns CutOff) ≡ false
       first_none q =
           let s : List Noted = step_entries Controller (aged l) (AsksReset None) c.turns CutOff in
-          let a : List Noted = aged_entries Controller l.to_controller in
-          let b : List Noted = aged_entries Host l.to_host in
-          let last = parts_none is_cut a b [] _ q refl in
           (or_none (list_any is_cut s) _ (sym (list_any-append is_cut s []) ∙ (or_none (list_any is_cut (s ++ [])) _ (sym (list_any-append is_cut (s ++ []) _)
-          ∙ last)).0)).0
+          ∙ (parts_none is_cut (aged_entries Controller l.to_controller) (aged_entries Host l.to_host) [] _ q refl))).0)).0
   tick_reset GoesOut m some ready =
       let e : LinkEvent = turned_out GoesOut in
       let notes : List Noted = event_entries l e in
@@ -389,10 +374,9 @@ module _ (h : ℕ) (l : Link) (c n : Node) (u : List Entry) (events : List LinkE
       (ap (λ z. list_any (is_lost h) (behind_asked h z)) parts ∙ behind) in
       let far : list_any (asks_far h) notes ≡ false =
       far_notes h notes (sym (alike h (asks_at (end_h h)) (asks_off h) u (entries_for h notes) tells) ∙ says.alone) in
-      let cut : list_any is_cut notes ≡ false = no_cut h u notes says.powered m.stands in
       let last : list_any withholds x ≡ false =
       left_alone h x (far_tick (exchanged k) n) lost (parts_none (asks_far h) a b (s ++ []) x far refl)
-      (parts_none is_cut a b (s ++ []) x cut refl) in
+      (parts_none is_cut a b (s ++ []) x (no_cut h u notes says.powered m.stands) refl) in
       since_reset l e events run m.can ready last
 
   -- where the host's end was ready

@@ -50,8 +50,7 @@ up_open h l t a up = by_test (is_open l.controller.side.role) (λ q. q) (λ q. l
 
 pub timely : (w : NodeWorld) (t : List Entry) (x : WatchedLink) (h : ℕ) (s : Site) → NoticesAreUp w → site_at w.sites h ≡ Some s
     → Knows t x w.controller h s → IsTimely w h s
-timely w t x h s up found a =
-    record { controller = a.near; host = a.far; up = due w.controller up; young = none_due s.node a.none }
+timely w t x h s up found a = record { controller = a.near; host = a.far; up = due w.controller up; young = none_due s.node a.none }
   where
     due : (o : Option Running) → IfNoticedUp w.sites o → IfDue o h s.link.controller.side
     due None u = tt

@@ -25,7 +25,6 @@ use Rattle.node_laws.proofs.order.Events.{Each, IsWell, Knows, far_step, near_st
 use Rattle.node_laws.proofs.order.Lines.{IsSo, IsSoSince, IsStrange, LeavesKnown, history_so, host_number, line_may, next_so, of_none, watches}
 use Rattle.node_laws.proofs.order.Sessions.{are_read, history_delivered, in_order, joined}
 use Rattle.node_laws.proofs.order.Wires.{AreReady}
-use Rattle.node_laws.proofs.order.TickResets.{IsAnsweredTick}
 use Rattle.node_laws.proofs.order.Ticking.{ticked_since}
 use Rattle.node_laws.proofs.order.Marking.{steps_none}
 use Rattle.node_laws.proofs.readings.Noticed.{numbers}
@@ -129,9 +128,6 @@ module _ (h : ℕ) (l : Link) (window : Option ℕ) (ts : List Turn) (u : List E
 
 -- ### A reset in a world
 
-on_if : (b : Bool) → (cond b None (Some no.Off)) ≡ None → b ≡ true
-on_if b q = grind arith
-
 pub none_refused : (o : Option Refused) → as_noted o ≡ None → o ≡ None
 none_refused o q = grind arith
 
@@ -215,17 +211,15 @@ module _ (w : NodeWorld) (t : List Entry) (X : ℕ → WatchedLink) (a : IsWell 
 
       runs : is_some (node_at w k) ≡ true → is_some s.node ≡ true
       runs q =
-          let host : (k == 0) ≡ false = host_number w k s a.orderly there in
-          let is : node_at w k ≡ s.node = rw (host, there) refl in
-          sym (ap (λ (o : Option Running). is_some o) is) ∙ q
+          sym (ap (λ (o : Option Running). is_some o) (rw ((host_number w k s a.orderly there), there) refl)) ∙ q
 
       go : (b : Bool) → (if_off w (node_of (side b)) ≡ None) × (as_noted (reset_refusal (machine_in w (side b))) ≡ None)
           → is_open (machine_of s.link (other_end (side b))).role ≡ true → is_waiting (machine_of s.link (other_end (side b))).shdlc ≡ false
           → HasReset (world_step w (Resets (side b) window))
       go false q active free =
-          near_so (record { granted = granted false q.1; active = active; free = free }) (on_if (is_some w.controller) q.0)
+          near_so (record { granted = granted false q.1; active = active; free = free }) (grind arith)
       go true q active free =
-          far_so (record { granted = granted true q.1; active = active; free = free }) (runs (on_if (is_some (node_at w k)) q.0))
+          far_so (record { granted = granted true q.1; active = active; free = free }) (runs (grind arith))
 
 -- ### Both ends are up
 
@@ -282,12 +276,11 @@ module _ (k : ℕ) (hosts : List ℕ) where
       let u : List Entry = o.entries in
       let both = or_none (withheld_in k o) (list_any (withheld_in k) events) q in
       let opens = or_none (opens_on k c) (list_any (λ (x : Occurrence). opens_on k x.cause) events) p in
-      let is : occurs w c ≡ o = ap (λ (z : List Entry). record { cause = c; entries = z }) (sym done.0.0) in
       let left : list_any (withholds_on k) (world_step w c).1 ≡ false =
       none_withheld_on k c (world_step w c).1 (event_believed k w c) (ap (list_any (withholds_in k c)) (sym done.0.0) ∙ both.0) in
       let P : Occurrence → Type 0 = λ z. IsSoSince (of_one k) hosts (os ++ z ∷ []) (world_step w c).0 in
       let next : IsSoSince (of_one k) hosts (os ++ o ∷ []) (world_step w c).0 =
-      subst P is (next_so (of_one k) hosts os w c a done.0.1.0 (leaves_known w c opens.0 left)) in
+      subst P (grind arith) (next_so (of_one k) hosts os w c a done.0.1.0 (leaves_known w c opens.0 left)) in
       subst (λ z. IsSoSince (of_one k) hosts z (world_behind w (o ∷ events))) (append_assoc os (o ∷ []) events)
       (known_behind events (os ++ o ∷ []) (world_step w c).0 done.1 both.1 opens.1 next)
 
@@ -300,9 +293,6 @@ ready_machine l x a e = by_test e.at_host (λ q. rw q a.far) (λ q. rw q a.near)
 -- no end is active
 abbrev IsIdle : Standing → Type 0
 IsIdle x = (x.near.active ≡ false) × (x.far.active ≡ false)
-
-idle_at : (e : End) (x : Standing) → IsIdle x → (ready_at e x).active ≡ false
-idle_at e x a = by_test e.at_host (λ q. rw q a.1) (λ q. rw q a.0)
 
 module _ (k : ℕ) where
   -- entries that tell nothing of a link let none become so
@@ -429,13 +419,12 @@ module _ (header : Header) (lines : List Line) (t : NodeHistory) (follows : Foll
       subst (AreBelieved h tick.cause) (sym done.0) (event_believed h w tick.cause) in
       let lossless : list_any (loses_one_on h) (behind_reset_of (end_c h) tick.entries) ≡ false =
       none_lost_behind h tick.cause (end_c h) tick.entries believed a.lossless in
-      let says : IsAnsweredTick h (world_ticks w).1 = grind arith in
       let N : Happening → Type 0 = λ c. (x : Site) → site_at (world_step w c).0.sites h ≡ Some x → IsSince x.link in
       let active = ap (λ (r : Readiness). r.active) (sym ready.far) ∙ a.active in
       let free = ap (λ (r : Readiness). r.waits) (sym ready.far) ∙ a.free in
       let since : N tick.cause =
       subst N (sym a.cause)
-      (λ x found. ticked_since w (entries_in before) (watches of_none before) so.well so.up so.each h s there says
+      (λ x found. ticked_since w (entries_in before) (watches of_none before) so.well so.up so.each h s there (grind arith)
       (λ granted. record { granted = granted; active = active; free = free }) x found) in
       left_alone before tick behind back h s q there since a.left
 
@@ -445,7 +434,7 @@ module _ (header : Header) (lines : List Line) (t : NodeHistory) (follows : Foll
   both_up before reset behind back e window q a = by_option (site_at w.sites e.link)
       (λ none. let strange : IsStrange e.link hosts_of = subst (IsStrange e.link) so.hosts_are (none_found w.sites e.link none) in
       let idle = idle_behind e.link before (so.strange e.link strange) in
-      absurd (true≢false (sym a.active ∙ idle_at (other_end e) (standing_behind e.link before) idle)))
+      absurd (true≢false (sym a.active ∙ (grind arith))))
       (λ s there. both_up_at before reset behind back e window s q there a)
     where
       w : NodeWorld

@@ -138,13 +138,8 @@ row_free : (byte : ℕ) (rows : List LpduRow) → AllByRecursion (IsFree byte) r
     → is_act_read (read_by (find (λ (r : LpduRow). is_within r.first r.last byte) rows) bytes) ≡ false
 row_free byte [] a bytes = refl
 row_free byte (r ∷ rows) a bytes = by_test (is_within r.first r.last byte)
-    (λ q. rw q (by q a.0))
-    (λ q. rw q (row_free byte rows a.1 bytes)) where
-      by : is_within r.first r.last byte ≡ true → IsFree byte r → is_act_read (read_by (Some r) bytes) ≡ false
-      by q a = grind arith
-
-low_row : (low high n : ℕ) → high < n → is_within low high n ≡ false
-low_row low high n less = grind arith
+    (λ q. rw q (grind arith))
+    (λ q. rw q (row_free byte rows a.1 bytes))
 
 -- frames of SHDLC have greater first bytes than those of activation
 high_free : (n : ℕ) → 0x80 ≤ n → (bytes : List ℕ) → slice_index bytes 0 ≡ n → is_act_lpdu bytes ≡ false
@@ -152,7 +147,7 @@ high_free n high bytes first =
     ap (λ k. is_act_read (read_by (find (λ (r : LpduRow). is_within r.first r.last k) table) bytes)) first ∙ row_free n table rows bytes
   where
     apart : (k : ℕ) → k < 0x80 → is_within k k n ≡ false
-    apart k less = low_row k k n (omega (arith, high, less))
+    apart k less = grind arith
 
     acts : AllByRecursion (IsFree n) (drop 7 table)
     acts = grind arith
@@ -258,9 +253,6 @@ near_said (SayingTakes f) x = near_same x (said_near (SayingTakes f) x) refl
 near_said (SayingLoses f) x = near_same x (said_near (SayingLoses f) x) refl
 near_said _ x = near_same x x refl
 
-far_said : (s : Saying) (x : Standing) → IsOneOff x (said_far s x)
-far_said s x = grind arith
-
 abbrev pub is_cut : Noted → Bool
 is_cut (Cut who) = true
 is_cut _ = false
@@ -271,7 +263,7 @@ module _ (h : ℕ) where
   one_off x (Some (e, s)) = go (e.link == h) e.at_host
     where
       go : (b c : Bool) → IsOneOff x (cond b (cond c (said_far s x) (said_near s x)) x)
-      go true true = far_said s x
+      go true true = grind arith
       go true false = near_said s x
       go false c = near_same x x refl
 
@@ -289,9 +281,7 @@ module _ (h : ℕ) where
   uncut_all [] x q = omega arith
   uncut_all (e ∷ u) x q =
       let a = or_none (cuts_on h e) (list_any (cuts_on h) u) q in
-      let one = uncut_one x e a.0 in
-      let more = uncut_all u (stands_noted h x e) a.1 in
-      omega (arith, one, more)
+      omega (arith, uncut_one x e a.0, uncut_all u (stands_noted h x e) a.1)
 
   -- each thing that is noted puts at most one, and a cut leaves none
   law_one : (x : Standing) (n : Noted) → length (law_noted h x n).to_host ≤ suc (length x.to_host)
@@ -312,10 +302,7 @@ module _ (h : ℕ) where
 
   law_all : (notes : List Noted) (x : Standing) → length (standing_by_law h x notes).to_host ≤ length x.to_host + length notes
   law_all [] x = omega arith
-  law_all (n ∷ notes) x =
-      let one = law_one x n in
-      let more = law_all notes (law_noted h x n) in
-      omega (arith, one, more)
+  law_all (n ∷ notes) x = omega (arith, law_one x n, law_all notes (law_noted h x n))
 
   cut_all : (notes : List Noted) (x : Standing) → list_any is_cut notes ≡ true → length (standing_by_law h x notes).to_host ≤ length notes
   cut_all [] x q = absurd (true≢false (sym q))
@@ -328,10 +315,7 @@ module _ (h : ℕ) where
       → list_any is_cut notes ≡ false
   no_cut u notes q stands = by_test (list_any is_cut notes)
       (λ e. let long : length x.to_host ≡ suc (length u + length notes) = length-replicate (suc (length u + length notes)) [] in
-      let least = uncut_all u x q in
-      let most = cut_all notes x e in
-      let same : length (standing h x u).to_host ≡ length (standing_by_law h x notes).to_host = ap (λ (z : Standing). length z.to_host) (stands x) in
-      absurd (omega (arith, long, least, most, same)))
+      absurd (omega (arith, long, uncut_all u x q, cut_all notes x e, (ap (λ (z : Standing). length z.to_host) (stands x)))))
       (λ e. e)
     where
       x : Standing
@@ -435,21 +419,14 @@ watch_ends h _ x = x
 pub kept_left : (a b : Bool) → (a && b) ≡ true → a ≡ true
 kept_left a b q = (and_parts a b q).0
 
-kept_assoc : (a b c : Bool) → ((a && not b) && not c) ≡ (a && not (b || c))
-kept_assoc a b c = grind arith
-
 pub watched-append : (h : ℕ) (x : WatchedLink) (u v : List Entry) → watched h (watched h x u) v ≡ watched h x (u ++ v)
 watched-append h x u v =
     let stands : standing h (standing h x.stands u) v ≡ standing h x.stands (u ++ v) = sym (fold-append (stands_noted h) x.stands u v) in
     let since : ((x.since && not (list_any (withholds_on h) u)) && not (list_any (withholds_on h) v)) ≡ (x.since && not (list_any (withholds_on h) (u ++ v))) =
-    kept_assoc x.since (list_any (withholds_on h) u) (list_any (withholds_on h) v)
+    (grind arith)
     ∙ ap (λ b. x.since && not b) (sym (list_any-append (withholds_on h) u v)) in
     ap (λ z. record { stands = z; since = (watched h (watched h x u) v).since; whole = x.whole }) stands
     ∙ ap (λ b. record { stands = standing h x.stands (u ++ v); since = b; whole = x.whole }) since
-
--- a link whose ends were as they are read before an event is so behind it
-pub ends_whole : (h : ℕ) (c : Happening) (x : WatchedLink) (u : List Entry) → x.whole ≡ true → (watch_ends h c (watched h (watch_begins h c x) u)).whole ≡ true
-ends_whole h c x u q = grind arith
 
 -- nothing was noted yet, and nothing withheld an answer
 abbrev pub untouched : WatchedLink

@@ -1,14 +1,14 @@
 -- The frames on the wires of a link, and how ready its ends are, are read off what is noted of it.
 use Rattle.node_laws.proofs.Words.{Acked, Act, ActStart, Active, AllAllowed, AllByRecursion, AsksReset, AtController, Bare, Begins, Bool, Clf, Comes, Control}
-use Rattle.node_laws.proofs.Words.{Controller, Counts, Cut, CutOff, Down, Emit, EndState, Ending, Entry, GaveUp, Gets, GoesOut, Good, Got, Host, I, IsClf}
-use Rattle.node_laws.proofs.Words.{IsDown, IsEvent, IsLine, IsLinkTold, IsRunOf, IsUpNow, Link, LinkEnd, LinkEvent, List, Lost, Node, None, Noted, OnWire}
-use Rattle.node_laws.proofs.Words.{PowerMode, Puts, Reached, Readiness, Ready, Reset, Restarted, Role, S, Saying, Seen, Sent, Some, Standing, Starts, Step}
-use Rattle.node_laws.proofs.Words.{Stops, SyncId, Took, Turn, Uicc, [], activated_role, after_link_events, aged, aged_entries, all_append, ap, append-nil}
-use Rattle.node_laws.proofs.Words.{append_assoc, arith, becomes_at, begins, by_test, core_event, core_of, end_of, entries, event_entries, event_step, exchanged}
-use Rattle.node_laws.proofs.Words.{false, frames_on, frames_out, happens, happens_at_controller, inactive, inl, inr, is_open, is_rset, is_waiting, kept}
-use Rattle.node_laws.proofs.Words.{law_noted, le-leb, list_any, lpdu_of, lpdu_row_of, lt-ltb, made_active, most_frames, moved, nat_le, nat_lt, new_line}
-use Rattle.node_laws.proofs.Words.{new_link_end, no_longer_waits, no_session, not, nothing_seen, number_of, older, or_none, put_all, reached_more, readiness_of}
-use Rattle.node_laws.proofs.Words.{refl, renewed, role_after, said_far, said_near, same_number, see, see_all, sent_all, silences, silent, since, slice_index}
+use Rattle.node_laws.proofs.Words.{Controller, Counts, Cut, CutOff, Down, Emit, Ending, Entry, GaveUp, Gets, GoesOut, Good, Got, Host, I, IsClf, IsDown}
+use Rattle.node_laws.proofs.Words.{IsEvent, IsLine, IsLinkTold, IsRunOf, IsUpNow, Link, LinkEnd, LinkEvent, List, Lost, Node, None, Noted, OnWire, PowerMode}
+use Rattle.node_laws.proofs.Words.{Puts, Reached, Readiness, Ready, Reset, Restarted, Role, S, Saying, Seen, Sent, Some, Standing, Starts, Step, Stops, SyncId}
+use Rattle.node_laws.proofs.Words.{Took, Turn, Uicc, [], activated_role, after_link_events, aged, aged_entries, all_append, ap, append-nil, append_assoc, arith}
+use Rattle.node_laws.proofs.Words.{becomes_at, begins, by_test, core_event, core_of, end_of, entries, event_entries, event_step, exchanged, false, frames_on}
+use Rattle.node_laws.proofs.Words.{frames_out, happens, happens_at_controller, inactive, inl, inr, is_open, is_rset, is_waiting, kept, law_noted, le-leb}
+use Rattle.node_laws.proofs.Words.{list_any, lpdu_of, lpdu_row_of, lt-ltb, made_active, most_frames, moved, nat_le, nat_lt, new_line, new_link_end}
+use Rattle.node_laws.proofs.Words.{no_longer_waits, no_session, not, nothing_seen, number_of, older, or_none, put_all, reached_more, readiness_of, refl}
+use Rattle.node_laws.proofs.Words.{renewed, role_after, said_far, said_near, same_number, see, see_all, sent_all, silences, silent, since, slice_index}
 use Rattle.node_laws.proofs.Words.{standing, standing_by_law, stands_said, start_good, start_reached, started, step_entries, stopped, subst, suc, sym}
 use Rattle.node_laws.proofs.Words.{tick_entries, true, true≢false, turn, turned, turned_role, turned_same, zero, ℕ, ◌&&◌, ◌*◌, ◌++◌, ◌+◌, ◌<◌, ◌∙◌, ◌∷◌, ◌≡◌}
 use Rattle.node_laws.proofs.Words.{◌≤◌, ◌⊎◌}
@@ -29,7 +29,7 @@ use Rattle.node_laws.proofs.order.Gone.{Gone, Hears, HearsNone, event_begins, ev
 use Rattle.node_laws.proofs.order.Marking.{all_resets}
 use Rattle.node_laws.proofs.order.Watches.{AreUnstarted, IsSince, IsStepOf, IsUnstarted, WatchedLink, opened, since_step, unwatched, watched}
 use Rattle.node_laws.proofs.telling.Events.{after-append, entries-append}
-use Rattle.node_laws.proofs.telling.Shapes.{AreClear, IsShaped, IsStepShaped, clear_aged, last_of, opened_by, opened_stands, shaped_step, shaped_tick}
+use Rattle.node_laws.proofs.telling.Shapes.{AreClear, IsShaped, IsStepShaped, clear_aged, last_of, opened_by, shaped_step, shaped_tick}
 use Rattle.node_laws.proofs.telling.WorldTicks.{between, near_notes, tick_event}
 
 -- ## Frames that are put on a link have their numbers, so RSET is read off their bytes
@@ -93,11 +93,8 @@ fragment_read bytes q = grind arith
 -- RSET alone is read as RSET
 rset_read : (c : Control) → HasNumbers c → is_rset_lpdu (lpdu_of c) ≡ is_rset c
 rset_read (I ns nr info) low =
-    let small = low.0 in
-    let few = low.1 in
-    let first : nat_le 0x80 (0x80 + 8 * ns + nr) ≡ true = le-leb 0x80 (0x80 + 8 * ns + nr) (omega arith) in
-    let last : nat_le (0x80 + 8 * ns + nr) 0xBF ≡ true = le-leb (0x80 + 8 * ns + nr) 0xBF (omega (arith, small, few)) in
-    fragment_read (lpdu_of (I ns nr info)) (rw (first, last) refl)
+    let last : nat_le (0x80 + 8 * ns + nr) 0xBF ≡ true = le-leb (0x80 + 8 * ns + nr) 0xBF (omega (arith, low.0, low.1)) in
+    fragment_read (lpdu_of (I ns nr info)) (rw ((le-leb 0x80 (0x80 + 8 * ns + nr) (omega arith)), last) refl)
 rset_read (S Rr nr) low =
     each_below (λ n. is_rset_lpdu (lpdu_of (S Rr n)) ≡ false) 8 (refl, (refl, (refl, (refl, (refl, (refl, (refl, (refl, tt)))))))) nr low
 rset_read (S Rej nr) low =
@@ -177,13 +174,11 @@ module _ (f : Bool → List Noted → Bool) (parts : (b : Bool) (t u : List Note
   one_more es l e can run =
       let m : Link = after_link_events new_line es in
       let next : IsRunOf (es ++ e ∷ []) (happens l e) = run_of_more es l e can run in
-      let before : f false (entries new_line es) ≡ R m = law es run.allowed in
-      let behind : f false (entries new_line (es ++ e ∷ [])) ≡ R (happens m e) = law (es ++ e ∷ []) next.allowed ∙ ap R (after-append es (e ∷ []) new_line) in
       subst (λ (k : Link). f (R k) (event_entries k e) ≡ R (happens k e)) run.is
       (ap (f (R m)) (sym (append-nil (event_entries m e)))
-      ∙ (ap (λ b. f b (entries m (e ∷ []))) (sym before)
+      ∙ (ap (λ b. f b (entries m (e ∷ []))) (sym (law es run.allowed))
       ∙ (sym (parts false (entries new_line es) (entries m (e ∷ [])))
-      ∙ (ap (f false) (sym (entries-append es (e ∷ []) new_line)) ∙ behind))))
+      ∙ (ap (f false) (sym (entries-append es (e ∷ []) new_line)) ∙ (law (es ++ e ∷ []) next.allowed ∙ ap R (after-append es (e ∷ []) new_line))))))
 
 -- the ends of a link are as ready as it is read
 pub record AreReady (l : Link) (x : Standing) : Type 0 where
@@ -218,24 +213,18 @@ started_unready l value ts CutOff a =
     ap (λ r. is_open (renewed r)) (turned_role e ts ∙ activated_role (moved l.controller.side true (stopped l.controller.side.shdlc)) (ActStart value))
     ∙ lined_acts l.controller.side.role (ActStart value) a in
     ap (λ b. record { active = b; waits = is_waiting (new_link_end (renewed (turned e ts).role)).shdlc }) role
-    ∙ ap (λ b. record { active = false; waits = b }) (new_free (turned e ts).role)
-  where
-    new_free : (r : Role) → is_waiting (new_link_end (renewed r)).shdlc ≡ false
-    new_free r = grind arith
+    ∙ ap (λ b. record { active = false; waits = b }) (grind arith)
 started_unready l value ts GoesOut a = go l.controller.side.role refl a
   where
     e : LinkEnd
     e = started l.controller.side value
-
-    free : (s : EndState) → s.phase ≡ IsDown → is_waiting s ≡ false
-    free s q = rw q refl
 
     ends : e.shdlc.phase ≡ IsDown → is_open (role_after l.controller.side.role (ActStart value)) ≡ false → readiness_of (sent_all (turned e ts)) ≡ inactive
     ends down shut =
         let role : is_open (turned e ts).role ≡ false =
         ap is_open (turned_role e ts ∙ activated_role (moved l.controller.side true (stopped l.controller.side.shdlc)) (ActStart value)) ∙ shut in
         let waits_not : is_waiting (sent_all (turned e ts)).shdlc ≡ false =
-        free (sent_all (turned e ts)).shdlc ((frames_alike most_frames (turned e ts).shdlc).phase ∙ (turned_same ts e ∙ down)) in
+        (rw ((frames_alike most_frames (turned e ts).shdlc).phase ∙ (turned_same ts e ∙ down)) refl) in
         ap (λ b. record { active = b; waits = is_waiting (sent_all (turned e ts)).shdlc }) role ∙ ap (λ b. record { active = false; waits = b }) waits_not
 
     go : (r : Role) → l.controller.side.role ≡ r → IsLined r → readiness_of (sent_all (turned e ts)) ≡ inactive
@@ -283,9 +272,8 @@ watched_more n t l e a g r seen w = go (list_any (begins n) t) refl
     go true h =
         let i : n ≤ l.resets = w.used h in
         let x = all_resets u (kept l) in
-        let y : (see_all (kept l) u).resets ≡ k.resets = ap (λ (s : Seen). s.resets) seen in
         record {
-          used = λ _. omega (arith, i, x, y);
+          used = λ _. omega (arith, i, x, (ap (λ (s : Seen). s.resets) seen));
           gone = λ q. which i (hears_parts silences (since n t) u (subst (λ z. Hears silences z) (since_more n t u h) q));
         }
       where
@@ -334,9 +322,8 @@ watched_all n (e ∷ es) before a g r w =
     let noted : entries new_line one ≡ entries new_line before ++ event_entries l e =
     entries-append before (e ∷ []) new_line ∙ ap (λ z. entries new_line before ++ z) (append-nil (event_entries l e)) in
     let Q : Link → Type 0 = λ z. Reached (core_of z) in
-    let now : At n one = subst (λ (z : Link). Watched n (entries new_line one) z) (sym is) (subst (λ (z : List Noted). Watched n z m) (sym noted) more) in
     subst (At n) (append_assoc before (e ∷ []) es)
-    (watched_all n es one (subst (λ (z : Link). AllAllowed z es) (sym is) a.1) (subst Good (sym is) st.good) (subst Q (sym is) next) now)
+    (watched_all n es one (subst (λ (z : Link). AllAllowed z es) (sym is) a.1) (subst Good (sym is) st.good) (subst Q (sym is) next) (grind arith))
 
 watched_of_since : (n : ℕ) (es : List LinkEvent) → AllAllowed new_line es → At n es
 watched_of_since n es a =
@@ -384,18 +371,12 @@ frames_older : (w : List OnWire) → frames_on (older w) ≡ frames_on w
 frames_older [] = refl
 frames_older (x ∷ w) = ap (λ z. lpdu_of x.frame ∷ z) (frames_older w)
 
-near_said : (h : ℕ) (x : Standing) (s : Saying) → said_near s x ≡ stands_said h x (Some (end_of h Controller, s))
-near_said h x s = let q = same_number h in rw q refl
-
-far_said : (h : ℕ) (x : Standing) (s : Saying) → said_far s x ≡ stands_said h x (Some (end_of h Host, s))
-far_said h x s = let q = same_number h in rw q refl
-
 module _ (h : ℕ) where
   near_so : (s : Seen) (x : Standing) (y : Saying) → ShownBy s (said_near y x) → ShownBy s (stands_said h x (Some (end_of h Controller, y)))
-  near_so s x y a = subst (ShownBy s) (near_said h x y) a
+  near_so s x y a = subst (ShownBy s) (grind arith) a
 
   far_so : (s : Seen) (x : Standing) (y : Saying) → ShownBy s (said_far y x) → ShownBy s (stands_said h x (Some (end_of h Host, y)))
-  far_so s x y a = subst (ShownBy s) (far_said h x y) a
+  far_so s x y a = subst (ShownBy s) (grind arith) a
 
   same : (s : Seen) (x z : Standing) → z.to_controller ≡ x.to_controller → z.to_host ≡ x.to_host → ShownBy s x → ShownBy s z
   same s x z p q a = record { to_controller = p ∙ a.to_controller; to_host = q ∙ a.to_host }
@@ -442,13 +423,10 @@ clear_unstarted [] a = tt
 clear_unstarted (Restarted w ∷ xs) a = absurd a.0
 clear_unstarted (x ∷ xs) a = (tt, clear_unstarted xs a.1)
 
-last_unstarted : (who : Side) (ending : Ending) → AreUnstarted (last_of who ending)
-last_unstarted who ending = grind arith
-
 shaped_unstarted : (who : Side) (ending : Ending) (notes : List Noted) → IsShaped who ending notes → AreUnstarted notes
 shaped_unstarted who ending notes s =
     subst (λ z. AreUnstarted z) (sym s.is)
-    (all_append IsUnstarted s.body (last_of who ending) (clear_unstarted s.body s.clear) (last_unstarted who ending))
+    (all_append IsUnstarted s.body (last_of who ending) (clear_unstarted s.body s.clear) (grind arith))
 
 pub tick_unstarted : (b : Bool) (l : Link) (c n : Node) → AreUnstarted (event_entries l (tick_event b c n))
 tick_unstarted false l c n = (
@@ -493,21 +471,17 @@ module _ (h : ℕ) (l : Link) (e : LinkEvent) (t u : List Entry) (x : WatchedLin
       → Shown (happens l e) (watched h (opened comes x) u)
   step_shown who comes ending s =
       let y : Standing = (opened comes x).stands in
-      let first : ShownBy (see_all (kept l) (opened_by who comes)) y = opens comes in
       let all : ShownBy (see_all (see_all (kept l) (opened_by who comes)) s.rest) (standing_by_law h y s.rest) =
-      notes_shown h s.rest (see_all (kept l) (opened_by who comes)) y (shaped_unstarted who ending s.rest s.shaped) first in
+      notes_shown h s.rest (see_all (kept l) (opened_by who comes)) y (shaped_unstarted who ending s.rest s.shaped) (grind arith) in
       let seen : see_all (see_all (kept l) (opened_by who comes)) s.rest ≡ kept (happens l e) =
       sym (ap (see_all (kept l)) s.is ∙ see_all-append (kept l) (opened_by who comes) s.rest) ∙ event_seen h l t e a in
       let P : Seen → Type 0 = λ z. ShownBy z (standing_by_law h y s.rest) in
       record {
-        wires = subst (ShownBy (kept (happens l e))) (sym (n.stands y ∙ opened_stands h who comes (event_entries l e) s.rest s.is y)) (subst P seen all);
+        wires = subst (ShownBy (kept (happens l e))) (sym (n.stands y ∙ (grind arith))) (subst P seen all);
         since = goes comes s.is;
         ready = begins comes s.is;
       }
     where
-      opens : (c : Comes) → ShownBy (see_all (kept l) (opened_by who c)) (opened c x).stands
-      opens c = grind arith
-
       rest_unstarted : AreUnstarted s.rest
       rest_unstarted = shaped_unstarted who ending s.rest s.shaped
 
@@ -537,18 +511,12 @@ record IsBlank (e : LinkEnd) : Type 0 where
   session : e.shdlc.session ≡ no_session
   down : e.shdlc.phase ≡ IsDown
 
-blank_turn : (e : LinkEnd) (t : Turn) → IsBlank e → IsBlank (turn e t)
-blank_turn e t a = grind arith
-
 blank_turned : (ts : List Turn) (e : LinkEnd) → IsBlank e → IsBlank (turned e ts)
 blank_turned [] e a = a
-blank_turned (t ∷ ts) e a = blank_turned ts (turn e t) (blank_turn e t a)
+blank_turned (t ∷ ts) e a = blank_turned ts (turn e t) (grind arith)
 
 blank_out : (e : LinkEnd) → IsBlank e → frames_out e ≡ []
 blank_out e a = grind arith
-
-clf_blank : (e : LinkEnd) (value : ℕ) → IsClf e.role → e.acts ≡ [] → IsBlank (started e value)
-clf_blank e value clf acts = grind arith
 
 -- so both wires are empty as activation has begun there, and the end isn't active
 pub record AreEmpty (l : Link) : Type 0 where
@@ -556,20 +524,16 @@ pub record AreEmpty (l : Link) : Type 0 where
   pub to_host : l.to_host ≡ []
   pub unready : readiness_of l.controller.side ≡ inactive
 
-clf_lined : (r : Role) → IsClf r → IsLined r
-clf_lined r c = grind arith
-
 pub started_empty : (l : Link) (value : ℕ) (ts : List Turn) (ending : Ending) → IsClf l.controller.side.role → l.controller.side.acts ≡ []
     → AreEmpty (happens l (AtController (Step (Starts value) ts ending)))
-started_empty l value ts CutOff clf acts =
-    record { to_controller = refl; to_host = refl; unready = started_unready l value ts CutOff (clf_lined l.controller.side.role clf) }
+started_empty l value ts CutOff clf acts = record { to_controller = refl; to_host = refl; unready = started_unready l value ts CutOff (grind arith) }
 started_empty l value ts GoesOut clf acts =
     let e : LinkEnd = started l.controller.side value in
-    let out : frames_out (turned e ts) ≡ [] = blank_out (turned e ts) (blank_turned ts e (clf_blank l.controller.side value clf acts)) in
+    let out : frames_out (turned e ts) ≡ [] = blank_out (turned e ts) (blank_turned ts e (grind arith)) in
     record {
       to_controller = ap (λ cs. (put_all (silent l e) cs).to_controller) out;
       to_host = ap (λ cs. (put_all (silent l e) cs).to_host) out;
-      unready = started_unready l value ts GoesOut (clf_lined l.controller.side.role clf);
+      unready = started_unready l value ts GoesOut (grind arith);
     }
 
 pub empty_shown : (l : Link) (x : WatchedLink) → AreEmpty l → Shown l x → x.since ≡ false → x.whole ≡ false → unwatched x ≡ x

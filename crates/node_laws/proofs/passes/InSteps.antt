@@ -38,13 +38,6 @@ module _ (P : Entry → Type 0) (told_one : (h : ℕ) (who : Side) (n acked : �
 
 -- ## What deeds note, and what they leave as it is
 
--- a block that is set aside or released isn't noted
-aside_none : (core : Core) (o : Option Port) → option_map_or (noted_of core SetAside) o [] ≡ []
-aside_none core o = grind arith
-
-release_none : (core : Core) (o : Option Port) → option_map_or (noted_of core Release) o [] ≡ []
-release_none core o = grind arith
-
 commit_notes : (c : Command) (w : Work) → (commit c w).entries ≡ w.entries ++ noted_by_deed 0 (Commits c) w
 commit_notes c w = by_test (goes_in c w) (λ q. rw q (append_assoc w.entries (entry.Command w.core.node c ∷ []) (entry.Cut w.core.node ∷ []))) (λ q. rw q refl)
 
@@ -53,9 +46,9 @@ pub deed_notes : (h : ℕ) (d : Deed) (w : Work) → (done h d w).entries ≡ w.
 deed_notes h (Commits c) w = commit_notes c w
 deed_notes h (Asks to message c) w =
     let more : List Entry = noted_at to (Give (1, message)) (turn_at c.asker SetAside w) in
-    ap (λ es. ((w.entries ++ es) ++ entry.Ask to message ∷ []) ++ more) (aside_none w.core (port_at w.ports c.asker))
+    ap (λ es. ((w.entries ++ es) ++ entry.Ask to message ∷ []) ++ more) (grind arith)
     ∙ (ap (λ es. (es ++ entry.Ask to message ∷ []) ++ more) (append-nil w.entries) ∙ append_assoc w.entries (entry.Ask to message ∷ []) more)
-deed_notes h (Releases asker) w = ap (λ es. w.entries ++ es) (release_none w.core (port_at w.ports asker))
+deed_notes h (Releases asker) w = ap (λ es. w.entries ++ es) (grind arith)
 deed_notes h IsAnswered w = sym (append-nil w.entries)
 deed_notes h (SetsErrors errors) w = sym (append-nil w.entries)
 deed_notes h Hears w = sym (append-nil w.entries)

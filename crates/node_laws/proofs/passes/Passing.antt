@@ -3,10 +3,10 @@ use Rattle.node_laws.proofs.Words.{AllByRecursion, AreAlong, AreNoTurns, ArePass
 use Rattle.node_laws.proofs.Words.{HadTurn, Handles, Hold, Holds, IsBehind, IsNoTurn, IsTurnSo, LastsOverTurns, LetsGo, List, Message, None, Option, Port, Some}
 use Rattle.node_laws.proofs.Words.{Stays, WasHeld, Work, [], after_turn, ap, append-nil, append_assoc, arith, by_list, by_option, by_test, cond, deeds_of, drop}
 use Rattle.node_laws.proofs.Words.{end_of_node, false, filter_map-append, goes_through_ends, handles, have_turns, holds_back, inl, inr, is_held, is_held_at}
-use Rattle.node_laws.proofs.Words.{lacking, lets_go, link_of_turn, links_of_turns, noted_by_deeds, noted_of, noting, option_map_or, port_at, refl, subst, sym}
-use Rattle.node_laws.proofs.Words.{takes_up, true, true≢false, turn_at, unless_cut, waiting_at, with_desk, ℕ, ◌++◌, ◌==◌, ◌∙◌, ◌∷◌, ◌≡◌, ◌⊎◌}
+use Rattle.node_laws.proofs.Words.{lacking, lets_go, link_of_turn, links_of_turns, noted_by_deeds, noting, option_map_or, port_at, refl, subst, sym, takes_up}
+use Rattle.node_laws.proofs.Words.{true, true≢false, turn_at, unless_cut, waiting_at, with_desk, ℕ, ◌++◌, ◌==◌, ◌∙◌, ◌∷◌, ◌≡◌, ◌⊎◌}
 use Rattle.node_laws.specs.passes.Passing.ComesTo.{Begins}
-use Rattle.node_laws.proofs.kept.Doing.{fetch_none, stays_cut, uncut}
+use Rattle.node_laws.proofs.kept.Doing.{stays_cut, uncut}
 use Rattle.node_laws.proofs.passes.Replying.{HasFirst, Sees, SeesAt, deeds_see, has_first, lets_see, other_stays, own_changed, turn_sees}
 use Rattle.node_laws.proofs.passes.InSteps.{deeds_note_of_notes as deeds_note, reply_none}
 use Rattle.node_laws.proofs.steps.StepWalks.{unless as unless_lost}
@@ -115,8 +115,7 @@ module _ (J : Work → Type 0) (lasts : LastsOverTurns J) where
           → StandsFirst piece rest.more front back x ⊎ StandsSecond piece rest.more front back x → IsTurnSo J w front x back
       by front back x (inl s) = subst (IsTurnSo J w front x) (sym s.behind) (first front s.between x s.is)
       by front back x (inr s) =
-          let P : List Entry → Type 0 = λ f. IsTurnSo J w f x back in
-          subst P (sym s.before) (passed_then s.between back x (rest.each s.between back x s.is))
+          subst (λ f. IsTurnSo J w f x back) (sym s.before) (passed_then s.between back x (rest.each s.between back x s.is))
 
   -- ### What is noted of one turn
 
@@ -156,9 +155,8 @@ module _ (J : Work → Type 0) (lasts : LastsOverTurns J) where
           subst (λ y. IsTurnSo J w [] y (back ++ more)) same
           (subst (λ l. HadTurn J w [] (end_of_node w.core h) m (l ++ more)) rest had)
       turned_passed (z ∷ front) back x e =
-          let rest : told ≡ front ++ (x ∷ back) = cc in
           no_turn_passed w (z ∷ front) (back ++ more) x
-          (stands_none told front back x (reply_none w.core w.ports h m (takes_up h m w)) rest)
+          (stands_none told front back x (reply_none w.core w.ports h m (takes_up h m w)) cc)
 
     abbrev held_so : ℕ × ℕ → List Entry
     held_so short = cond (is_held_at w.ports h) [] (entry.Held (end_of_node w.core h) short.0 short.1 ∷ [])
@@ -199,16 +197,13 @@ module _ (J : Work → Type 0) (lasts : LastsOverTurns J) where
 
 -- ### What each thing that a node does leaves
 
-hold_none : (core : Core) (held : Bool) (o : Option Port) → option_map_or (noted_of core (Hold held)) o [] ≡ []
-hold_none core held o = grind arith
-
 -- what is noted, and whether the power goes
 pub record Notes (w v : Work) (es : List Entry) : Type 0 where
   pub entries : v.entries ≡ w.entries ++ es
   pub power : v.cut ≡ w.cut
 
 holding_notes : (h : ℕ) (held : Bool) (w : Work) → Notes w (turn_at h (Hold held) w) []
-holding_notes h held w = record { entries = ap (λ es. w.entries ++ es) (hold_none w.core held (port_at w.ports h)); power = refl }
+holding_notes h held w = record { entries = ap (λ es. w.entries ++ es) (grind arith); power = refl }
 
 pub lets_notes : (h : ℕ) (w : Work) → Notes w (lets_go h w) []
 lets_notes h w = by_test (option_map_or (λ (p : Port). is_held p.side) (port_at w.ports h) false)
@@ -233,7 +228,7 @@ holds_notes h short w = by_test (is_held_at w.ports h)
 -- a message is the node's
 pub takes_entries : (h : ℕ) (m : Message) (w : Work) → (takes_up h m w).entries ≡ w.entries ++ entry.Turn (end_of_node w.core h) m.0 m.1 ∷ []
 takes_entries h m w =
-    ap (λ es. (w.entries ++ entry.Turn (end_of_node w.core h) m.0 m.1 ∷ []) ++ es) (fetch_none w.core (port_at w.ports h))
+    ap (λ es. (w.entries ++ entry.Turn (end_of_node w.core h) m.0 m.1 ∷ []) ++ es) (grind arith)
     ∙ append-nil (w.entries ++ entry.Turn (end_of_node w.core h) m.0 m.1 ∷ [])
 
 pub handles_entries : (h : ℕ) (m : Message) (deeds : List Deed) (w : Work)
@@ -421,8 +416,7 @@ module _ (k : ℕ) (ms : List Message) (b : Bool) where
   Same w = SeesAt k ms b w
 
   other_desk : (h : ℕ) (f : Desk → Desk) (w : Work) → ((d : Desk) → (f d).host ≡ d.host) → (h == k) ≡ false → Same w → Same (with_desk h f w)
-  other_desk h f w host off s =
-      subst (Sees ms b) (sym (other_stays h k (λ p. record p { desk = f p.desk }) (λ p. host p.desk) w.ports off)) s
+  other_desk h f w host off s = subst (Sees ms b) (sym (other_stays h k (λ p. record p { desk = f p.desk }) (λ p. host p.desk) w.ports off)) s
 
   pub other_handles : (h : ℕ) (m : Message) (deeds : List Deed) (w : Work) → (h == k) ≡ false → Same w → Same (handles h m deeds w)
   other_handles h m deeds w off s =

@@ -1,16 +1,15 @@
 -- What deeds note and leave at the ends of a node where each message that they send is taken, and that it is taken where none lacks room.
 use Rattle.node_laws.proofs.Words.{About, AreTables, AreTaken, Asks, Bool, Command, Commits, Core, CountsCommands, Deed, Desk, Drops, Ends, Entry, FetchMessage}
-use Rattle.node_laws.proofs.Words.{Give, GiveOnce, GoesOn, HciTables, Hears, Hold, Init, IsAnswered, IsNoneOf, IsRecordable, IsReplyNoted, Knows, LinkEnd}
-use Rattle.node_laws.proofs.Words.{LinkState, List, MayBeDone, Message, None, Option, Orders, Port, Release, Releases, Removed, SaysOk, Sends, SetAside}
-use Rattle.node_laws.proofs.Words.{SetsErrors, Some, State, TakesMessage, Tells, Turn, Up, Waiting, Waits, Work, Write, [], after_turn, all_done, ap}
-use Rattle.node_laws.proofs.Words.{append_assoc, apply, arith, body_of, by_option, by_test, changed_if, commit, commit_writes, committed, cond, count_of, done}
-use Rattle.node_laws.proofs.Words.{end_of_node, entries_of_reply, eq-eqb, eqb-true, false, give_refusal, given, goes_in, handles, in_use, is_held, is_up, keeps}
-use Rattle.node_laws.proofs.Words.{lack, lets_go, loses_power, map, need, needs, next_count, noted_by_deed, noted_by_deeds, noted_of, notified, noting}
+use Rattle.node_laws.proofs.Words.{Give, GiveOnce, GoesOn, HciTables, Hears, Hold, Init, IsAnswered, IsNoneOf, IsRecordable, IsReplyNoted, Knows, LinkState}
+use Rattle.node_laws.proofs.Words.{List, MayBeDone, Message, None, Option, Orders, Port, Release, Releases, Removed, SaysOk, Sends, SetAside, SetsErrors, Some}
+use Rattle.node_laws.proofs.Words.{State, TakesMessage, Tells, Turn, Up, Waiting, Waits, Work, Write, [], after_turn, all_done, ap, append_assoc, apply, arith}
+use Rattle.node_laws.proofs.Words.{body_of, by_option, by_test, changed_if, commit, commit_writes, committed, cond, count_of, done, end_of_node}
+use Rattle.node_laws.proofs.Words.{entries_of_reply, eq-eqb, eqb-true, false, give_refusal, given, goes_in, handles, in_use, is_held, is_up, keeps, lack}
+use Rattle.node_laws.proofs.Words.{lets_go, loses_power, map, need, needs, next_count, noted_by_deed, noted_by_deeds, noted_of, notified, noting}
 use Rattle.node_laws.proofs.Words.{option_and_then, option_map_or, port_at, refl, sent_in_session, session_of_port, spare, subst, sym, takes_up, true}
-use Rattle.node_laws.proofs.Words.{true≢false, turn, turn_at, waiting_at, with_desk, with_port, ℕ, ◌++◌, ◌+◌, ◌-◌, ◌==◌, ◌∙◌, ◌∷◌, ◌≡◌, ◌≤◌}
+use Rattle.node_laws.proofs.Words.{true≢false, turn_at, waiting_at, with_desk, with_port, ℕ, ◌++◌, ◌+◌, ◌-◌, ◌==◌, ◌∙◌, ◌∷◌, ◌≡◌, ◌≤◌}
 use Rattle.shdlc_core.specs.declared.answers.LinkState.TheVariants.{Down}
 use Rattle.node_laws.proofs.kept.Reckoned.{commit_count}
-use Rattle.node_laws.proofs.links.Noticing.{turn-phase}
 use Rattle.node_laws.proofs.steps.StepWalks.{changed_host, unless as unless_lost}
 use Rattle.node_laws.proofs.telling.Accounts.{IsNoFetch, at_host}
 use Rattle.node_laws.proofs.telling.Steps.{at_map, none_map}
@@ -48,15 +47,6 @@ other_stays j k f host ports off = by_option (port_at ports k)
     keeps : (p : Port) → (g p).desk.host ≡ p.desk.host
     keeps p = changed_host (p.desk.host == j) f p host
 
-got_same : (e : LinkEnd) (t : Turn) → IsNoFetch t → (turn e t).got ≡ e.got
-got_same e t n = grind arith
-
-changed_got : (b : Bool) (f : Port → Port) (p : Port) → (f p).side.got ≡ p.side.got → (changed_if b f p).side.got ≡ p.side.got
-changed_got b f p q = grind arith
-
-changed_holds : (b : Bool) (f : Port → Port) (p : Port) → (f p).desk.holds ≡ p.desk.holds → (changed_if b f p).desk.holds ≡ p.desk.holds
-changed_holds b f p q = grind arith
-
 module _ (k : ℕ) (ms : List Message) (b : Bool) where
   abbrev pub Same : Work → Type 0
   Same w = SeesAt k ms b w
@@ -64,7 +54,7 @@ module _ (k : ℕ) (ms : List Message) (b : Bool) where
   pub turn_sees : (j : ℕ) (t : Turn) (w : Work) → IsNoFetch t → Same w → Same (turn_at j t w)
   turn_sees j t w n s =
       map_sees (λ p. changed_if (p.desk.host == j) (after_turn t) p) (λ p. changed_host (p.desk.host == j) (after_turn t) p (λ q. refl))
-      (λ p. changed_got (p.desk.host == j) (after_turn t) p (got_same p.side t n)) (λ p. changed_holds (p.desk.host == j) (after_turn t) p refl)
+      (λ p. grind arith) (λ p. grind arith)
       w.ports k ms b s
 
   desk_sees : (j : ℕ) (f : Desk → Desk) (w : Work) → ((d : Desk) → (f d).host ≡ d.host) → ((d : Desk) → (f d).holds ≡ d.holds) → Same w
@@ -72,18 +62,15 @@ module _ (k : ℕ) (ms : List Message) (b : Bool) where
   desk_sees j f w host holds s =
       let g : Port → Port = λ p. record p { desk = f p.desk } in
       map_sees (λ p. changed_if (p.desk.host == j) g p) (λ p. changed_host (p.desk.host == j) g p (λ q. host q.desk))
-      (λ p. changed_got (p.desk.host == j) g p refl) (λ p. changed_holds (p.desk.host == j) g p (holds p.desk)) w.ports k ms b s
+      (λ p. grind arith) (λ p. grind arith) w.ports k ms b s
 
   notified_sees : (j : ℕ) (about : About) (message : List ℕ) (w : Work) → Same w → Same (notified j about message w)
   notified_sees j about message w s =
       desk_sees j (λ d. record d { notice = Some (record { about = about; age = 0 }) }) (turn_at j (Give (1, message)) w) (λ d. refl) (λ d. refl)
       (turn_sees j (Give (1, message)) w tt s)
 
-  commit_sees : (c : Command) (w : Work) → Same w → Same (commit c w)
-  commit_sees c w s = by_test (goes_in c w) (λ q. rw q s) (λ q. rw q s)
-
   deed_sees : (h : ℕ) (d : Deed) (w : Work) → Same w → Same (done h d w)
-  deed_sees h (Commits c) w s = commit_sees c w s
+  deed_sees h (Commits c) w s = grind arith
   deed_sees h (Sends to m) w s = turn_sees to (Give m) w tt s
   deed_sees h (Asks to message c) w s =
       notified_sees to (Waits c) message (noting (entry.Ask to message ∷ []) (turn_at c.asker SetAside w)) (turn_sees c.asker SetAside w tt s)
@@ -132,21 +119,17 @@ session_map f host same ports k = by_option (port_at ports k)
     (λ q. ap session_in (none_map f host ports k q) ∙ sym (ap session_in q))
     (λ p q. ap session_in (at_map f host ports k p q) ∙ (same p ∙ sym (ap session_in q)))
 
-changed_session : (b : Bool) (f : Port → Port) (p : Port) → session_in (Some (f p)) ≡ session_in (Some p)
-    → session_in (Some (changed_if b f p)) ≡ session_in (Some p)
-changed_session b f p q = grind arith
-
 pub turn_sessions : (j : ℕ) (t : Turn) (w : Work) (k : ℕ) → session_of_port (turn_at j t w).ports k ≡ session_of_port w.ports k
 turn_sessions j t w k =
     session_map (λ p. changed_if (p.desk.host == j) (after_turn t) p) (λ p. changed_host (p.desk.host == j) (after_turn t) p (λ q. refl))
-    (λ p. changed_session (p.desk.host == j) (after_turn t) p (ap (λ s. cond (is_up s) (Some p.session) None) (turn-phase p.side t))) w.ports k
+    (λ p. grind arith) w.ports k
 
 desk_sessions : (j : ℕ) (f : Desk → Desk) (w : Work) → ((d : Desk) → (f d).host ≡ d.host) → (k : ℕ)
     → session_of_port (with_desk j f w).ports k ≡ session_of_port w.ports k
 desk_sessions j f w host k =
     let g : Port → Port = λ p. record p { desk = f p.desk } in
     session_map (λ p. changed_if (p.desk.host == j) g p) (λ p. changed_host (p.desk.host == j) g p (λ q. host q.desk))
-    (λ p. changed_session (p.desk.host == j) g p refl) w.ports k
+    (λ p. grind arith) w.ports k
 
 notified_sessions : (j : ℕ) (about : About) (message : List ℕ) (w : Work) (k : ℕ)
     → session_of_port (notified j about message w).ports k ≡ session_of_port w.ports k
@@ -168,8 +151,6 @@ deed_sessions h IsAnswered w k = desk_sessions h (λ d. record d { notice = None
 deed_sessions h (SetsErrors errors) w k = desk_sessions h (λ d. record d { errors = errors }) w (λ d. refl) k
 deed_sessions h (Orders message) w k = turn_sessions h (Give (1, message)) (record w { core = record w.core { command = Some message } }) k
 deed_sessions h _ w k = refl
-
--- ### Numbers
 
 -- ### Messages
 
@@ -236,9 +217,8 @@ module _ (sessions : ℕ → Option ℕ) (h : ℕ) where
       let N : ℕ → ℕ → Type 0 =
       λ n k. IsReplyNoted (all_done h deeds v).cut n (noted_by_deeds h deeds v) (entries_of_reply n sessions h k deeds) in
       let node : v.core.node ≡ w.core.node = ap (λ (x : Work). x.core.node) (kept q) in
-      let many : count_of v.core.journal ≡ next_count (count_of w.core.journal) = ap (λ (x : Work). count_of x.core.journal) (kept q) ∙ counts.0 in
       onward (Commits c) deeds w w.core.node (entry.Command w.core.node c ∷ []) rest on (rw q refl)
-      (subst (λ k. N w.core.node k) many (subst (λ n. N n (count_of v.core.journal)) node (later on (subst C (sym (kept q)) counts.1)))))
+      (subst (λ k. N w.core.node k) (grind arith) (subst (λ n. N n (count_of v.core.journal)) node (later on (subst C (sym (kept q)) counts.1)))))
     where
       v : Work
       v = commit c w
@@ -293,12 +273,9 @@ module _ (sessions : ℕ → Option ℕ) (h : ℕ) where
   noted_so (Orders message ∷ deeds) w on same t c =
       onward (Orders message) deeds w w.core.node _ _ on (sends_so h (1, message) w.core w.ports same t.0)
       (noted_so deeds (done h (Orders message) w) on (λ n. deed_sessions h (Orders message) w n ∙ same n) t.1 c)
-  noted_so (Hears ∷ deeds) w on same t c =
-      onward Hears deeds w w.core.node [] _ on refl (noted_so deeds (done h Hears w) on same t.1 c)
-  noted_so (GoesOn i ∷ deeds) w on same t c =
-      onward (GoesOn i) deeds w w.core.node [] _ on refl (noted_so deeds (done h (GoesOn i) w) on same t.1 c)
-  noted_so (Ends e ∷ deeds) w on same t c =
-      onward (Ends e) deeds w w.core.node (e ∷ []) _ on refl (noted_so deeds (done h (Ends e) w) on same t.1 c)
+  noted_so (Hears ∷ deeds) w on same t c = onward Hears deeds w w.core.node [] _ on refl (noted_so deeds (done h Hears w) on same t.1 c)
+  noted_so (GoesOn i ∷ deeds) w on same t c = onward (GoesOn i) deeds w w.core.node [] _ on refl (noted_so deeds (done h (GoesOn i) w) on same t.1 c)
+  noted_so (Ends e ∷ deeds) w on same t c = onward (Ends e) deeds w w.core.node (e ∷ []) _ on refl (noted_so deeds (done h (Ends e) w) on same t.1 c)
 
 -- ## Where no deed lacks room, and deeds give each end one message or block at most, each message is taken
 
@@ -393,8 +370,7 @@ module _ (h : ℕ) (start : List Port) where
       )
   all_taken (SaysOk ∷ deeds) given w apart none a = (tt, all_taken deeds given (done h SaysOk w) apart none a)
   all_taken (Asks to message c ∷ deeds) given w apart none a =
-      let first = lack_first start c.asker 1 ((to, need message) ∷ needs h deeds) none in
-      let parts = lack_first start to (need message) (needs h deeds) first.1 in
+      let parts = lack_first start to (need message) (needs h deeds) (lack_first start c.asker 1 ((to, need message) ∷ needs h deeds) none).1 in
       let aside : Work = turn_at c.asker SetAside w in
       let told : Work = noting (entry.Ask to message ∷ []) aside in
       let v : Work = notified to (Waits c) message told in
@@ -462,11 +438,8 @@ module _ (content : List ℕ) (s : State) (t : HciTables) (knows : Knows content
 
 -- ### The reply to a message
 
-same_spare : (n : ℕ) → n ≤ n
-same_spare n = omega arith
-
 pub taken_at_once : (h : ℕ) (deeds : List Deed) (w : Work) → GiveOnce h [] deeds → lack w.ports (needs h deeds) ≡ None → AreTaken h deeds w
-taken_at_once h deeds w apart none = all_taken h w.ports deeds [] w apart none (λ k free. same_spare (spare_of w.ports k))
+taken_at_once h deeds w apart none = all_taken h w.ports deeds [] w apart none (λ k free. omega arith)
 
 pub reply_noted : (h : ℕ) (m : Message) (deeds : List Deed) (w : Work) → w.cut ≡ false → GiveOnce h [] deeds → lack w.ports (needs h deeds) ≡ None
     → CountsCommands w.core.journal w.core.tables deeds

@@ -1,7 +1,7 @@
 -- What waits at an end, and whether it was noted as held, is read off what is noted of turns.
-use Rattle.node_laws.proofs.Words.{AreNoTurns, Bool, ComesTo, Deed, Entry, IsNoTurn, IsWaitingRead, LastsOverTurns, List, Message, Work, [], ap, append-nil}
-use Rattle.node_laws.proofs.Words.{append_assoc, arith, by_test, cond, deeds_of, drop, end_of_node, eqb-true, false, handles, holds_back, is_held_at, lets_go}
-use Rattle.node_laws.proofs.Words.{noted_by_deeds, refl, subst, sym, takes_up, true, waiting_after, waiting_at, waits_behind, ℕ, ◌++◌, ◌==◌, ◌∙◌, ◌∷◌, ◌≡◌}
+use Rattle.node_laws.proofs.Words.{AreNoTurns, Bool, ComesTo, Deed, Entry, IsWaitingRead, LastsOverTurns, List, Message, Work, [], ap, append-nil, append_assoc}
+use Rattle.node_laws.proofs.Words.{arith, by_test, cond, deeds_of, drop, end_of_node, eqb-true, false, handles, holds_back, is_held_at, lets_go, noted_by_deeds}
+use Rattle.node_laws.proofs.Words.{refl, subst, sym, takes_up, true, waiting_after, waiting_at, waits_behind, ℕ, ◌++◌, ◌==◌, ◌∙◌, ◌∷◌, ◌≡◌}
 use Rattle.trace_model.specs.declared.entry.Entry.TheVariants as entry
 use Rattle.node_laws.proofs.passes.Replying.{SeesAt, lets_see}
 use Rattle.node_laws.proofs.passes.InSteps.{reply_none}
@@ -15,12 +15,9 @@ behind-append : (k : ℕ) (s : State) (es more : List Entry) → waits_behind k 
 behind-append k s [] more = refl
 behind-append k s (x ∷ es) more = behind-append k (waiting_after k s x) es more
 
-no_turn_same : (k : ℕ) (s : State) (x : Entry) → IsNoTurn x → waiting_after k s x ≡ s
-no_turn_same k s x n = grind arith
-
 no_turns_same : (k : ℕ) (s : State) (es : List Entry) → AreNoTurns es → waits_behind k s es ≡ s
 no_turns_same k s [] a = refl
-no_turns_same k s (x ∷ es) a = ap (λ z. waits_behind k z es) (no_turn_same k s x a.0) ∙ no_turns_same k s es a.1
+no_turns_same k s (x ∷ es) a = ap (λ z. waits_behind k z es) (grind arith) ∙ no_turns_same k s es a.1
 
 module _ (k : ℕ) (w : Work) where
   abbrev start : State
@@ -70,9 +67,8 @@ module _ (k : ℕ) (w : Work) where
       go : (b : Bool) → (h == k) ≡ b → SeesAt k (cond b (drop 1 s.0, false) s).0 (cond b (drop 1 s.0, false) s).1 u
       go false off = other_handles k s.0 s.1 h m deeds v off (sees v a)
       go true e =
-          let is : h ≡ k = eqb-true h k e in
           let rest : messages ≡ drop 1 s.0 = grind arith in
-          subst (λ l. SeesAt k l false u) rest (subst (λ n. SeesAt n messages false u) is (handles_sees h m messages deeds v waiting))
+          subst (λ l. SeesAt k l false u) rest (subst (λ n. SeesAt n messages false u) (eqb-true h k e) (handles_sees h m messages deeds v waiting))
 
   held : (v : Work) (h : ℕ) (m : Message) (messages : List Message) (short : ℕ × ℕ) → Read v → waiting_at v.ports h ≡ m ∷ messages
       → Read (holds_back h short v)

@@ -1,13 +1,13 @@
 -- In each event, and so over histories, nothing of a node stands behind its cut.
 use Rattle.node_laws.proofs.Words.{Activates, AllByRecursion, AreDifferent, AreNotOf, Arms, AsksReset, AtEnd, Bool, Boots, Comes, Controller, CutsEndParts}
 use Rattle.node_laws.proofs.Words.{Deed, End, Entry, FollowsNodes, Gives, Happening, HasEnds, Header, Host, IfItRuns, Inits, IsCut, IsOrderly, Line, Link, List}
-use Rattle.node_laws.proofs.Words.{Loses, Loss, Message, NextFrame, NoInput, NodeHistory, NodeWorld, None, NumberedEnd, Option, Plan, Port, Resets, Running}
-use Rattle.node_laws.proofs.Words.{Site, Start, Starts, Takes, Ticks, TimePasses, Work, [], aged_entries, all_aged, all_append, ap, arith, arrival, beginning}
-use Rattle.node_laws.proofs.Words.{begins_with, boots, by_boot, by_coming, by_controller, by_controller_tick, by_host, by_host_tick, by_test, comes_at}
-use Rattle.node_laws.proofs.Words.{comes_to, controller_does, controller_ticks, end_c, end_h, entries_for, eqb-true, exchanged, false, flat_map, frame_lost}
-use Rattle.node_laws.proofs.Words.{frames_noted, host_does, host_tick, host_ticks, host_work, hosts_in, hosts_of_ends, hosts_tick, is_command_message, link_to}
-use Rattle.node_laws.proofs.Words.{near_end_in, near_tick, node_of, refl, sending, site_at, steps, subst, sym, true, true≢false, wires_for, work_of, world_step}
-use Rattle.node_laws.proofs.Words.{world_ticks, ℕ, ◌&&◌, ◌++◌, ◌==◌, ◌∙◌, ◌∷◌, ◌≡◌}
+use Rattle.node_laws.proofs.Words.{Loses, Message, NextFrame, NoInput, NodeHistory, NodeWorld, None, NumberedEnd, Option, Plan, Port, Resets, Running, Site}
+use Rattle.node_laws.proofs.Words.{Starts, Takes, Ticks, TimePasses, Work, [], aged_entries, all_aged, all_append, ap, arith, arrival, beginning, begins_with}
+use Rattle.node_laws.proofs.Words.{by_coming, by_controller, by_controller_tick, by_host, by_host_tick, by_test, comes_at, comes_to, controller_does}
+use Rattle.node_laws.proofs.Words.{controller_ticks, end_c, end_h, entries_for, eqb-true, exchanged, false, flat_map, frames_noted, host_does, host_tick}
+use Rattle.node_laws.proofs.Words.{host_ticks, host_work, hosts_in, hosts_of_ends, hosts_tick, is_command_message, link_to, near_end_in, near_tick, node_of}
+use Rattle.node_laws.proofs.Words.{refl, sending, site_at, steps, subst, sym, true, true≢false, wires_for, work_of, world_step, world_ticks, ℕ, ◌&&◌, ◌++◌}
+use Rattle.node_laws.proofs.Words.{◌==◌, ◌∙◌, ◌∷◌, ◌≡◌}
 use Rattle.node_laws.proofs.power.Steps.{AreEnds, AreOver, AreOwn, Fine, IsEndOf, IsMine, IsOwn, IsPart, Runs, arrival_of_side, deeds_fine, frames_own}
 use Rattle.node_laws.proofs.power.Steps.{links_own, nothing_part, over_front, over_part, over_split, own_not, part_over, part_own, steps_fine, work_part}
 use Rattle.node_laws.proofs.telling.Events.{comes_goes, hosts_same_of_nodes as hosts_same, ports_for, site_host, site_is}
@@ -74,21 +74,19 @@ near_part v wires sites fine =
     (flat_all IsUncut (λ (s : Site). frames_noted Controller s.host (wires s) v) (λ s. frames_uncut Controller s.host (wires s) v) sites)
 
 far_part : (h : ℕ) (v : Work) (l : Link) → Fine h v → IsPart h (v.entries ++ frames_noted Host h l v)
-far_part h v l fine =
-    work_part h v (frames_noted Host h l v) fine (frames_none Host h l v) (frames_own h Host h l v refl) (frames_uncut Host h l v)
+far_part h v l fine = work_part h v (frames_noted Host h l v) fine (frames_none Host h l v) (frames_own h Host h l v refl) (frames_uncut Host h l v)
 
 pub controller_part : (w : NodeWorld) (k : ℕ) (comes : Comes) (f : Work → Work) → ((v : Work) → Runs 0 v → Fine 0 (f v)) → IsOrderly w
     → IsPart 0 (controller_does w k comes f).1
 controller_part w k comes f does a =
     by_controller (λ p. IsPart 0 p.1) w k comes f (nothing_part 0)
     (λ r q.
-    let n : HasEnds 0 (hosts_in w.sites) r = subst (IfItRuns 0 (hosts_in w.sites)) q a.controller in
     let l : Link = link_to w.sites k in
     let es : List Entry = entries_for k (arrival Controller l comes) in
     let near_ends : ℕ → NumberedEnd = λ j. near_end_in (link_to w.sites j) (comes_to k comes j) in
     let begun : Work = work_of r w.memory.plan near_ends es in
     near_part (f begun) (λ s. wires_for s.link (comes_to k comes s.host)) w.sites
-    (does begun (near_runs r w.memory.plan near_ends es n.number
+    (does begun (near_runs r w.memory.plan near_ends es (subst (IfItRuns 0 (hosts_in w.sites)) q a.controller).number
     (links_own 0 k Controller refl (arrival Controller l comes) (arrival_of_side Controller l comes)) (entries_uncut k (arrival Controller l comes)))))
 
 pub host_part : (w : NodeWorld) (h : ℕ) (comes : Comes) (f : Work → Work) → ((v : Work) → Runs h v → Fine h (f v)) → IsOrderly w
@@ -194,12 +192,6 @@ ticks_over w a =
 
 -- ### Events
 
-boots_over : (w : NodeWorld) (n : ℕ) → AreOver (boots w n).1
-boots_over w n = by_boot (λ p. AreOver p.1) w n (tt, tt) (tt, tt)
-
-lost_over : (w : NodeWorld) (e : End) (why : Loss) → AreOver (frame_lost w e why).1
-lost_over w e why = grind arith
-
 -- no host has the number of the controller
 pub no_site : (sites : List Site) (h : ℕ) → (h == 0) ≡ true → AllByRecursion (λ (s : Site). (s.host == 0) ≡ false) sites → site_at sites h ≡ None
 no_site [] h zero a = refl
@@ -207,12 +199,8 @@ no_site (s ∷ sites) h zero a = by_test (s.host == h)
     (λ e. absurd (true≢false (sym (ap (λ n. n == 0) (eqb-true s.host h e) ∙ zero) ∙ a.0)))
     (λ e. rw e (no_site sites h zero a.1))
 
-host_none : (w : NodeWorld) (h : ℕ) (comes : Comes) (f : Work → Work) → site_at w.sites h ≡ None → (host_does w h comes f).1 ≡ []
-host_none w h comes f q = rw q refl
-
 activates_over : (w : NodeWorld) (h sync power : ℕ) → IsOrderly w → AreOver (world_step w (Activates h sync power)).1
-activates_over w h sync power a =
-    over_part 0 near.1 far.1 (comes_part w (end_c h) (Starts power) a) (others (h == 0) refl) (part_over h far.1 last)
+activates_over w h sync power a = over_part 0 near.1 far.1 (comes_part w (end_c h) (Starts power) a) (others (h == 0) refl) (part_over h far.1 last)
   where
     near : NodeWorld × List Entry
     near = comes_at w (end_c h) (Starts power)
@@ -230,11 +218,11 @@ activates_over w h sync power a =
     others false q = own_not h 0 far.1 q (part_own h far.1 last)
     others true q =
         let none : far.1 ≡ [] =
-        host_none near.0 h (Starts sync) (steps (AtEnd h (Start sync))) (no_site near.0.sites h q b.hosts) in
+        (rw (no_site near.0.sites h q b.hosts) refl) in
         subst (AreNotOf 0) (sym none) tt
 
 step_over : (w : NodeWorld) (c : Happening) → IsOrderly w → AreOver (world_step w c).1
-step_over w (Boots n) a = boots_over w n
+step_over w (Boots n) a = grind arith
 step_over w (IsCut n) a = (tt, tt)
 step_over w (Gives e m) a =
     part_over e.link (host_does w e.link NoInput (begins_with e.link (sending e.link m))).1 (begins_part w e.link (sending e.link m) (sending_mine e.link m) a)
@@ -242,7 +230,7 @@ step_over w (Inits e identity pipes) a =
     part_over e.link (host_does w e.link NoInput (begins_with e.link (beginning identity pipes))).1
     (begins_part w e.link (beginning identity pipes) (tt, (tt, tt)) a)
 step_over w (Takes e) a = part_over (node_of e) (comes_at w e NextFrame).1 (comes_part w e NextFrame a)
-step_over w (Loses e why) a = lost_over w e why
+step_over w (Loses e why) a = grind arith
 step_over w Ticks a = ticks_over w a
 step_over w (Resets e window) a = part_over (node_of e) (comes_at w e (AsksReset window)).1 (comes_part w e (AsksReset window) a)
 step_over w (Activates h sync power) a = activates_over w h sync power a

@@ -1,18 +1,16 @@
 -- What a node notes in a step tells of it alone, and ends with its cut where it loses its power.
 use Rattle.node_laws.proofs.Words.{About, Acked, Active, AllByRecursion, AreNotOf, Asks, AtEnd, Bool, Comes, Command, Commits, Control, Core, Creation, Deed}
 use Rattle.node_laws.proofs.Words.{Desk, Down, Drops, Emit, Ends, Entry, FetchMessage, GaveUp, Give, GoesOn, GoesOut, Got, Hears, Hold, IsAnswered, Link}
-use Rattle.node_laws.proofs.Words.{LinkEnd, LinkInput, List, Loss, Message, NodeInput, None, Noted, OfHost, OnWire, Option, Orders, Plain, Port, Release}
-use Rattle.node_laws.proofs.Words.{Releases, Removed, Report, Reset, Response, SaysOk, Sends, Sent, SetAside, SetsErrors, Some, Tells, TimePasses, TooMany}
-use Rattle.node_laws.proofs.Words.{Took, Turn, Waits, Work, Write, [], after_input, after_sessions, after_turn, all_append, all_come, all_done, all_of_host}
-use Rattle.node_laws.proofs.Words.{all_owed, any_of_controller, ap, append-nil, append_assoc, arith, arrival, asked_at, body_of, by_option, by_test, changed_if}
-use Rattle.node_laws.proofs.Words.{comes_to_pass, commit, commit_writes, cond, count_of, deeds_of, done, end_of, end_of_node, end_of_number, ending_entries}
-use Rattle.node_laws.proofs.Words.{entries_for, entry_of, eqb-true, false, far, filter, first_lost, flat_map, forgets, frames_noted, frames_out, goes_in}
-use Rattle.node_laws.proofs.Words.{goes_through_ends, handles, has_come_so, has_freed, has_synced, have_turns, holds_back, hosts_of_ends, inl, input_at, inr}
-use Rattle.node_laws.proofs.Words.{is_held, is_held_at, is_late, keeps, lacking, length, lets_go, loses_power, map, nat_lt, node_of, noted_of, notified, noting}
-use Rattle.node_laws.proofs.Words.{option_map_or, owed, owed_in_step, own_side, passes, port_at, pushed_out, put, put_entries, puts_entries, refl, report}
+use Rattle.node_laws.proofs.Words.{LinkInput, List, Message, NodeInput, None, Noted, Option, Orders, Port, Release, Releases, Removed, Report, SaysOk, Sends}
+use Rattle.node_laws.proofs.Words.{Sent, SetAside, SetsErrors, Some, Tells, TimePasses, Took, Turn, Waits, Work, Write, [], after_input, after_sessions}
+use Rattle.node_laws.proofs.Words.{after_turn, all_append, all_come, all_done, all_of_host, all_owed, any_of_controller, ap, append-nil, append_assoc, arith}
+use Rattle.node_laws.proofs.Words.{arrival, asked_at, body_of, by_option, by_test, changed_if, comes_to_pass, commit, commit_writes, cond, count_of, deeds_of}
+use Rattle.node_laws.proofs.Words.{done, end_of, end_of_node, end_of_number, ending_entries, entries_for, entry_of, eqb-true, false, filter, flat_map, forgets}
+use Rattle.node_laws.proofs.Words.{frames_noted, frames_out, goes_in, goes_through_ends, handles, has_come_so, has_freed, has_synced, have_turns, holds_back}
+use Rattle.node_laws.proofs.Words.{hosts_of_ends, inl, input_at, inr, is_held, is_held_at, keeps, lacking, lets_go, loses_power, map, node_of, noted_of}
+use Rattle.node_laws.proofs.Words.{notified, noting, option_map_or, owed, owed_in_step, own_side, passes, port_at, put, put_entries, puts_entries, refl, report}
 use Rattle.node_laws.proofs.Words.{steps, subst, sym, synced, syncs_in, takes_up, told, told_at, told_late, told_of_coming, told_of_late, true, turn_at}
-use Rattle.node_laws.proofs.Words.{unless_cut, waiting_at, whole_acked, wire_with, with_desk, with_older, with_port, without_notice, ℕ, ◌++◌, ◌==◌, ◌∙◌, ◌∷◌}
-use Rattle.node_laws.proofs.Words.{◌≡◌, ◌⊎◌}
+use Rattle.node_laws.proofs.Words.{unless_cut, waiting_at, whole_acked, with_desk, with_older, with_port, without_notice, ℕ, ◌++◌, ◌==◌, ◌∙◌, ◌∷◌, ◌≡◌, ◌⊎◌}
 use Rattle.link_laws.specs.entries.Entries.{End as Side}
 use Rattle.link_laws.specs.entries.Entries.Entry.{Up}
 use Rattle.node_laws.specs.power.Powers.{node_told}
@@ -38,12 +36,9 @@ IsOwn k x = IsAt k (node_told x)
 abbrev pub AreOwn : ℕ → List Entry → Type 0
 AreOwn k es = AllByRecursion (IsOwn k) es
 
-at_other : (k n : ℕ) (o : Option ℕ) → (k == n) ≡ false → IsAt k o → option_map_or (λ m. m == n) o false ≡ false
-at_other k n o off a = grind arith
-
 pub own_not : (k n : ℕ) (es : List Entry) → (k == n) ≡ false → AreOwn k es → AreNotOf n es
 own_not k n [] off a = tt
-own_not k n (x ∷ es) off a = (at_other k n (node_told x) off a.0, own_not k n es off a.1)
+own_not k n (x ∷ es) off a = (grind arith, own_not k n es off a.1)
 
 -- ### Behind cuts
 
@@ -66,12 +61,9 @@ over_split (x ∷ es) [] behind n a e =
 over_split (x ∷ es) (y ∷ before) behind n a e =
     let rest : es ≡ before ++ (entry.Cut n ∷ behind) = cc in over_split es before behind n a.1 rest
 
-if_uncut : (x : Entry) (es : List Entry) → IsUncut x → IfCut x es
-if_uncut x es u = grind arith
-
 pub over_front : (front es : List Entry) → AreUncut front → AreOver es → AreOver (front ++ es)
 over_front [] es u a = a
-over_front (x ∷ front) es u a = (if_uncut x (front ++ es) u.0, over_front front es u.1 a)
+over_front (x ∷ front) es u a = (grind arith, over_front front es u.1 a)
 
 -- ### What one node notes in an event
 
@@ -101,8 +93,6 @@ part_over k t p = subst AreOver (append-nil t) (over_part k t [] p tt tt)
 
 -- ## What is noted of an end tells of its node, and of no loss of power
 
--- ### No power
-
 -- ### Its node
 
 -- it is noted of this end, or of a frame that is lost
@@ -125,32 +115,20 @@ module _ (k h : ℕ) (who : Side) (own : node_of (end_of h who) ≡ k) where
   at : (s : Side) → s ≡ who → node_of (end_of h s) ≡ k
   at s e = rw e own
 
-  one_own : (x : Noted) → IsOfSide who x → AreOwn k (entry_of h x)
-  one_own x a = grind arith
-
   pub links_own : (xs : List Noted) → AreOfSide who xs → AreOwn k (entries_for h xs)
   links_own [] a = tt
-  links_own (x ∷ xs) a = all_append (IsOwn k) (entry_of h x) (entries_for h xs) (one_own x a.0) (links_own xs a.1)
+  links_own (x ∷ xs) a = all_append (IsOwn k) (entry_of h x) (entries_for h xs) (grind arith) (links_own xs a.1)
 
 -- ### What is noted of one end
 
 told_of_side : (who : Side) (n : ℕ) (r : Report) (acked : ℕ) → AreOfSide who (told who n r acked)
 told_of_side who n r acked = told_all (IsOfSide who) who n acked refl refl (λ k. refl) refl (λ m. refl) (λ c. refl) r
 
-lost_of_side : (who s : Side) (why : Loss) (xs : List OnWire) → AreOfSide who (first_lost s why xs)
-lost_of_side who s why xs = grind arith
-
-pushed_of_side : (who s : Side) (wire : List OnWire) → AreOfSide who (pushed_out s wire)
-pushed_of_side who s wire = by_test (nat_lt 64 (length wire)) (λ q. rw q (lost_of_side who s TooMany wire)) (λ q. rw q tt)
-
 puts_of_side : (who : Side) (l : Link) (cs : List Control) → AreOfSide who (puts_entries who l cs)
 puts_of_side who l [] = tt
 puts_of_side who l (c ∷ cs) =
-    all_append (IsOfSide who) (put_entries who l c) (puts_entries who (put l c) cs) (refl, pushed_of_side who (far who) (wire_with l c))
+    all_append (IsOfSide who) (put_entries who l c) (puts_entries who (put l c) cs) (refl, grind arith)
     (puts_of_side who (put l c) cs)
-
-out_of_side : (who : Side) (l : Link) (e : LinkEnd) → AreOfSide who (ending_entries who l e GoesOut)
-out_of_side who l e = puts_of_side who l (frames_out e)
 
 pub arrival_of_side : (who : Side) (l : Link) (comes : Comes) → AreOfSide who (arrival who l comes)
 arrival_of_side who l comes = grind arith
@@ -221,16 +199,13 @@ module _ (k : ℕ) where
       → AreOwn k (option_map_or (noted_of w.core t) o [])
   turn_own t w o r is = grind arith
 
-  turn_uncut : (t : Turn) (core : Core) (o : Option Port) → AreUncut (option_map_or (noted_of core t) o [])
-  turn_uncut t core o = grind arith
-
   turn_runs : (j : ℕ) (t : Turn) (w : Work) → Runs w → Runs (turn_at j t w)
   turn_runs j t w r = record {
     on = r.on;
     number = r.number;
     ends = with_ends j (after_turn t) (λ p. refl) w.ports r.ends;
     own = all_append (IsOwn k) w.entries _ r.own (turn_own t w (port_at w.ports j) r (λ p q. port_end w.ports j p r.ends q));
-    uncut = all_append IsUncut w.entries _ r.uncut (turn_uncut t w.core (port_at w.ports j));
+    uncut = all_append IsUncut w.entries _ r.uncut (grind arith);
   }
 
   desk_runs : (j : ℕ) (f : Desk → Desk) (w : Work) → ((d : Desk) → (f d).host ≡ d.host) → Runs w → Runs (with_desk j f w)
@@ -290,8 +265,7 @@ module _ (k : ℕ) where
   deed_fine h (Releases asker) w m r = inl (turn_runs asker Release w r)
   deed_fine h (Tells to message) w m r = inl (notified_runs to Removed message w r)
   deed_fine h IsAnswered w m r = inl (desk_runs h (λ d. record d { notice = None }) w (λ d. refl) r)
-  deed_fine h (Drops pid) w m r =
-      inl (note_runs (entry.Dropped (end_of_node w.core h) pid ∷ []) w (at_own w.core h r.number m, tt) (tt, tt) r)
+  deed_fine h (Drops pid) w m r = inl (note_runs (entry.Dropped (end_of_node w.core h) pid ∷ []) w (at_own w.core h r.number m, tt) (tt, tt) r)
   deed_fine h (SetsErrors errors) w m r = inl (desk_runs h (λ d. record d { errors = errors }) w (λ d. refl) r)
   deed_fine h (Orders message) w m r =
       let v : Work = record w { core = record w.core { command = Some message } } in
@@ -308,22 +282,16 @@ module _ (k : ℕ) where
 
   -- ### Messages
 
-  plain_mine : (h : ℕ) → IsEndOf h → Plain (IsMine h)
-  plain_mine h is = record { sends = λ to x. tt; says_ok = tt; releases = λ asker. tt; is_answered = tt; drops = λ pid. is }
-
-  host_mine : (h : ℕ) (core : Core) → core.node ≡ k → OfHost (IsMine h) core
-  host_mine h core number = grind arith
-
   reply_mine : (h : ℕ) (m : Message) (w : Work) → IsEndOf h → Runs w → AllByRecursion (IsMine h) (deeds_of w.core w.ports h m)
   reply_mine h m w is r = go (w.core.node == 0) (port_at w.ports h) refl refl
     where
       go : (b : Bool) (o : Option Port) → (w.core.node == 0) ≡ b → port_at w.ports h ≡ o → AllByRecursion (IsMine h) (deeds_of w.core w.ports h m)
       go true o zero here =
-          rw zero (any_of_controller (IsMine h) (plain_mine h is) (λ c. tt) (λ to message. tt)
+          rw zero (any_of_controller (IsMine h) (grind arith) (λ c. tt) (λ to message. tt)
           (λ to message c. sym (eqb-true w.core.node 0 zero) ∙ r.number) (λ errors. tt) w.core w.ports h m)
       go false None zero here = rw (zero, here) tt
       go false (Some p) zero here =
-          rw (zero, here) (all_of_host (IsMine h) w.core (plain_mine h is) (host_mine h w.core r.number) p m (λ n value command zero sets. tt))
+          rw (zero, here) (all_of_host (IsMine h) w.core (grind arith) (grind arith) p m (λ n value command zero sets. tt))
 
   handles_fine : (h : ℕ) (m : Message) (deeds : List Deed) (w : Work) → IsEndOf h → AllByRecursion (IsMine h) deeds → Runs w
       → Fine (handles h m deeds w)
@@ -377,9 +345,6 @@ module _ (k : ℕ) where
 
 -- ### What comes
 
-come_cut : (input : NodeInput) (w : Work) → (has_come_so input w).cut ≡ w.cut
-come_cut input w = grind arith
-
 come_core : (input : NodeInput) (w : Work) → (has_come_so input w).core ≡ w.core
 come_core input w = grind arith
 
@@ -399,9 +364,6 @@ module _ (k : ℕ) where
       (told (own_side core) p.session (report p.side i) (whole_acked (after_input p.side i)))
       (told_of_side (own_side core) p.session (report p.side i) (whole_acked (after_input p.side i)))
 
-  late_told : (core : Core) (p : Port) → core.node ≡ k → IsEndOf k p.desk.host → AreOwn k (told_late core p)
-  late_told core p number is = by_test (is_late p) (λ q. rw q (at_told core p (Some (Reset None)) number is)) (λ q. rw q tt)
-
   flat_own : (f : Port → List Entry) (ports : List Port) → AreEnds k ports → ((p : Port) → IsEndOf k p.desk.host → AreOwn k (f p))
       → AreOwn k (flat_map f ports)
   flat_own f [] a one = tt
@@ -410,7 +372,7 @@ module _ (k : ℕ) where
   all_late_own : (input : NodeInput) (w : Work) → w.core.node ≡ k → AreEnds k w.ports → AreOwn k (told_of_late input w)
   all_late_own (AtEnd h i) w number a = tt
   all_late_own TimePasses w number a =
-      flat_own (told_late w.core) (map with_older w.ports) (map_ends k with_older (λ p. refl) w.ports a) (λ p is. late_told w.core p number is)
+      flat_own (told_late w.core) (map with_older w.ports) (map_ends k with_older (λ p. refl) w.ports a) (λ p is. grind arith)
 
   come_ends : (input : NodeInput) (w : Work) → AreEnds k w.ports → AreEnds k (all_come input w).ports
   come_ends input w a = map_ends k _ (λ p. come_host p (input_at input p)) w.ports a
@@ -435,7 +397,7 @@ module _ (k : ℕ) where
   begun_runs input w r =
       let came : Work = has_come_so input w in
       record {
-        on = come_cut input w ∙ r.on;
+        on = (grind arith) ∙ r.on;
         number = sessions_node came.core came.ports ∙ (ap (λ (c : Core). c.node) (come_core input w) ∙ r.number);
         ends = ends_by_hosts w.ports _
             (sym (hosts_map without_notice without_host (map (forgets came.ports) came.ports)
@@ -449,9 +411,6 @@ module _ (k : ℕ) where
   abbrev AreMine : List Deed → Type 0
   AreMine deeds = AllByRecursion (IsMine k 0) deeds
 
-  owed_mine : (r : Response) (o : Option Creation) → AreMine (owed r o)
-  owed_mine r o = grind arith
-
   flat_mine : (f : Port → List Deed) → ((p : Port) → AreMine (f p)) → (ports : List Port) → AreMine (flat_map f ports)
   flat_mine f one [] = tt
   flat_mine f one (p ∷ ports) = all_append (IsMine k 0) (f p) (flat_map f ports) (one p) (flat_mine f one ports)
@@ -459,8 +418,8 @@ module _ (k : ℕ) where
   all_owed_mine : (ports : List Port) → AreMine (all_owed ports)
   all_owed_mine ports =
       all_append (IsMine k 0) (flat_map (λ p. owed response.NotConnected (asked_at p)) (filter (λ p. p.ended) ports)) _
-      (flat_mine (λ p. owed response.NotConnected (asked_at p)) (λ p. owed_mine response.NotConnected (asked_at p)) (filter (λ p. p.ended) ports))
-      (flat_mine (λ p. owed response.Timeout (asked_at p)) (λ p. owed_mine response.Timeout (asked_at p)) (filter (λ p. p.late) ports))
+      (flat_mine (λ p. owed response.NotConnected (asked_at p)) (λ p. grind arith) (filter (λ p. p.ended) ports))
+      (flat_mine (λ p. owed response.Timeout (asked_at p)) (λ p. grind arith) (filter (λ p. p.late) ports))
 
   synced_mine : (core : Core) (input : NodeInput) (p : Port) → AreMine (synced core input p)
   synced_mine core input p = grind arith
@@ -512,4 +471,4 @@ frames_own k who h l v at = by_test v.cut
     (λ off. subst (AreOwn k) (sym (frames_none who h l v off)) tt)
     (λ on. by_option (port_at v.ports h)
     (λ q. rw q tt)
-    (λ p q. rw (q, on) (links_own k h who at (ending_entries who l p.side GoesOut) (out_of_side who l p.side))))
+    (λ p q. rw (q, on) (links_own k h who at (ending_entries who l p.side GoesOut) (puts_of_side who l (frames_out p.side)))))

@@ -25,9 +25,6 @@ use Rattle.node_laws.proofs.telling.Shapes.{AreClear, came_uncut, clear-append, 
 
 -- ### One end
 
-arrival_clear : (who : Side) (l : Link) (comes : Comes) → AreClear (arrival who l comes)
-arrival_clear who l comes = grind arith
-
 coming_clear : (who : Side) (h : NumberedEnd) (o : Option LinkInput) → AreClear (told_coming who h o)
 coming_clear who h None = tt
 coming_clear who h (Some i) = clear_told who (number_of h) (report h.side i) (whole_acked (after_input h.side i))
@@ -49,7 +46,7 @@ module _ (t : List Entry) (h : ℕ) (who : Side) (l : Link) (comes : Comes) (o :
         end = c.end;
         late = late;
         noted = noted;
-        clear = clear-append first second (arrival_clear who l comes) (coming_clear who (near_end_in l comes) o);
+        clear = clear-append first second (grind arith) (coming_clear who (near_end_in l comes) o);
         says = c.says;
         account = subst B (sym (notes-append h first second)) (subst E (sym c.side) (subst N (sym c.number) goes));
       }
@@ -71,14 +68,11 @@ pub site_for : (ports : List Port) (sites : List Site) (h : ℕ) (p : Port) → 
 site_for [] sites h p e q = absurd (cc q)
 site_for (x ∷ ports) [] h p e q = absurd (cc e)
 site_for (x ∷ ports) (s ∷ sites) h p e q = by_test (x.desk.host == h)
-    (λ f. let found : (s.host == h) ≡ true = ap (λ n. n == h) (sym one) ∙ f in record { site = s; there = rw found refl })
-    (λ f. let passed : (s.host == h) ≡ false = ap (λ n. n == h) (sym one) ∙ f in
+    (λ f. let found : (s.host == h) ≡ true = ap (λ n. n == h) (sym cc) ∙ f in record { site = s; there = rw found refl })
+    (λ f. let passed : (s.host == h) ≡ false = ap (λ n. n == h) (sym cc) ∙ f in
     let rest : HasSite sites h = site_for ports sites h p others (rw f at q) in
     record { site = rest.site; there = rw passed rest.there })
   where
-    one : x.desk.host ≡ s.host
-    one = cc
-
     others : hosts_of_ends ports ≡ hosts_in sites
     others = cc
 

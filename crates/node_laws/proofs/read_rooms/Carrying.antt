@@ -1,8 +1,8 @@
 -- What is known of the ends of a node lasts over all that comes and over its turns, and is what is read of them.
-use Rattle.node_laws.proofs.Words.{ArePortsRead, AreSendable, AreSendableTurns, AsksReset, Before, Bool, Comes, Controller, Core, Deed, Desk, End, Entry}
-use Rattle.node_laws.proofs.Words.{FramesFor, Good, HoldsInStep, Host, IsLine, IsLinkTold, IsPortRead, IsRead, IsReadOff, IsSendable, LastsOverTurns, Link}
-use Rattle.node_laws.proofs.Words.{LinkEnd, LinkInput, List, Message, NextFrame, NoInput, NodeInput, None, Noted, NumberedEnd, OnWire, Option, Port, Reached}
-use Rattle.node_laws.proofs.Words.{Reset, Some, Sounds, Standing, Start, Starts, Stop, Stops, Take, Tick, Took, Turn, Work, Write, [], acked-all, after_input}
+use Rattle.node_laws.proofs.Words.{ArePortsRead, AreSendable, AreSendableTurns, AsksReset, Before, Bool, Comes, Controller, Deed, Desk, End, Entry, FramesFor}
+use Rattle.node_laws.proofs.Words.{Good, HoldsInStep, Host, IsLine, IsLinkTold, IsPortRead, IsRead, IsReadOff, IsSendable, LastsOverTurns, Link, LinkEnd}
+use Rattle.node_laws.proofs.Words.{LinkInput, List, Message, NextFrame, NoInput, NodeInput, None, Noted, NumberedEnd, OnWire, Option, Port, Reached, Reset}
+use Rattle.node_laws.proofs.Words.{Some, Sounds, Standing, Start, Starts, Stop, Stops, Take, Tick, Took, Turn, Work, Write, [], acked-all, after_input}
 use Rattle.node_laws.proofs.Words.{after_turn, all_append, all_done, ap, append_assoc, arith, arrival, before_here, before_there, by_option, changed_if}
 use Rattle.node_laws.proofs.Words.{comes_to_pass, core_of, deeds_of, drop, end_of, ended_by, entries, entries_for, exchanged, false, fold-append, from_start}
 use Rattle.node_laws.proofs.Words.{got-all, handles, holds_back, if◌then◌else◌, input_of, is_some, is_up, law_noted, lets_go, loses_power, map, max}
@@ -95,9 +95,8 @@ says_frame : (t : List Noted) (who : Side) (l : Link) (x : OnWire) → Frame l x
     → (let near_end : NumberedEnd = record l.controller { took = took_with l.controller.took x } in
     Says ((t ++ Took who x.frame ∷ []) ++ told_of who near_end (Take x.frame)) who (has_had l.controller near_end (Take x.frame)))
 says_frame t who l x fr a =
-    let near_end : NumberedEnd = record l.controller { took = took_with l.controller.took x } in
     let i : LinkInput = Take x.frame in
-    says_input (t ++ Took who x.frame ∷ []) who l.controller (has_had l.controller near_end i) i
+    says_input (t ++ Took who x.frame ∷ []) who l.controller (has_had l.controller (record l.controller { took = took_with l.controller.took x }) i) i
     (record {
       becomes = take_so l.controller.side x.frame a.sound;
       acked = refl;
@@ -244,8 +243,7 @@ module _ (t : List Entry) (h : ℕ) (who : Side) (w : Work) (a : Carries t h who
   says_now : AreSendableTurns a.account.port.turns → Says all_noted who end_now
   says_now fine =
       let us : List Noted = turn_entries who (number_of a.end) a.end.side a.account.port.turns in
-      let P : List Noted → Type 0 = λ z. Says z who end_now in
-      subst P (append_assoc a.before a.came us) (says_turns (a.before ++ a.came) who a.end a.account.port.turns fine a.says)
+      subst (λ z. Says z who end_now) (append_assoc a.before a.came us) (says_turns (a.before ++ a.came) who a.end a.account.port.turns fine a.says)
 
 -- ### All ends
 
@@ -292,14 +290,11 @@ module _ (t : List Entry) (who : Side) where
             (desk h who (number_of c.end) c.end.side (of_link h (entries_for h c.came)) c.late k f w keeps);
       }
 
-  turn_uncut : (core : Core) (x : Turn) (o : Option Port) → AreUncut (option_map_or (noted_of core x) o [])
-  turn_uncut core x o = grind arith
-
   carry_turns : (k : ℕ) (x : Turn) (w : Work) → Of w → Of (turn_at k x w)
   carry_turns k x w a =
       record {
         uncut = λ q. all_append IsUncut w.entries (option_map_or (noted_of w.core x) (port_at w.ports k) []) (a.uncut q)
-            (turn_uncut w.core x (port_at w.ports k));
+            (grind arith);
         each = λ h p q.
             let o : WasPort w.ports h =
             was_port (λ y. changed_if (y.desk.host == k) (after_turn x) y) (λ y. changed_host (y.desk.host == k) (after_turn x) y (λ z. refl)) w.ports h p q in
@@ -399,9 +394,6 @@ has_ticked_so t who l a =
 abbrev session_at : LinkEnd → ℕ → Option ℕ
 session_at e n = if is_up e.shdlc.phase then Some n else None
 
-own_is : (k : NumberedEnd) → own_session k ≡ session_at k.side (number_of k)
-own_is k = grind arith
-
 node_is : (h : ℕ) (who : Side) → node_of (end_of h who) ≡ node_on h who
 node_is h who = grind arith
 
@@ -410,7 +402,7 @@ port_read : (t : List Entry) (h : ℕ) (who : Side) (w : Work) (a : Carries t h 
 port_read t h who w a uncut fine =
     record {
       session =
-          session ∙ (own_is k ∙ (ap (λ z. session_at z (number_of k)) (sym is) ∙ ap (session_at p.side) (sym a.account.session)));
+          session ∙ ((grind arith) ∙ (ap (λ z. session_at z (number_of k)) (sym is) ∙ ap (session_at p.side) (sym a.account.session)));
       held = ap (unacknowledged_in u e) session ∙ (held_is u e k reads says.sound ∙ ap (λ (z : LinkEnd). drop (whole_acked z) z.sent) (sym is));
       spare = λ q. spare_is u e k (end_is u e k reads says.sound session (q ∙ ap (λ (z : LinkEnd). z.aside) is)) ∙ ap spare (sym is);
     }
@@ -472,9 +464,7 @@ module _ (t : List Entry) (who : Side) where
   -- which is the first that came at the end with this host
   pub handles_last : (h : ℕ) (m : Message) (w : Work) (p : Port) (later : List Message) → port_at w.ports h ≡ Some p → p.side.got ≡ m ∷ later
       → IsCarried t who w → IsCarried t who (handles h m (deeds_of w.core w.ports h m) w)
-  handles_last h m w p later here got a =
-      let came : AreSendable (m ∷ later) = subst AreSendable got (fine_at w.ports h p a.fine here).clean in
-      carried_turn h m w came.0 a
+  handles_last h m w p later here got a = carried_turn h m w (subst AreSendable got (fine_at w.ports h p a.fine here).clean).0 a
 
   -- over one that is held
   pub holds_last : (h : ℕ) (short : ℕ × ℕ) (w : Work) → IsCarried t who w → IsCarried t who (holds_back h short w)

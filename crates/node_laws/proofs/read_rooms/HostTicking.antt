@@ -203,8 +203,7 @@ module _ (w : NodeWorld) (t : List Entry) (orderly : IsOrderly w) (fine : IsFine
 
   module _ (x : Site) (before behind : List Site) (split : near.0.sites ≡ before ++ x ∷ behind) (r : Running) (runs : x.node ≡ Some r) where
     others : AllByRecursion (λ n. (n == x.host) ≡ false) (hosts_in before)
-    others =
-        others_before before behind x (subst (λ (z : List Site). AreDifferent (hosts_in z)) split near_well.different)
+    others = others_before before behind x (subst (λ (z : List Site). AreDifferent (hosts_in z)) split near_well.different)
 
     there : site_at near.0.sites x.host ≡ Some x
     there = ap (λ z. site_at z x.host) split ∙ found_there before behind x others (same_number x.host)

@@ -1,19 +1,19 @@
 -- What a controller keeps and knows as a message has its turn is what is read off all entries until there.
 use Rattle.node_laws.proofs.Words.{AllByRecursion, AreDifferent, AreHosts, AtEnd, Book, Bool, Creation, Decision, Deed, End, Entry, Err, ErrorCount}
-use Rattle.node_laws.proofs.Words.{FollowsNodes, HasAsideAt, HasErrorsRead, Header, Hold, IfAwaited, IsFew, IsFresh, IsHost, IsKeptNotice, IsNoticedUp}
-use Rattle.node_laws.proofs.Words.{IsOutside, IsReadSo, IsResponse, IsSameView, IsSentByHost, IsShut, KeepsBetween, KeepsInStep, KnowsAsRead, KnowsTheSame}
-use Rattle.node_laws.proofs.Words.{Line, LinksAreRead, List, Memory, Message, MessageFault, MessageKind, NodeHistory, NodeInput, NodeView, NodeWorld, None}
-use Rattle.node_laws.proofs.Words.{Occurrence, Ok, OnFirst, Option, OwnView, Port, Result, Running, RunsInStep, Some, TimePasses, Work, [], after_sessions}
-use Rattle.node_laws.proofs.Words.{all_come, all_done, all_owed, all_owed_hold, all_synced_hold, ap, append-nil, ap₂, arith, aside_in, asked_at, asked_pipes}
-use Rattle.node_laws.proofs.Words.{asking_in, body_in, book_in, by_option, by_test, comes_to_pass, command_deeds, cond, controller_deeds, creation_deeds}
-use Rattle.node_laws.proofs.Words.{creations_at, decided, decision_deeds, deeds_by_relay, deeds_of, desks_of, end_c, end_of_node, entries_in, eq-eqb, eqb}
-use Rattle.node_laws.proofs.Words.{eqb-true, errors_in, event_deeds, false, filter, filter_map, flat_map, forgets, forgotten, forgotten_hold, gate_deeds}
-use Rattle.node_laws.proofs.Words.{goes_through, handles, header_of, holds_back, hosts_of_ends, if_notice, inl, inr, is_asked_at, is_asked_pipe}
-use Rattle.node_laws.proofs.Words.{is_connected_at, is_connected_in, is_held, is_of_creation, is_one_of, is_opened, is_over_at, is_some, is_up, kind_deeds}
-use Rattle.node_laws.proofs.Words.{lack, length, lets_go, list_any, map, needs, new_world, no_errors, node_entries, notice_deeds, notice_in, noting}
-use Rattle.node_laws.proofs.Words.{occurrences_in, option_and_then, option_map_or, owed, own_deeds, own_gate, port_at, refl, relay_deeds, relayed_to, served_at}
-use Rattle.node_laws.proofs.Words.{session_now, subst, sym, synced, tables_in, times_out, true, true≢false, unless_asking, view_at, view_for, view_of}
-use Rattle.node_laws.proofs.Words.{waiting_pipes, with_desk, without_notice, world_behind, ℕ, ◌&&◌, ◌++◌, ◌||◌, ◌∙◌, ◌∷◌, ◌≡◌}
+use Rattle.node_laws.proofs.Words.{FollowsNodes, HasAsideAt, HasErrorsRead, Header, Hold, IfAwaited, IsFew, IsFresh, IsHost, IsKeptNotice, IsOutside, IsReadSo}
+use Rattle.node_laws.proofs.Words.{IsResponse, IsSameView, IsSentByHost, IsShut, KeepsBetween, KeepsInStep, KnowsAsRead, KnowsTheSame, Line, LinksAreRead, List}
+use Rattle.node_laws.proofs.Words.{Memory, Message, MessageFault, MessageKind, NodeHistory, NodeInput, NodeView, NodeWorld, None, Occurrence, Ok, Option}
+use Rattle.node_laws.proofs.Words.{OwnView, Port, Result, Running, RunsInStep, Some, TimePasses, Work, [], after_sessions, all_come, all_done, all_owed}
+use Rattle.node_laws.proofs.Words.{all_owed_hold, all_synced_hold, ap, append-nil, ap₂, arith, aside_in, asked_at, asked_pipes, asking_in, body_in, book_in}
+use Rattle.node_laws.proofs.Words.{by_option, by_test, comes_to_pass, command_deeds, cond, controller_deeds, creation_deeds, creations_at, decided}
+use Rattle.node_laws.proofs.Words.{decision_deeds, deeds_by_relay, deeds_of, desks_of, end_c, end_of_node, entries_in, eq-eqb, eqb, eqb-true, errors_in}
+use Rattle.node_laws.proofs.Words.{event_deeds, false, filter, filter_map, flat_map, forgets, forgotten, forgotten_hold, gate_deeds, goes_through, handles}
+use Rattle.node_laws.proofs.Words.{header_of, holds_back, hosts_of_ends, inl, inr, is_asked_at, is_asked_pipe, is_connected_at, is_connected_in, is_held}
+use Rattle.node_laws.proofs.Words.{is_of_creation, is_one_of, is_opened, is_over_at, is_some, kind_deeds, lack, length, lets_go, list_any, map, needs}
+use Rattle.node_laws.proofs.Words.{new_world, no_errors, node_entries, notice_deeds, notice_in, noting, occurrences_in, option_and_then, option_map_or, owed}
+use Rattle.node_laws.proofs.Words.{own_deeds, own_gate, port_at, refl, relay_deeds, relayed_to, served_at, subst, sym, synced, tables_in, times_out, true}
+use Rattle.node_laws.proofs.Words.{true≢false, unless_asking, view_at, view_for, view_of, waiting_pipes, with_desk, without_notice, world_behind, ℕ, ◌&&◌, ◌++◌}
+use Rattle.node_laws.proofs.Words.{◌||◌, ◌∙◌, ◌∷◌, ◌≡◌}
 use Rattle.hcp_packet.specs.declared.MessageKind.TheVariants.{Command as IsCommand, Event as IsEvent}
 use Rattle.node_laws.specs.read_steps.Worlds.{KeepsErrorsRead}
 use Rattle.node_laws.proofs.creations.Outcomes.{Asked, asked_of, desks_wait, waits}
@@ -53,9 +53,6 @@ host_ends : (ports : List Port) → AllByRecursion IsHost (map (λ (p : Port). p
 host_ends [] all = tt
 host_ends (p ∷ ports) all = (all.0, host_ends ports all.1)
 
-up_to : (o : Option Port) → OnFirst IsNoticedUp o → UpAt o
-up_to o a = grind arith
-
 aside_to : (n : ℕ) (l : List Creation) (o : Option Port) → n ≡ length l → HasAsideAt l o → EndAt n l o
 aside_to n l None same a = (same ∙ ap length a, a)
 aside_to n l (Some p) same a = has_is n l p.side same a
@@ -84,7 +81,7 @@ module _ (hosts : List ℕ) (t : List Entry) where
       two = a.two;
       hosts = host_ends w.ports (subst (AllByRecursion IsHost) (sym a.hosts_are) all);
       right = a.right;
-      up = up_to (port_at w.ports x) (a.up x);
+      up = grind arith;
       kept = subst (IsKeptNotice (notice_in (t ++ w.entries) x)) (sym (noticed_desks w.ports x)) (a.notices x);
     }
 
@@ -117,9 +114,6 @@ module _ (hosts : List ℕ) (t : List Entry) where
       tables = λ on near. a.tables ∙ sym (ap (λ (b : Book). b.tables) (book_on w h));
     }
 
-  one_host : IsHost 1
-  one_host = (omega arith, omega arith)
-
   -- and back again
   pub from_parts : (w : Work) → w.cut ≡ false → ((x : ℕ) → Holds x t IsKeptNotice w) → ((x : ℕ) → Still x t hosts w)
       → ((h : ℕ) → IsHost h → Right (end_c h) hosts (errors_before t h) w) → KeepsInStep hosts t w
@@ -127,7 +121,7 @@ module _ (hosts : List ℕ) (t : List Entry) where
     on = on;
     node = (notices 0).node;
     hosts_are = (creations 0).good.hosts_are;
-    tables = (errors 1 one_host).tables on refl ∙ ap (λ (b : Book). b.tables) (book_on w 1);
+    tables = (errors 1 (omega arith, omega arith)).tables on refl ∙ ap (λ (b : Book). b.tables) (book_on w 1);
     sorted = (notices 0).sorted;
     two = (notices 0).two;
     proper = (creations 0).good.rows;
@@ -449,9 +443,6 @@ module _ (hosts : List ℕ) (are : AreHosts hosts) (t : List Entry) (w : Work) (
   read_of : (x : ℕ) → IsReadSo (asking_in now x) (waits x (asked_of w.ports))
   read_of x = subst (IsReadSo (asking_in now x)) (list_is x) (a.creations x)
 
-  pipe_is : (pid x : ℕ) → list_any (is_of_pipe pid) (waits x (asked_of w.ports)) ≡ is_asked_pipe now pid x
-  pipe_is pid x = read_pipe pid (asking_in now x) (waits x (asked_of w.ports)) (read_of x)
-
   -- an asker is a host of the world
   in_hosts : (pid x : ℕ) → list_any (is_of_pipe pid) (waits x (asked_of w.ports)) ≡ true → list_any (is_asked_pipe now pid) hosts ≡ true
   in_hosts pid x e = by_option (port_at w.ports x)
@@ -459,14 +450,14 @@ module _ (hosts : List ℕ) (are : AreHosts hosts) (t : List Entry) (w : Work) (
       sym (list_is x) ∙ subst (λ o. HasAsideAt (creations_at (desks_of w.ports) x) o) q (a.asides x) in
       absurd (true≢false (sym e ∙ ap (list_any (is_of_pipe pid)) none)))
       (λ p q. subst (λ hs. list_any (is_asked_pipe now pid) hs ≡ true) a.hosts_are
-      (any_end (is_asked_pipe now pid) w.ports x p q (sym (pipe_is pid x) ∙ e)))
+      (any_end (is_asked_pipe now pid) w.ports x p q (sym (read_pipe pid (asking_in now x) (waits x (asked_of w.ports)) (read_of x)) ∙ e)))
 
   waiting_is : (pid : ℕ) → list_any (λ p. eqb p pid) (waiting_pipes w.ports) ≡ list_any (is_asked_pipe now pid) hosts
   waiting_is pid =
       two_ways (list_any (λ p. eqb p pid) (waiting_pipes w.ports)) (list_any (is_asked_pipe now pid) hosts)
       (λ e. let s : HasAsker pid w.ports = asker_of pid w.ports e in in_hosts pid s.asker s.waits_there)
       (λ e. let s : Any pid (is_asked_pipe now pid) = any_of pid (is_asked_pipe now pid) hosts e in
-      asker_waits pid s.which w.ports (pipe_is pid s.which ∙ s.holds))
+      asker_waits pid s.which w.ports ((read_pipe pid (asking_in now s.which) (waits s.which (asked_of w.ports)) (read_of s.which)) ∙ s.holds))
 
   pub creations_known : KnowsAsRead hosts now w.ports
   creations_known = record {
@@ -497,10 +488,9 @@ module _ (hosts : List ℕ) (are : AreHosts hosts) (t : List Entry) (w : Work) (
     by None q = ap (λ b. b && is_connected_in now h) (sym (ap is_some q) ∙ there_is h)
     by (Some p) q =
         let one : is_one_of hosts h ≡ true = sym (there_is h) ∙ ap is_some q in
-        let up : is_up p.side.shdlc.phase ≡ is_some (session_now now (end_c h) 0) = grind arith in
         let open_is : is_opened w.core.tables p.desk.host 1 ≡ is_opened (tables_in now 0) h 1 =
         ap₂ (λ z n. is_opened z n 1) a.tables (at_host w.ports h p q) in
-        ap₂ (λ x y. x && y) up open_is ∙ sym (ap (λ b. b && is_connected_in now h) one)
+        ap₂ (λ x y. x && y) (grind arith) open_is ∙ sym (ap (λ b. b && is_connected_in now h) one)
 
   counted : (h : ℕ) → is_one_of hosts h ≡ true → option_map_or (λ (p : Port). p.desk.errors) (port_at w.ports h) 0 ≡ errors_in now (end_c h)
   counted h one = by_option (port_at w.ports h)
@@ -576,27 +566,21 @@ module _ (v u : NodeView) (h : ℕ) (a : KnowsTheSame v u h) where
   unfolding by_awaited
   awaited code o = grind arith
 
-  responses : (m : Message) (code : ℕ) (b : Bool) → if_notice v h m code b ≡ if_notice u h m code b
-  responses m code b = grind arith
-
   -- ### Messages
 
   kinds : IsSameView (v.links h) (u.links h) → (m : Message) (o : Result (MessageKind × ℕ) MessageFault) → kind_deeds v h m o ≡ kind_deeds u h m o
   kinds same m (Ok (IsCommand, instruction)) =
       unless_it_asks same m instruction (eqb m.0 1 && v.asks h) ∙ ap (λ b. unless_asking u h m instruction (eqb m.0 1 && b)) a.asks
   kinds same m (Ok (IsEvent, instruction)) = ap (λ t. event_deeds t h m) a.tables
-  kinds same m (Ok (IsResponse, code)) = responses m code (eqb m.0 1)
+  kinds same m (Ok (IsResponse, code)) = grind arith
   kinds same m (Err fault) = refl
 
   owns : (m : Message) (b : Bool) → v.up h ≡ b → own_deeds v h m b ≡ own_deeds u h m b
   owns m true up = kinds (a.view up) m (header_of m.1)
   owns m false down = refl
 
-  relays : (m : Message) (to : ℕ) (b : Bool) → relay_deeds v.up h m to b ≡ relay_deeds u.up h m to b
-  relays m to b = grind arith
-
   by_relay : (m : Message) (o : Option ℕ) → deeds_by_relay v h m o ≡ deeds_by_relay u h m o
-  by_relay m (Some to) = relays m to (v.up to) ∙ ap (relay_deeds u.up h m to) (a.links to)
+  by_relay m (Some to) = (grind arith) ∙ ap (relay_deeds u.up h m to) (a.links to)
   by_relay m None = owns m (v.up h) refl ∙ ap (own_deeds u h m) (a.links h)
 
   pub same_deeds : (m : Message) → controller_deeds v h m ≡ controller_deeds u h m

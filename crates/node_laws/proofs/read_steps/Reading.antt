@@ -1,22 +1,22 @@
 -- What a controller keeps is what is read as its pass begins and over each turn, and its notices name hosts.
 use Rattle.node_laws.proofs.Words.{Activates, AllByRecursion, AllByRecursion-append, AreDifferent, AreHosts, AreNamed, AreProper, Arms, Asks, AsksReset, AtEnd}
-use Rattle.node_laws.proofs.Words.{Book, Bool, Boots, Comes, Command, Commits, Controller, ControllerReads, Core, Creation, Deed, Desk, Drops, End, Ends, Entry}
+use Rattle.node_laws.proofs.Words.{Book, Boots, Comes, Command, Commits, Controller, ControllerReads, Core, Creation, Deed, Desk, Drops, End, Ends, Entry}
 use Rattle.node_laws.proofs.Words.{ErrorCount, FetchMessage, FollowsNodes, Give, Gives, Happening, HasEnds, HciTables, Header, Hold, Host, IfItRuns}
-use Rattle.node_laws.proofs.Words.{IfNoticedUp, IfReads, IfRuns, Inits, IsAllowedFor, IsAllowedStill, IsAnswered, IsCut, IsFew, IsFresh, IsHost, IsKeptNotice}
-use Rattle.node_laws.proofs.Words.{IsNamed, IsNoticeOf, IsOutside, IsPlain, IsReadSo, IsSentByHost, IsShut, KeepsBetween, KeepsInStep, Line, LinkInput, List}
-use Rattle.node_laws.proofs.Words.{Loses, Message, NextFrame, NodeHistory, NodeInput, NodeWorld, None, Noted, NumberedEnd, Occurrence, Option, Orders, Port}
-use Rattle.node_laws.proofs.Words.{ReadsBetween, ReadsInStep, Release, Releases, Reset, Resets, Running, RunsInStep, RunsSo, SaysOk, Sends, SetAside}
-use Rattle.node_laws.proofs.Words.{SetsErrors, Site, Some, Starts, Takes, Tells, Ticks, TimePasses, Turn, Work, [], activates, after_input, aged_entries}
-use Rattle.node_laws.proofs.Words.{all_aged, all_come, all_done, all_flat, all_owed, all_so, ap, append-nil, arith, arrival, as_it_ticks, awaited_after}
-use Rattle.node_laws.proofs.Words.{beginning, body_of, book_in, boots, by_coming, by_controller, by_controller_tick, by_cut, by_option, by_test, comes_at}
-use Rattle.node_laws.proofs.Words.{comes_to, comes_to_pass, commit, commit_writes, controller_begins, controller_deeds, controller_does, controller_ticks}
-use Rattle.node_laws.proofs.Words.{controller_work, creations_of, deeds_of, done, end_c, end_h, end_of_node, ended_by, entries_for, entries_in, eq-eqb, eqb}
-use Rattle.node_laws.proofs.Words.{fails_within, false, flat_map, fold, forgotten, frames_noted, goes_through_ends, handles, have_turns, holds_back, hosts_in}
-use Rattle.node_laws.proofs.Words.{hosts_of_ends, hosts_tick, inl, input_at, input_of, instruction_in, is_held, is_late, is_notice, is_one_of, is_some, lack}
-use Rattle.node_laws.proofs.Words.{length, lets_go, link_to, map, near_end_in, near_tick, needs, new_world, no_errors, node_entries, noted_of, notice_in}
-use Rattle.node_laws.proofs.Words.{noting, occurrences_in, option_map_or, own_side, passes, port_at, refl, report, sending, slice_index, steps, subst, sym}
-use Rattle.node_laws.proofs.Words.{synced, times_out, told_at, told_late, true, true≢false, turn_at, unless_cut, view_of, whole_acked, wires_for, with_desk}
-use Rattle.node_laws.proofs.Words.{with_older, work_of, world_behind, world_step, ℕ, ◌&&◌, ◌++◌, ◌||◌, ◌∙◌, ◌∷◌, ◌≡◌}
+use Rattle.node_laws.proofs.Words.{IfNoticedUp, IfReads, IfRuns, Inits, IsAllowedStill, IsAnswered, IsCut, IsFew, IsFresh, IsHost, IsKeptNotice, IsNamed}
+use Rattle.node_laws.proofs.Words.{IsOutside, IsPlain, IsReadSo, IsSentByHost, IsShut, KeepsBetween, KeepsInStep, Line, LinkInput, List, Loses, Message}
+use Rattle.node_laws.proofs.Words.{NextFrame, NodeHistory, NodeInput, NodeWorld, None, Noted, NumberedEnd, Occurrence, Option, Orders, Port, ReadsBetween}
+use Rattle.node_laws.proofs.Words.{ReadsInStep, Release, Releases, Reset, Resets, Running, RunsInStep, RunsSo, SaysOk, Sends, SetAside, SetsErrors, Site, Some}
+use Rattle.node_laws.proofs.Words.{Starts, Takes, Tells, Ticks, TimePasses, Turn, Work, [], activates, after_input, aged_entries, all_aged, all_come, all_done}
+use Rattle.node_laws.proofs.Words.{all_flat, all_owed, all_so, ap, append-nil, arith, arrival, as_it_ticks, awaited_after, beginning, body_of, book_in, boots}
+use Rattle.node_laws.proofs.Words.{by_coming, by_controller, by_controller_tick, by_cut, by_option, by_test, comes_at, comes_to, comes_to_pass, commit}
+use Rattle.node_laws.proofs.Words.{commit_writes, controller_begins, controller_deeds, controller_does, controller_ticks, controller_work, creations_of}
+use Rattle.node_laws.proofs.Words.{deeds_of, done, end_c, end_h, end_of_node, ended_by, entries_for, entries_in, eq-eqb, eqb, fails_within, false, flat_map}
+use Rattle.node_laws.proofs.Words.{fold, forgotten, frames_noted, goes_through_ends, handles, have_turns, holds_back, hosts_in, hosts_of_ends, hosts_tick, inl}
+use Rattle.node_laws.proofs.Words.{input_at, input_of, instruction_in, is_held, is_late, is_notice, is_one_of, is_some, lack, length, lets_go, link_to, map}
+use Rattle.node_laws.proofs.Words.{near_end_in, near_tick, needs, new_world, no_errors, node_entries, noted_of, notice_in, noting, occurrences_in}
+use Rattle.node_laws.proofs.Words.{option_map_or, own_side, passes, port_at, refl, report, sending, slice_index, steps, subst, sym, synced, times_out, told_at}
+use Rattle.node_laws.proofs.Words.{told_late, true, true≢false, turn_at, unless_cut, view_of, whole_acked, wires_for, with_desk, with_older, work_of}
+use Rattle.node_laws.proofs.Words.{world_behind, world_step, ℕ, ◌&&◌, ◌++◌, ◌||◌, ◌∙◌, ◌∷◌, ◌≡◌}
 use Rattle.node_laws.proofs.creations.Outcomes.{asked_of}
 use Rattle.node_laws.proofs.creations.Doing.{Fine, Good, Still}
 use Rattle.node_laws.proofs.creations.Events.{aged_good, begins_beside, far_beside, lost_beside, near_good}
@@ -25,9 +25,9 @@ use Rattle.node_laws.proofs.kept.Doing.{plain_entries, plain_flat}
 use Rattle.node_laws.proofs.kept.Events.{keeps_same, plain_same, runs_begun}
 use Rattle.node_laws.proofs.kept.Stepping.{deeds_fit, ready_fine}
 use Rattle.node_laws.proofs.links.Noticing.{at_host}
-use Rattle.node_laws.proofs.notices.Telling.{IsRemoval, IsShort, MayTell, Outcome, controller_outcome}
+use Rattle.node_laws.proofs.notices.Telling.{IsShort, MayTell, Outcome, controller_outcome}
 use Rattle.node_laws.proofs.notices.Turning.{Holds, Stands}
-use Rattle.node_laws.proofs.notices.Near.{AreFar, AreGood, IsFar, Reads as NoticeReads, aged_far, aged_side, all_ports, all_tick, arrival_quiet, beginning_own}
+use Rattle.node_laws.proofs.notices.Near.{AreFar, AreGood, Reads as NoticeReads, aged_far, aged_side, all_ports, all_tick, arrival_quiet, beginning_own}
 use Rattle.node_laws.proofs.notices.Near.{begins as begins_noticed, comes_reads, far_flat, far_hushed, frames_quiet, link_shut, quiet_far, sending_own}
 use Rattle.node_laws.proofs.notices.Near.{still_reads}
 use Rattle.node_laws.proofs.notices.Steps.{TellNoNotices, no_notices_flat, owed_all, synced_no_notices}
@@ -52,29 +52,19 @@ abbrev NamesHost : ℕ → Option (List ℕ) → Type 0
 NamesHost x None = Unit {0}
 NamesHost x (Some m) = instruction_in m ≡ 18 → slice_index m 3 ≡ x
 
-one_named : (x : ℕ) (e : Entry) (r : Option (List ℕ)) → IsNamed e → NamesHost x r → NamesHost x (awaited_after is_notice (end_c x) 0 r e)
-one_named x e r named a = grind arith
-
 all_named : (x : ℕ) (t : List Entry) (r : Option (List ℕ)) → AreNamed t → NamesHost x r → NamesHost x (fold (awaited_after is_notice (end_c x) 0) r t)
 all_named x [] r named a = a
-all_named x (e ∷ t) r named a = all_named x t (awaited_after is_notice (end_c x) 0 r e) named.1 (one_named x e r named.0 a)
-
--- the notice to a host that isn't answered names it
-notice_names : (x : ℕ) (t : List Entry) → AreNamed t → NamesHost x (notice_in t x)
-notice_names x t named = all_named x t None named tt
+all_named x (e ∷ t) r named a = all_named x t (awaited_after is_notice (end_c x) 0 r e) named.1 (grind arith)
 
 pub names_read : (t : List Entry) → AreNamed t → (h : ℕ) (message : List ℕ) → notice_in t h ≡ Some message → instruction_in message ≡ 18
     → slice_index message 3 ≡ h
-names_read t named h message is made = let one : NamesHost h (Some message) = subst (NamesHost h) is (notice_names h t named) in one made
+names_read t named h message is made = let one : NamesHost h (Some message) = subst (NamesHost h) is (all_named h t None named tt) in one made
 
 -- ### Entries
 
-one_far : (e : Entry) → IsFar e → IsNamed e
-one_far e far = grind arith
-
 pub far_named : (es : List Entry) → AreFar es → AreNamed es
 far_named [] far = tt
-far_named (e ∷ es) far = (one_far e far.0, far_named es far.1)
+far_named (e ∷ es) far = (grind arith, far_named es far.1)
 
 -- a message to a host names it, where it is the notice of a creation
 abbrev pub GoesSo : ℕ → Message → Type 0
@@ -161,12 +151,6 @@ lets_named h w a = by_test (option_map_or (λ (p : Port). is_held p.side) (port_
 no_notice : (k : ℕ) (m : Message) → (eqb m.0 1 && is_notice m.1) ≡ false → GoesSo k m
 no_notice k m off on = absurd (true≢false (sym on ∙ off))
 
-removal : (k : ℕ) (message : List ℕ) → IsRemoval message → GoesSo k (1, message)
-removal k message r = grind arith
-
-asked_names : (t : HciTables) (to : ℕ) (message : List ℕ) (c : Creation) → IsNoticeOf c message → IsAllowedFor t to c.command → GoesSo to (1, message)
-asked_names t to message c is allowed = grind arith
-
 may_name : (x : ℕ) (F : List ℕ → Type 0) (t : HciTables) (ports : List Port) (deeds : List Deed) → MayTell x F deeds
     → AllByRecursion (IsAllowedStill t ports) deeds → AllByRecursion NamesSo deeds
 may_name x F t ports [] may allowed = tt
@@ -174,11 +158,9 @@ may_name x F t ports (Commits c ∷ deeds) may allowed = (tt, may_name x F t por
 may_name x F t ports (Sends to m ∷ deeds) may allowed =
     (no_notice to m may.0, may_name x (λ n. (eqb to x ≡ false) × F n) t ports deeds may.1 allowed.1)
 may_name x F t ports (SaysOk ∷ deeds) may allowed = (tt, may_name x F t ports deeds may allowed.1)
-may_name x F t ports (Asks to message c ∷ deeds) may allowed =
-    (asked_names t to message c may.1.notice allowed.0, may_name x (λ n. ⊥) t ports deeds may.2 allowed.1)
+may_name x F t ports (Asks to message c ∷ deeds) may allowed = (grind arith, may_name x (λ n. ⊥) t ports deeds may.2 allowed.1)
 may_name x F t ports (Releases asker ∷ deeds) may allowed = (tt, may_name x (λ n. ⊥) t ports deeds may allowed.1)
-may_name x F t ports (Tells to message ∷ deeds) may allowed =
-    (removal to message may.1, may_name x (λ n. (eqb to x ≡ false) × F n) t ports deeds may.2 allowed.1)
+may_name x F t ports (Tells to message ∷ deeds) may allowed = (grind arith, may_name x (λ n. (eqb to x ≡ false) × F n) t ports deeds may.2 allowed.1)
 may_name x F t ports (Drops pid ∷ deeds) may allowed = (tt, may_name x F t ports deeds may allowed.1)
 may_name x F t ports (SetsErrors errors ∷ deeds) may allowed = (tt, may_name x F t ports deeds may allowed.1)
 may_name x F t ports (_ ∷ deeds) may allowed = absurd may
@@ -247,11 +229,8 @@ some_of o e = grind arith
 each_one : (hosts : List ℕ) → AllByRecursion (λ h. is_one_of hosts h ≡ true) hosts
 each_one [] = tt
 each_one (k ∷ hosts) = (ap (λ b. b || is_one_of hosts k) (eq-eqb k k refl), more hosts (each_one hosts)) where
-  either : (b c : Bool) → c ≡ true → (b || c) ≡ true
-  either b c e = grind arith
-
   more : (hs : List ℕ) → AllByRecursion (λ h. is_one_of hosts h ≡ true) hs → AllByRecursion (λ h. is_one_of (k ∷ hosts) h ≡ true) hs
-  more hs all = all_so (λ h. is_one_of hosts h ≡ true) (λ h. is_one_of (k ∷ hosts) h ≡ true) (λ h b. either (eqb k h) (is_one_of hosts h) b) hs all
+  more hs all = all_so (λ h. is_one_of hosts h ≡ true) (λ h. is_one_of (k ∷ hosts) h ≡ true) (λ h b. grind arith) hs all
 
 module _ (hosts : List ℕ) (are : AreHosts hosts) (t : List Entry) where
   deeds_name : (h : ℕ) (m : Message) (w : Work) → RunsInStep hosts t w → IsHost h → AllByRecursion NamesSo (deeds_of w.core w.ports h m)
@@ -602,8 +581,7 @@ module _ (hosts : List ℕ) (are : AreHosts hosts) (t : List Entry) (w : NodeWor
   event_named : (c : Happening) → AreNamed (world_step w c).1
   event_named (Boots n) = boots_named w n
   event_named (IsCut n) = (tt, tt)
-  event_named (Gives e m) =
-      far_named (world_step w (Gives e m)).1 (begins_beside w e.link (sending e.link m) good (sending_own e.link m)).far
+  event_named (Gives e m) = far_named (world_step w (Gives e m)).1 (begins_beside w e.link (sending e.link m) good (sending_own e.link m)).far
   event_named (Inits e identity pipes) =
       far_named (world_step w (Inits e identity pipes)).1 (begins_beside w e.link (beginning identity pipes) good (beginning_own identity pipes)).far
   event_named (Takes e) = comes_named_at e NextFrame

@@ -1,35 +1,24 @@
 -- What is read of all hosts as frames are lost and as nodes lose their power and boot, and so over the lines of a schedule.
 use Rattle.node_laws.proofs.Words.{Activates, AllByRecursion, AllRead, AreDifferent, AreHosts, Arms, AsksReset, AtController, AtHost, Bool, Boots, Controller}
-use Rattle.node_laws.proofs.Words.{CutOff, End, Entry, FollowsNodes, Gives, Happening, Header, Host, IfHostRuns, IfZero, Inits, IsCut, IsHost, IsInitOfHost}
-use Rattle.node_laws.proofs.Words.{IsSentByHost, IsTrue, Line, Link, List, Lose, Loses, Loss, Memory, Message, NextFrame, NoInput, NodeHistory, NodeWorld, None}
-use Rattle.node_laws.proofs.Words.{NumberedEnd, Occurrence, Option, Resets, Running, Site, SiteReads, Some, Step, Takes, Ticks, [], after_planned, all_so, ap}
-use Rattle.node_laws.proofs.Words.{append-nil, arith, boot_writes, boots, by_counts, by_option, by_test, cases_Bool, changed_if, controller_cut, count_of}
-use Rattle.node_laws.proofs.Words.{counts, entries_for, entries_in, eqb, eqb-true, fails_within, false, first_cause, first_lost, first_verdict, found}
-use Rattle.node_laws.proofs.Words.{frame_lost, frames_at, give_refusal, happenings, happens, host_cut, if_not_sent, if_off, inl, inr, length, link_to, links_of}
-use Rattle.node_laws.proofs.Words.{loses_power_at, map, memory_at, new_world, node_at, node_entries, node_of, occurrences_in, order_of, refl, refusal_in}
-use Rattle.node_laws.proofs.Words.{site_at, subst, sym, taken_of, true, unwrap_or, with_memory, with_node, with_site, world_after, world_behind, world_step, ℕ}
-use Rattle.node_laws.proofs.Words.{◌++◌, ◌∙◌, ◌∷◌, ◌≡◌, ◌⊎◌}
+use Rattle.node_laws.proofs.Words.{CutOff, End, Entry, FollowsNodes, Gives, Happening, Header, Host, Inits, IsCut, IsHost, IsInitOfHost, IsSentByHost, IsTrue}
+use Rattle.node_laws.proofs.Words.{Line, Link, List, Lose, Loses, Loss, Memory, Message, NextFrame, NoInput, NodeHistory, NodeWorld, None, NumberedEnd}
+use Rattle.node_laws.proofs.Words.{Occurrence, Resets, Running, Site, SiteReads, Some, Step, Takes, Ticks, [], after_planned, all_so, ap, append-nil, arith}
+use Rattle.node_laws.proofs.Words.{boot_writes, boots, by_option, by_test, cases_Bool, changed_if, controller_cut, count_of, counts, entries_for, entries_in}
+use Rattle.node_laws.proofs.Words.{eqb, eqb-true, fails_within, false, first_cause, first_lost, first_verdict, found, frame_lost, frames_at, give_refusal}
+use Rattle.node_laws.proofs.Words.{happenings, happens, host_cut, if_not_sent, if_off, inl, inr, length, link_to, links_of, loses_power_at, map, memory_at}
+use Rattle.node_laws.proofs.Words.{new_world, node_at, node_entries, node_of, occurrences_in, refl, refusal_in, site_at, subst, sym, taken_of, true, unwrap_or}
+use Rattle.node_laws.proofs.Words.{with_memory, with_node, with_site, world_after, world_behind, world_step, ℕ, ◌++◌, ◌∙◌, ◌∷◌, ◌≡◌, ◌⊎◌}
 use Rattle.node_laws.specs.readings.Worlds.{MayBeRead}
 use Rattle.node_laws.proofs.kept.Events.{hosts_same, hosts_with, loses_is, none_found, site_found, with_site_twice}
 use Rattle.node_laws.proofs.links.Sites.{here_host}
 use Rattle.node_laws.proofs.readings.Noting.{AreSilent, quiet_silent}
 use Rattle.node_laws.proofs.readings.Sites.{activates_read, all_begin, boot_reads, comes_read, cut_reads, gives_read, hosts_in, inits_read, lost_quiet}
-use Rattle.node_laws.proofs.readings.Sites.{map_reads, none_zero, others_read, others_stay, ticks_read_all, with_reads}
+use Rattle.node_laws.proofs.readings.Sites.{map_reads, others_read, others_stay, ticks_read_all, with_reads}
 use Rattle.node_laws.proofs.telling.Lasting.{AllMay, damaged_may, entries_of_steps, history_holds, lines_last, repeated_may, stands_none}
 use Rattle.trace_model.specs.declared.entry.Entry.TheVariants as entry
 use Rattle.trace_model.specs.declared.line.Line.TheVariants as line
 
 -- ## What is read of all hosts as a frame is lost on its way
-
-zero_counts : (why : Loss) (h : ℕ) (o : Option Running) → IfZero o → IfZero (counts why h o)
-zero_counts why h o z = by_counts IfZero why h o z (λ r q. subst IfZero q z)
-
--- a frame that is counted leaves the command
-order_counts : (why : Loss) (h : ℕ) (o : Option Running) → order_of (counts why h o) ≡ order_of o
-order_counts why h o = by_counts (λ x. order_of x ≡ order_of o) why h o refl (λ r q. ap order_of (sym q))
-
-runs_counts : (why : Loss) (h n : ℕ) (l : Link) (o : Option Running) → IfHostRuns n l o → IfHostRuns n l (counts why h o)
-runs_counts why h n l o so = grind arith
 
 each_site : (t es : List Entry) (g : Site → Site) → ((s : Site) → SiteReads t s → SiteReads (t ++ es) (g s)) → (sites : List Site)
     → AllByRecursion (SiteReads t) sites → AllByRecursion (SiteReads (t ++ es)) (map g sites)
@@ -62,7 +51,7 @@ module _ (hosts : List ℕ) (t : List Entry) (w : NodeWorld) (all : AllRead host
         let es : List Entry = entries_for e.link (first_lost Controller why l.to_controller) in
         let silent : (k : ℕ) → AreSilent k es = grind arith in
         rw b (record {
-          controller = zero_counts why e.link w.controller all.controller;
+          controller = grind arith;
           hosts_are = hosts_with e.link near (λ s. refl) w.sites ∙ all.hosts_are;
           sites = site es near silent (λ s k. others_read t es s (near s) (silent s.host) refl refl refl k);
         })
@@ -74,13 +63,10 @@ module _ (hosts : List ℕ) (t : List Entry) (w : NodeWorld) (all : AllRead host
           hosts_are = hosts_with e.link far (λ s. refl) w.sites ∙ all.hosts_are;
           sites = site es far silent (λ s k.
               let so : SiteReads (t ++ es) (lost s) = others_read t es s (lost s) (silent s.host) refl refl refl k in
-              record { order = so.order ∙ sym (order_counts why e.link s.node); runs = runs_counts why e.link s.host (far s).link s.node so.runs });
+              record { order = so.order ∙ sym (grind arith); runs = grind arith });
         })
 
 -- ## What is read of all hosts as a node loses its power, as it boots, and as a write to a memory is to fail
-
-cut_silent : (n k : ℕ) → eqb n k ≡ false → AreSilent k (entry.Cut n ∷ [])
-cut_silent n k off = ((λ c. rw off refl), tt)
 
 module _ (hosts : List ℕ) (are : AreHosts hosts) where
   known : (t : List Entry) (w : NodeWorld) → AllRead hosts t w → AllByRecursion IsHost (hosts_in w.sites)
@@ -91,7 +77,7 @@ module _ (hosts : List ℕ) (are : AreHosts hosts) where
     controller = tt;
     hosts_are = hosts_same cut_here (λ s. refl) w.sites ∙ all.hosts_are;
     sites = map_reads t (entry.Cut 0 ∷ []) cut_here (λ s. refl) (λ s. refl)
-        (λ s. ap (λ (x : NumberedEnd). x.side) (here_host s.link (Step NoInput [] CutOff))) (λ k host. cut_silent 0 k (none_zero k host)) w.sites
+        (λ s. ap (λ (x : NumberedEnd). x.side) (here_host s.link (Step NoInput [] CutOff))) (λ k host. grind arith) w.sites
         (known t w all) all.sites;
   } where
     cut_here : Site → Site
@@ -116,15 +102,12 @@ module _ (hosts : List ℕ) (are : AreHosts hosts) where
             (changed x here known_x.0 known_x.2) all.sites;
       })
 
-  loses_near : (w : NodeWorld) (n : ℕ) → eqb n 0 ≡ true → loses_power_at n w ≡ controller_cut w
-  loses_near w n e = rw e refl
-
   cut_read : (t : List Entry) (w : NodeWorld) (n : ℕ) → AllRead hosts t w → AllRead hosts (t ++ entry.Cut n ∷ []) (loses_power_at n w)
   cut_read t w n all = by_test (eqb n 0)
-      (λ e. subst (AllRead hosts (t ++ entry.Cut n ∷ [])) (sym (loses_near w n e))
+      (λ e. subst (AllRead hosts (t ++ entry.Cut n ∷ [])) (sym (rw e refl))
       (subst (λ m. AllRead hosts (t ++ entry.Cut m ∷ []) (controller_cut w)) (sym (eqb-true n 0 e)) (near_cut t w all)))
       (λ e. subst (AllRead hosts (t ++ entry.Cut n ∷ [])) (sym (loses_is w n e))
-      (alters t (entry.Cut n ∷ []) w n host_cut (λ s. refl) (λ k off. cut_silent n k off) all
+      (alters t (entry.Cut n ∷ []) w n host_cut (λ s. refl) (λ k off. grind arith) all
       (λ x here reads same. subst (λ m. SiteReads (t ++ entry.Cut m ∷ []) (host_cut x)) same (cut_reads t x))))
 
   memory_read : (t : List Entry) (w : NodeWorld) (n : ℕ) (m : Memory) → AllRead hosts t w → AllRead hosts (t ++ []) (with_memory n m w)
@@ -175,18 +158,12 @@ module _ (hosts : List ℕ) (are : AreHosts hosts) where
     near_runs : (r : Running) (m : Memory) → eqb n 0 ≡ true → with_node n r (with_memory n m w) ≡ record w { memory = m; controller = Some r }
     near_runs r m e = rw e refl
 
-    far_memory : (m : Memory) → eqb n 0 ≡ false → with_memory n m w ≡ record w { sites = with_site n (λ (s : Site). record s { memory = m }) w.sites }
-    far_memory m e = rw e refl
-
     far_node : (v : NodeWorld) (r : Running) → eqb n 0 ≡ false → with_node n r v
         ≡ record v { sites = with_site n (λ (s : Site). record s { node = Some r }) v.sites }
     far_node v r e = rw e refl
 
     far_links : eqb n 0 ≡ false → links_of w n ≡ n ∷ []
     far_links e = rw e refl
-
-    far_stands : eqb n 0 ≡ false → (x : Site) → site_at w.sites n ≡ Some x → x.node ≡ None
-    far_stands e x here = rw here at (rw e at stands)
 
     -- an entry that tells nothing of any host
     booted_silent : (k : ℕ) → AreSilent k noted
@@ -205,14 +182,14 @@ module _ (hosts : List ℕ) (are : AreHosts hosts) where
         (record { controller = eqb-true n 0 e; hosts_are = all.hosts_are; sites = all_stay w.sites all.sites })
     runs_reads (inr e) =
         subst (AllRead hosts (t ++ noted)) (sym (ap (λ l. with_node n (found n l before.content) (with_memory n after_it w)) (far_links e)
-        ∙ ap (with_node n found_it) (far_memory after_it e)
+        ∙ ap (with_node n found_it) (rw e refl)
         ∙ far_node (record w { sites = with_site n (λ (s : Site). record s { memory = after_it }) w.sites }) found_it e
         ∙ ap (λ l. record w { sites = l }) (with_site_twice n (λ (s : Site). record s { memory = after_it })
         (λ (s : Site). record s { node = Some found_it }) (λ s. refl) w.sites)))
         (alters t noted w n (λ (s : Site). record s { memory = after_it; node = Some found_it }) (λ s. refl) (λ k off. booted_silent k) all
         (λ x here reads same. subst (λ j. SiteReads (t ++ entry.Booted j (count_of found_it.core.journal) ∷ [])
         (record x { memory = after_it; node = Some (found j (j ∷ []) before.content) })) same
-        (boot_reads t x after_it before.content (count_of found_it.core.journal) reads (far_stands e x here))))
+        (boot_reads t x after_it before.content (count_of found_it.core.journal) reads (rw here at (rw e at stands)))))
 
     boots_read : Fine (boots w n)
     boots_read = by_test (fails_within (length (boot_writes before.content)) before.plan)

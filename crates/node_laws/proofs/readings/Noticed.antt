@@ -97,9 +97,7 @@ module _ (r : Running) (plan : Option Plan) (near_ends : ℕ → NumberedEnd) (e
 
     -- an end that has a notice after the step was up once something had come
     came_up : (x : ℕ) (p : Port) → port_at k.ports x ≡ Some p → is_some p.desk.notice ≡ true → up_at (port_at came x) ≡ true
-    came_up x p here some =
-        let ups : UpAt (Some p) = subst UpAt here (sure.up x) in
-        sym (sym (ap up_at here) ∙ (sure.links x ∙ left_link came x)) ∙ ups some
+    came_up x p here some = sym (sym (ap up_at here) ∙ (sure.links x ∙ left_link came x)) ∙ (subst UpAt here (sure.up x)) some
 
     -- what is late stays so
     abbrev late_of : List Port → ℕ → Bool
@@ -110,9 +108,6 @@ module _ (r : Running) (plan : Option Plan) (near_ends : ℕ → NumberedEnd) (e
     late_map g host late ports x = ap (λ o. option_map_or (λ (p : Port). p.late) o false) (at_all ports x g host) ∙ by_option (port_at ports x)
         (λ q. rw q refl)
         (λ p q. rw q (late p))
-
-    changed_late : (b : Bool) (g : Port → Port) (p : Port) → ((q : Port) → (g q).late ≡ q.late) → (changed_if b g p).late ≡ p.late
-    changed_late b g p same = grind arith
 
     late_is : (x : ℕ) → is_late_at k x ≡ late_of came x
     late_is x = rest Of note desk turns beside (forgotten came) (flat_map (synced begun.core input) begun.ports) (all_owed left) first_work
@@ -141,12 +136,12 @@ module _ (r : Running) (plan : Option Plan) (near_ends : ℕ → NumberedEnd) (e
         desk n f w keeps a =
             let g : Port → Port = λ p. record p { desk = f p.desk } in
             late_map (λ p. changed_if (eqb p.desk.host n) g p) (λ p. changed_host (eqb p.desk.host n) g p (λ q. keeps q.desk))
-            (λ p. changed_late (eqb p.desk.host n) g p (λ q. refl)) w.ports x ∙ a
+            (λ p. grind arith) w.ports x ∙ a
 
         turns : (n : ℕ) (t : Turn) (w : Work) → Of w → Of (turn_at n t w)
         turns n t w a =
             late_map (λ p. changed_if (eqb p.desk.host n) (after_turn t) p) (λ p. changed_host (eqb p.desk.host n) (after_turn t) p (λ q. refl))
-            (λ p. changed_late (eqb p.desk.host n) (after_turn t) p (λ q. refl)) w.ports x ∙ a
+            (λ p. grind arith) w.ports x ∙ a
 
         beside : (w v : Work) → v.core.node ≡ w.core.node → v.ports ≡ w.ports → v.entries ≡ w.entries → Of w → Of v
         beside w v core ports entries a = ap (λ ps. late_of ps x) ports ∙ a
@@ -170,9 +165,6 @@ module _ (r : Running) (plan : Option Plan) (near_ends : ℕ → NumberedEnd) (e
       up = sym (ap up_at (at_all (starts r.desks) x come (λ q. come_host q (input_at (AtEnd h i) q))))
           ∙ came_up number noticed (AtEnd h i) coming x p here some
 
-      come_is : (q : Port) (b : Bool) → eqb q.desk.host h ≡ b → (come q).side ≡ cond b (after_input q.side i) q.side
-      come_is q b e = grind arith
-
       go : (o : Option Port) → port_at (starts r.desks) x ≡ o
           → CameUp x (cond (eqb x h) (after_input (near_ends x).side i) (near_ends x).side).shdlc.phase
       go None e = absurd (true≢false (sym up ∙ ap (λ o. up_at (option_map come o)) e))
@@ -181,7 +173,7 @@ module _ (r : Running) (plan : Option Plan) (near_ends : ℕ → NumberedEnd) (e
         here = e;
         up =
             let side : (come q).side ≡ cond (eqb x h) (after_input (near_ends x).side i) (near_ends x).side =
-            come_is q (eqb q.desk.host h) refl ∙ ap (λ n. cond (eqb n h) (after_input q.side i) q.side) (at_host (starts r.desks) x q e)
+            (grind arith) ∙ ap (λ n. cond (eqb n h) (after_input q.side i) q.side) (at_host (starts r.desks) x q e)
             ∙ ap (λ s. cond (eqb x h) (after_input s i) s) (is_start r.desks x q e).side in
             sym (ap (λ (s : LinkEnd). is_up s.shdlc.phase) side) ∙ (sym (ap (λ o. up_at (option_map come o)) e) ∙ up);
       }
@@ -213,15 +205,12 @@ module _ (r : Running) (plan : Option Plan) (near_ends : ℕ → NumberedEnd) (e
     both : (a b : Bool) → (a && not b) ≡ true → (a ≡ true) × (b ≡ false)
     both a b e = grind arith
 
-    late_up : (x : ℕ) (q : Port) → port_at (starts r.desks) x ≡ Some q → is_late (with_older (come_tick q)) ≡ true → q.side.shdlc.phase ≡ Up
-    late_up x q e is = grind arith
-
     -- an end whose notice is late was up as the step began
     was_up : (x : ℕ) → is_late_at (steps TimePasses begun) x ≡ true → (near_ends x).side.shdlc.phase ≡ Up
     was_up x is = by_option (port_at (starts r.desks) x)
         (λ e. absurd (true≢false (sym is ∙ (late_at x ∙ ap LateOf e))))
         (λ q e. ap (λ (s : LinkEnd). s.shdlc.phase) (sym (is_start r.desks x q e).side) ∙ by_test (is_late (with_older (come_tick q)))
-        (λ z. late_up x q e z)
+        (λ z. grind arith)
         (λ off. let was : q.late ≡ true = rw off at (sym (late_at x ∙ ap LateOf e) ∙ is) in
         absurd (true≢false (sym was ∙ (is_start r.desks x q e).late))))
 
@@ -259,10 +248,9 @@ module _ (r : Running) (plan : Option Plan) (near_ends : ℕ → NumberedEnd) (e
         here = e;
         up = subst Goal (sym (late_at x ∙ ap LateOf e)) (by_test (is_late (with_older (come_tick q)))
             (λ is. let parts = both _ old.ended is in
-            let was : q.side.shdlc.phase ≡ Up = late_up x q e is in
-            let now : (after_input q.side Tick).shdlc.phase ≡ Up = stays_up q.side Tick tt was parts.1 in
+            let was : q.side.shdlc.phase ≡ Up = grind arith in
             let after : is_up (after_input (after_input q.side Tick) (Reset None)).shdlc.phase ≡ true = rw is at up_q in
-            rw is (too_late q same was now after))
+            rw is (too_late q same was (stays_up q.side Tick tt was parts.1) after))
             (λ off. let after : is_up (after_input q.side Tick).shdlc.phase ≡ true = rw off at up_q in
             rw off (subst Goal (sym (is_start r.desks x q e).late) (in_time q same after))));
       } where

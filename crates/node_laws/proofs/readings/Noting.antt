@@ -1,16 +1,16 @@
 -- What a node notes in a step, by its kinds; over a step of a host or of another node the unanswered command stays the one that is read.
-use Rattle.node_laws.proofs.Words.{About, Acked, Active, AllByRecursion, AllByRecursion-append, Asks, AtEnd, Bool, Command, Commits, Core, Cut, Deed, Desk}
-use Rattle.node_laws.proofs.Words.{Down, Drops, Ends, Entry, FetchMessage, Fits, GaveUp, Give, GoesOn, Got, Hears, Hold, IsAnswered, IsComing, IsFresh, IsHost}
+use Rattle.node_laws.proofs.Words.{About, Acked, Active, AllByRecursion, AllByRecursion-append, Asks, AtEnd, Command, Commits, Core, Cut, Deed, Desk, Down}
+use Rattle.node_laws.proofs.Words.{Drops, Ends, Entry, FetchMessage, Fits, GaveUp, Give, GoesOn, Got, Hears, Hold, IsAnswered, IsComing, IsFresh, IsHost}
 use Rattle.node_laws.proofs.Words.{IsItsEnd, IsOutside, IsSilent, KeepsOrder, LinkInput, LinkState, List, MayDo, Message, NodeInput, None, Noted, OfHost}
 use Rattle.node_laws.proofs.Words.{Option, Orders, Plain, Port, Release, Releases, Removed, Report, Reset, Restarted, SaysOk, Sends, Sent, SetAside, SetsErrors}
 use Rattle.node_laws.proofs.Words.{Some, Tells, TimePasses, Turn, Up as IsUpNow, Waits, Work, [], after_input, after_sessions, after_turn, all_come, all_done}
 use Rattle.node_laws.proofs.Words.{all_of_host, all_owed, all_owed_hold, all_synced_hold, any_of_controller, anyone, ap, append-nil, arith, begins_with}
 use Rattle.node_laws.proofs.Words.{body_of, by_option, by_test, changed_if, comes_to_pass, commit, commit_writes, cond, cond_both, controller_deeds, count_of}
 use Rattle.node_laws.proofs.Words.{deeds_hold, deeds_of, done, end_h, end_of, end_of_node, end_view, entries_for, entry_of, eqb, fails_within, false, flat_map}
-use Rattle.node_laws.proofs.Words.{forgets, forgotten, forgotten_hold, has_come, host_deeds, inl, input_at, is_late, is_response, is_some, length, map}
-use Rattle.node_laws.proofs.Words.{noted_of, notified, noting, option_map_or, own_side, own_view, passes, port_at, refl, report, reset_late, same_end, steps}
-use Rattle.node_laws.proofs.Words.{subst, sym, synced, times_out, told, told_at, told_late, true, true≢false, turn_at, unless_cut, view_of, whole_acked}
-use Rattle.node_laws.proofs.Words.{with_desk, with_older, with_port, without_notice, ℕ, ◌&&◌, ◌++◌, ◌||◌, ◌∙◌, ◌∷◌, ◌≡◌}
+use Rattle.node_laws.proofs.Words.{forgets, forgotten, forgotten_hold, has_come, host_deeds, inl, input_at, is_late, is_some, length, map, noted_of, notified}
+use Rattle.node_laws.proofs.Words.{noting, option_map_or, own_side, own_view, passes, port_at, refl, report, reset_late, same_end, steps, subst, sym, synced}
+use Rattle.node_laws.proofs.Words.{times_out, told, told_at, told_late, true, true≢false, turn_at, unless_cut, view_of, whole_acked, with_desk, with_older}
+use Rattle.node_laws.proofs.Words.{with_port, without_notice, ℕ, ◌++◌, ◌||◌, ◌∙◌, ◌∷◌, ◌≡◌}
 use Rattle.link_laws.specs.entries.Entries.{End as Side}
 use Rattle.link_laws.specs.entries.Entries.Entry.{Tick, Up}
 use Rattle.node_laws.proofs.links.Noticing.{at_host, outside, stays_up}
@@ -166,8 +166,7 @@ module _ (P : Entry → Type 0) (n : ℕ) (who : Side) (At : ℕ → Type 0) whe
     does h IsAnswered w q a = desks h (λ d. record d { notice = None }) w (λ d. refl) a
     does h (Drops pid) w q a = notes (entry.Dropped (end_of_node w.core h) pid ∷ []) w (beside (entry.Dropped (end_of_node w.core h) pid) tt, tt) a
     does h (SetsErrors errors) w q a = desks h (λ d. record d { errors = errors }) w (λ d. refl) a
-    does h (Orders message) w q a =
-        turns h (Give (1, message)) (record w { core = record w.core { command = Some message } }) (grind arith)
+    does h (Orders message) w q a = turns h (Give (1, message)) (record w { core = record w.core { command = Some message } }) (grind arith)
     does h Hears w q a = with_core w (record w.core { command = None }) refl a
     does h (GoesOn i) w q a = with_core w (record w.core { init = Some i }) refl a
     does h (Ends e) w q a =
@@ -254,14 +253,8 @@ module _ (P : Entry → Type 0) (n : ℕ) (who : Side) (At : ℕ → Type 0) whe
 older_same : (q : Port) → q.desk.notice ≡ None → with_older q ≡ q
 older_same q e = rw e refl
 
-late_same : (q : Port) → q.desk.notice ≡ None → reset_late q ≡ q
-late_same q e = rw e refl
-
 late_told_of_stepping : (core : Core) (q : Port) → q.desk.notice ≡ None → told_late core q ≡ []
 late_told_of_stepping core q e = rw e refl
-
-pub forgets_same : (ports : List Port) (q : Port) → q.desk.notice ≡ None → forgets ports q ≡ q
-forgets_same ports q e = rw e refl
 
 without_same : (q : Port) → q.desk.notice ≡ None → without_notice q ≡ q
 without_same q e = by_test (q.ended || q.late) (λ z. rw z (ap (λ n. record q { desk = record q.desk { notice = n } }) (sym e))) (λ z. rw z refl)
@@ -273,7 +266,7 @@ times_same TimePasses w q is quiet =
     ap (λ ps. times_out TimePasses (record w { ports = ps })) is
     ∙ (ap (λ x. noting (told_late w.core x ++ []) (record w { ports = reset_late x ∷ [] })) (older_same q quiet)
     ∙ (ap (λ es. noting (es ++ []) (record w { ports = reset_late q ∷ [] })) (late_told_of_stepping w.core q quiet)
-    ∙ (ap (λ x. noting [] (record w { ports = x ∷ [] })) (late_same q quiet)
+    ∙ (ap (λ x. noting [] (record w { ports = x ∷ [] })) (rw quiet refl)
     ∙ (ap (λ es. record w { entries = es; ports = q ∷ [] }) (append-nil w.entries)
     ∙ ap (λ ps. record w { ports = ps }) (sym is)))))
 
@@ -457,9 +450,6 @@ module _ (k : ℕ) where
   abbrev pub Away : Side → ℕ → Type 0
   Away who h = same_end (end_of h who) (end_h k) ≡ false
 
-  off_all : (a b c : Bool) (x y : Option (List ℕ)) → a ≡ false → cond (a && b && c) x y ≡ y
-  off_all a b c x y e = rw e refl
-
   module _ (n : ℕ) (other : eqb n k ≡ false) (who : Side) where
     -- the node isn't this host, none of its ends is, and what was noted tells nothing of it
     abbrev pub IsAway : Work → Type 0
@@ -469,7 +459,7 @@ module _ (k : ℕ) where
     noted h x away own = grind arith
 
     turned : (h pid : ℕ) (message : List ℕ) → Away who h → IsSilent k (entry.Turn (end_of h who) pid message)
-    turned h pid message away = λ c. off_all (same_end (end_of h who) (end_h k)) (eqb pid 1) (is_response message) None c away
+    turned h pid message away = λ c. (rw away refl)
 
     beside : (x : Entry) → IsBeside n x → IsSilent k x
     beside x own = grind arith

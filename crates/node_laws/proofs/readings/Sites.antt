@@ -7,14 +7,14 @@ use Rattle.node_laws.proofs.Words.{Plan, Port, Reset, Running, Sends, Site, Site
 use Rattle.node_laws.proofs.Words.{Work, [], activates, after_controller, after_host, after_host_step, after_input, after_near_tick, after_tick, aged}
 use Rattle.node_laws.proofs.Words.{aged_entries, all_aged, and-false, ap, append-nil, append_assoc, ap₂, arith, arrival, beginning, begins_with, by_coming}
 use Rattle.node_laws.proofs.Words.{by_controller, by_controller_tick, by_host, by_host_tick, by_list, by_option, by_test, cases_Bool, changed_if, comes_at}
-use Rattle.node_laws.proofs.Words.{comes_to, cond, cond-false, cond-true, cond_both, controller_does, controller_ticks, controller_work, end_c, end_h, ended_by}
-use Rattle.node_laws.proofs.Words.{ending_entries, ending_of, entries_for, eq-eqb, eqb, eqb-true, exchanged, false, finished, first_lost, flat_map, found}
-use Rattle.node_laws.proofs.Words.{frames_noted, give_refusal, has_come, host_cut, host_does, host_tick, host_ticks, host_work, hosts_tick, init_of, inl}
-use Rattle.node_laws.proofs.Words.{input_at, input_of, inr, is_command_message, is_late_at, is_some, left_running, link_after_controller, link_to, map}
-use Rattle.node_laws.proofs.Words.{most_frames, ne_eqb, near_end_in, near_tick, new_site, new_world, order_in, order_of, port_at, port_for, refl, replicate}
-use Rattle.node_laws.proofs.Words.{runs_left, runs_none, runs_on, sending, sent_all, site_at, site_ticked, site_unticked, steps, steps_at_controller, subst}
-use Rattle.node_laws.proofs.Words.{sym, tick_host, ticks_at_controller, true, turn, turned, turns_at, wires_for, with_ended, with_site, work_of, world_ticks, ℕ}
-use Rattle.node_laws.proofs.Words.{◌&&◌, ◌++◌, ◌∙◌, ◌∷◌, ◌≡◌, ◌⊎◌}
+use Rattle.node_laws.proofs.Words.{comes_to, cond, cond-true, cond_both, controller_does, controller_ticks, controller_work, end_c, end_h, ending_entries}
+use Rattle.node_laws.proofs.Words.{ending_of, entries_for, eq-eqb, eqb, eqb-true, exchanged, false, first_lost, flat_map, found, frames_noted, give_refusal}
+use Rattle.node_laws.proofs.Words.{has_come, host_cut, host_does, host_tick, host_ticks, host_work, hosts_tick, init_of, inl, input_at, input_of, inr}
+use Rattle.node_laws.proofs.Words.{is_command_message, is_late_at, left_running, link_after_controller, link_to, map, most_frames, ne_eqb, near_end_in}
+use Rattle.node_laws.proofs.Words.{near_tick, new_site, new_world, order_in, order_of, port_at, port_for, refl, replicate, runs_left, runs_none, runs_on}
+use Rattle.node_laws.proofs.Words.{sending, sent_all, site_at, site_ticked, site_unticked, steps, steps_at_controller, subst, sym, tick_host}
+use Rattle.node_laws.proofs.Words.{ticks_at_controller, true, turn, turned, turns_at, wires_for, with_site, work_of, world_ticks, ℕ, ◌&&◌, ◌++◌, ◌∙◌, ◌∷◌, ◌≡◌}
+use Rattle.node_laws.proofs.Words.{◌⊎◌}
 use Rattle.link_laws.proofs.sessions.Ties.{after_frames-phase}
 use Rattle.link_laws.specs.entries.Entries.{End as Side}
 use Rattle.node_laws.proofs.kept.Events.{hosts_same, hosts_with, site_found}
@@ -57,9 +57,6 @@ turned_phase e (t ∷ ts) = turned_phase (turn e t) ts ∙ turn-phase e t
 -- and frames that go out leave it
 pub sent_phase : (e : LinkEnd) (ts : List Turn) → (sent_all (turned e ts)).shdlc.phase ≡ e.shdlc.phase
 sent_phase e ts = after_frames-phase most_frames (turned e ts).shdlc ∙ turned_phase e ts
-
-finished_phase : (l : Link) (e : LinkEnd) (ts : List Turn) → (finished l (turned e ts) GoesOut).controller.side.shdlc.phase ≡ e.shdlc.phase
-finished_phase l e ts = sent_phase e ts
 
 -- an end after something comes to it, in a step that doesn't lose its power
 pub stepped_phase : (l : Link) (comes : Comes) (ts : List Turn) (i : LinkInput) → input_of l comes ≡ Some i
@@ -124,7 +121,7 @@ done_reads t s host now k l link memory phase stands = by stands where
   by : Stands s.host host t now k → SiteReads (t ++ (k.entries ++ frames)) (record s { link = link; memory = memory; node = runs_on k })
   by (inl r) = record {
     order = order_is (Some (left_running k)) (runs_left k r.on) r.order;
-    runs = subst (IfHostRuns s.host link) (sym (runs_left k r.on)) ((grind arith));
+    runs = subst (IfHostRuns s.host link) (sym (runs_left k r.on)) (grind arith);
   }
   by (inr r) = record { order = order_is None (runs_none k r.off) r.order; runs = subst (IfHostRuns s.host link) (sym (runs_none k r.off)) tt }
 
@@ -254,7 +251,7 @@ ticks_read t s host reads_so =
       phase : k.cut ≡ false → (after_tick s k).0.link.host.side.shdlc.phase ≡ now
       phase on =
           ap (λ b. (ticks_at_controller (exchanged s.link) (turns_at k s.host) (cond b CutOff GoesOut)).controller.side.shdlc.phase) on
-          ∙ (finished_phase (with_ended (exchanged s.link) (is_some (ended_by s.link.host.side Tick))) (after_input s.link.host.side Tick) (turns_at k s.host))
+          ∙ (sent_phase (after_input s.link.host.side Tick) (turns_at k s.host))
 
 -- its power is cut
 pub cut_reads : (t : List Entry) (s : Site) → SiteReads (t ++ entry.Cut s.host ∷ []) (host_cut s)
@@ -291,10 +288,6 @@ abbrev pub hosts_in : List Site → List ℕ
 hosts_in sites = map (λ (s : Site). s.host) sites
 
 -- ### Ends of others
-
--- the controller's ends are no host's
-near_away : (k h : ℕ) → Away k Controller h
-near_away k h = and-false (eqb h k)
 
 all_ends : (P : ℕ → Type 0) (f : Desk → Port) → ((d : Desk) → (f d).desk.host ≡ d.host) → (desks : List Desk) → ((d : Desk) → P d.host)
     → AllByRecursion (λ (p : Port). P p.desk.host) (map f desks)
@@ -347,8 +340,7 @@ module _ (t es : List Entry) (h : ℕ) (f : Site → Site) (silent : (k : ℕ) �
           others_stay sites (subst (λ k. AllByRecursion (λ j. eqb j k ≡ false) (hosts_in sites)) (eqb-true s.host h is) different.0) all.1,
         )
     by_host (inr off) later =
-        let there : site_at sites h ≡ Some x = sym (cond-false (eqb s.host h) (Some s) (site_at sites h) off) ∙ e in
-        (subst (λ b. SiteReads (t ++ es) (changed_if b f s)) (sym off) (stays s off all.0), later there)
+        (subst (λ b. SiteReads (t ++ es) (changed_if b f s)) (sym off) (stays s off all.0), later (grind arith))
 
 -- ### Nodes
 
@@ -359,24 +351,16 @@ controller_away : (r : Running) → r.core.node ≡ 0 → (k : ℕ) (host : IsHo
 controller_away r number k host plan near_ends es silent = record {
   number = number;
   side = ap (λ m. cond (eqb m 0) Controller Host) number;
-  ends = all_ends (Away k Controller) (λ d. port_for (near_ends d.host) d) (λ d. refl) r.desks (λ d. near_away k d.host);
+  ends = all_ends (Away k Controller) (λ d. port_for (near_ends d.host) d) (λ d. refl) r.desks (λ d. (and-false (eqb d.host k)));
   so = silent;
 }
 
 runs_zero : (k : Work) → k.core.node ≡ 0 → IfZero (runs_on k)
 runs_zero k e = by_test k.cut (λ z. rw z tt) (λ z. rw z e)
 
--- a host begins a step away from each other one
-host_away : (x : Site) (r : Running) → IsHost x.host → HostRuns x.host x.link r → (k : ℕ) (other : eqb x.host k ≡ false) (near_end : NumberedEnd)
-    (es : List Entry) → AreSilent k es → IsAway k x.host other Host (work_of r x.memory.plan (λ n. near_end) es)
-host_away x r host so k other near_end es silent = grind arith
-
 -- ### What comes
 
 module _ (hosts : List ℕ) (are : AreHosts hosts) where
-  all_hosts : (t : List Entry) (w : NodeWorld) → AllRead hosts t w → AllByRecursion IsHost (hosts_in w.sites)
-  all_hosts t w all = subst (AllByRecursion IsHost) (sym all.hosts_are) are.all
-
   nothing : (t : List Entry) (w : NodeWorld) → AllRead hosts t w → AllRead hosts (t ++ []) w
   nothing t w all = subst (λ l. AllRead hosts l w) (sym (append-nil t)) all
 
@@ -395,7 +379,7 @@ module _ (hosts : List ℕ) (are : AreHosts hosts) where
             (λ s. ap (λ (x : NumberedEnd). x.side) (here_host s.link (Step (comes_to h comes s.host) (turns_at k s.host) (ending_of k))))
             (λ n host. silent-append n k.entries frames (away n host).so (silent_flat n (λ (s : Site). frames_noted Controller s.host
             (wires_for s.link (comes_to h comes s.host)) k) (λ s. frames_silent n Controller s.host (wires_for s.link (comes_to h comes s.host)) k) w.sites))
-            w.sites (all_hosts t w all) all.sites;
+            w.sites (subst (AllByRecursion IsHost) (sym all.hosts_are) are.all) all.sites;
       } where
         k : Work
         k = controller_work w r h comes (steps (AtEnd h i))
@@ -420,7 +404,7 @@ module _ (hosts : List ℕ) (are : AreHosts hosts) where
       → AllRead hosts (t ++ (host_does w h comes (steps (AtEnd h i))).1) (host_does w h comes (steps (AtEnd h i))).0
   far_comes t w h comes i all input =
       by_host (λ p. AllRead hosts (t ++ p.1) p.0) w h comes (steps (AtEnd h i)) (nothing t w all)
-      (λ x r here e. let known = site_found (SiteReads t) IsHost w.sites h x all.sites (all_hosts t w all) here in
+      (λ x r here e. let known = site_found (SiteReads t) IsHost w.sites h x all.sites (grind arith) here in
       on x r here e known.0 known.1 known.2) where
         on : (x : Site) (r : Running) → site_at w.sites h ≡ Some x → x.node ≡ Some r → SiteReads t x → IsHost x.host → x.host ≡ h
             → AllRead hosts (t ++ (after_host_step w h comes x (host_work x r comes (steps (AtEnd h i)))).1)
@@ -474,14 +458,11 @@ module _ (hosts : List ℕ) (are : AreHosts hosts) where
 
 pub all_begin : (hosts : List ℕ) → AllRead hosts [] (new_world hosts)
 all_begin hosts = record { controller = tt; hosts_are = same hosts; sites = each hosts } where
-  content : List ℕ
-  content = replicate 65536 255
-
-  same : (hosts : List ℕ) → hosts_in (map (new_site content) hosts) ≡ hosts
+  same : (hosts : List ℕ) → hosts_in (map (new_site (replicate 65536 255)) hosts) ≡ hosts
   same [] = refl
   same (h ∷ hosts) = ap (λ l. h ∷ l) (same hosts)
 
-  each : (hosts : List ℕ) → AllByRecursion (SiteReads []) (map (new_site content) hosts)
+  each : (hosts : List ℕ) → AllByRecursion (SiteReads []) (map (new_site (replicate 65536 255)) hosts)
   each [] = tt
   each (h ∷ hosts) = (record { order = refl; runs = tt }, each hosts)
 
@@ -522,7 +503,7 @@ module _ (hosts : List ℕ) (are : AreHosts hosts) where
           away : (n : ℕ) (off : eqb h n ≡ false) → IsAway n x.host (ap (λ m. eqb m n) same ∙ off) Host k
           away n off =
               all_do n x.host (ap (λ m. eqb m n) same ∙ off) Host h deeds (work_of r x.memory.plan (λ m. x.link.host) []) (hushed n)
-              (host_away x r host (subst (IfHostRuns x.host x.link) e keeps.runs) n (ap (λ m. eqb m n) same ∙ off) x.link.host [] tt)
+              (grind arith)
 
   link_is : (w : NodeWorld) (h : ℕ) (x : Site) → site_at w.sites h ≡ Some x → link_to w.sites h ≡ x.link
   link_is w h x here = rw here refl
@@ -598,7 +579,7 @@ module _ (hosts : List ℕ) (are : AreHosts hosts) where
       (λ r e. let work : Work = host_tick s r in
       silent-append k work.entries (frames_noted Host s.host (exchanged s.link) work)
       (steps_away k s.host off Host TimePasses (work_of r s.memory.plan (λ n. s.link.host) [])
-      (host_away s r host (subst (IfHostRuns s.host s.link) e keeps.runs) k off s.link.host [] tt)).so
+      (grind arith)).so
       (frames_silent k Host s.host (exchanged s.link) work))
 
   all_tick_silent : (t : List Entry) (k : ℕ) (sites : List Site) → AllByRecursion IsHost (hosts_in sites) → AllByRecursion (λ h. eqb h k ≡ false)
@@ -617,9 +598,6 @@ module _ (hosts : List ℕ) (are : AreHosts hosts) where
     moved t es h silent sites off.1 all.1,
   )
 
-  tick_host_same : (s : Site) → (host_ticks s).0.host ≡ s.host
-  tick_host_same s = by_option s.node (λ e. rw e refl) (λ r e. rw e refl)
-
   sites_tick : (sites : List Site) (t : List Entry) → AreDifferent (hosts_in sites) → AllByRecursion IsHost (hosts_in sites) → AllByRecursion
       (SiteReads t) sites
       → (hosts_in (hosts_tick sites).0 ≡ hosts_in sites) × AllByRecursion (SiteReads (t ++ (hosts_tick sites).1)) (hosts_tick sites).0
@@ -631,8 +609,8 @@ module _ (hosts : List ℕ) (are : AreHosts hosts) where
       moved t es s.host (λ k off. tick_silent t s k known.0 off all.0) sites different.0 all.1 in
       let rest = sites_tick sites (t ++ es) different.1 known.1 there in
       let silent : AreSilent (host_ticks s).0.host later =
-      subst (λ n. AreSilent n later) (sym (tick_host_same s)) (all_tick_silent (t ++ es) s.host sites known.1 different.0 there) in (
-        ap₂ (λ x l. x ∷ l) (tick_host_same s) rest.0,
+      subst (λ n. AreSilent n later) (sym (grind arith)) (all_tick_silent (t ++ es) s.host sites known.1 different.0 there) in (
+        ap₂ (λ x l. x ∷ l) (grind arith) rest.0,
         (
           subst (λ l. SiteReads l (host_ticks s).0) (append_assoc t es later) (others_read (t ++ es) later (host_ticks s).0
               (host_ticks s).0 silent refl refl refl

@@ -2,11 +2,11 @@
 use Rattle.node_laws.proofs.Words.{Acked, Active, AllByRecursion, AllByRecursion-get, AreInitsShort, Bool, Command, Commits, Core, Deed, Desk}
 use Rattle.node_laws.proofs.Words.{Down as NotedDown, Drops, Ends, Entry, Err, FetchMessage, Fits, GaveUp, Give, GoesOn, Got, Hears, Hold, Host, Init, InitMade}
 use Rattle.node_laws.proofs.Words.{IsHost, IsItsEnd, IsResponse, KeepsOrder, LinkInput, LinkState, List, MayDo, Message, MessageFault, MessageKind, None, Noted}
-use Rattle.node_laws.proofs.Words.{Ok, Option, Orders, Port, Refused, Release, Releases, Report, Result, SaysOk, Sends, Sent, Set, SetsErrors, Some, Turn, Up}
-use Rattle.node_laws.proofs.Words.{Work, [], after_input, after_turn, all_done, ap, append_assoc, arith, awaited_after, body_in, body_of, by_option, by_test}
-use Rattle.node_laws.proofs.Words.{changed_if, commit, commit_writes, cond, cond-true, cond_both, deeds_of, done, end_h, end_of_node, end_view, ended_by}
-use Rattle.node_laws.proofs.Words.{entries_for, eq-eqb, eqb, fails_within, false, fold, fold-append, gate_of_pipe, give_refusal, goes_through_ends, handles}
-use Rattle.node_laws.proofs.Words.{have_turns, header_of, holds_back, host_deeds, if_so, init_deeds, init_holds, inl, inr, is_command_message, is_gate, is_held}
+use Rattle.node_laws.proofs.Words.{Ok, Option, Orders, Port, Release, Releases, Report, Result, SaysOk, Sends, Sent, Set, SetsErrors, Some, Turn, Up, Work, []}
+use Rattle.node_laws.proofs.Words.{after_input, after_turn, all_done, ap, append_assoc, arith, awaited_after, body_in, body_of, by_option, by_test, changed_if}
+use Rattle.node_laws.proofs.Words.{commit, commit_writes, cond, cond-true, cond_both, deeds_of, done, end_h, end_of_node, end_view, ended_by, entries_for}
+use Rattle.node_laws.proofs.Words.{eq-eqb, eqb, fails_within, false, fold, fold-append, gate_of_pipe, give_refusal, goes_through_ends, handles, have_turns}
+use Rattle.node_laws.proofs.Words.{header_of, holds_back, host_deeds, if_so, init_deeds, init_holds, inl, inr, is_command_message, is_gate, is_held}
 use Rattle.node_laws.proofs.Words.{is_response, is_some, is_up, lack, learned, learned_holds, learns, learns_holds, length, lets_go, map, nat_lt, ne_eqb, need}
 use Rattle.node_laws.proofs.Words.{needs, noted_of, noting, option_map, option_map_or, option_to_list, order_in, ordered_deeds, orders_hold, orders_of}
 use Rattle.node_laws.proofs.Words.{own_side, own_view, passes, port_at, refl, report, response_deeds, same_end, sent_unless, spare, subst, sym, told_at, true}
@@ -64,29 +64,16 @@ rest_quiet who n acked r = rest_all IsQuiet who n acked tt tt (λ k. tt) tt (λ 
 pub told_reads : (h : ℕ) (core : Core) (p : Port) (i : LinkInput) (c : Option (List ℕ)) → own_side core ≡ Host → p.desk.host ≡ h
     → reads h (told_at core p (Some i)) c ≡ cond (is_some (ended_by p.side i)) None c
 told_reads h core p i c side at = rw side (by_option (ended_by p.side i)
-    (λ q. rw q (quiet_reads h p.desk.host rest c quiet))
+    (λ q. rw q (quiet_reads h p.desk.host rest c (rest_quiet Host p.session (whole_acked (after_input p.side i)) (report p.side i))))
     (λ cause q. rw q (ap (λ b. reads h (entries_for p.desk.host rest) (cond b None c)) (ap (λ k. same_end (end_h k) (end_h h)) at ∙ same_own h)
-    ∙ quiet_reads h p.desk.host rest None quiet)))
+    ∙ quiet_reads h p.desk.host rest None (rest_quiet Host p.session (whole_acked (after_input p.side i)) (report p.side i)))))
   where
     rest : List Noted
     rest = told_rest Host p.session (whole_acked (after_input p.side i)) (report p.side i)
 
-    quiet : AllByRecursion IsQuiet rest
-    quiet = rest_quiet Host p.session (whole_acked (after_input p.side i)) (report p.side i)
-
 -- a message that is no command on pipe 01 reads as nothing
 no_order : (a b c : Bool) (x y : Option (List ℕ)) → (b && c) ≡ false → cond (a && b && c) x y ≡ y
 no_order a b c x y e = grind arith
-
-sent_reads : (h k : ℕ) (who : Side) (n : ℕ) (m : Message) (o : Option Refused) (c : Option (List ℕ))
-    → (eqb m.0 1 && is_command_message m.1) ≡ false
-    → reads h (entries_for k (sent_unless o who n m)) c ≡ c
-sent_reads h k who n m o c e = grind arith
-
--- a command on pipe 01 that isn't refused is what is read
-order_reads : (h : ℕ) (n : ℕ) (order : List ℕ) (c : Option (List ℕ)) → is_command_message order ≡ true
-    → reads h (entries_for h (sent_unless None Host n (1, order))) c ≡ Some order
-order_reads h n order c e = rw (same_own h, e) refl
 
 -- ## A host does the deeds of a message: its unanswered command stays the one that is read
 
@@ -145,16 +132,6 @@ module _ (h : ℕ) (host : IsHost h) (before : List Entry) (now : LinkState) whe
 
   -- ### Ends
 
-  changed_phase : (b : Bool) (f : Port → Port) (p : Port) → ((p : Port) → (f p).side.shdlc.phase ≡ p.side.shdlc.phase)
-      → (changed_if b f p).side.shdlc.phase ≡ p.side.shdlc.phase
-  changed_phase b f p same = grind arith
-
-  -- the end is changed
-  port_runs : (k : ℕ) (f : Port → Port) (w : Work) → ((p : Port) → IsItsEnd h w.core.command p → IsItsEnd h w.core.command (f p))
-      → ((p : Port) → (f p).side.shdlc.phase ≡ p.side.shdlc.phase) → Runs w
-      → Runs (record w { ports = with_port k f w.ports })
-  port_runs k f w one same r = grind arith
-
   desk_runs : (k : ℕ) (f : Desk → Desk) (w : Work) → ((d : Desk) → (f d).host ≡ d.host) → ((d : Desk) → (f d).notice ≡ d.notice) → Runs w
       → Runs (with_desk k f w)
   desk_runs k f w host_is notice_is r = grind arith
@@ -162,21 +139,15 @@ module _ (h : ℕ) (host : IsHost h) (before : List Entry) (now : LinkState) whe
   turn_its : (t : Turn) (c : Option (List ℕ)) (p : Port) → IsItsEnd h c p → IsItsEnd h c (after_turn t p)
   turn_its t c p its = record { host = its.host; no_notice = its.no_notice; up = λ some. turn-phase p.side t ∙ its.up some }
 
-  -- what is noted of a turn of its end
-  noted_is : (k : ℕ) (t : Turn) (w : Work) (r : Runs w) (P : List Entry → Type 0) → (eqb r.port.desk.host k ≡ true → P (noted_of w.core t r.port))
-      → P [] → P (option_map_or (noted_of w.core t) (port_at w.ports k) [])
-  noted_is k t w r P here none = grind arith
-
   turn_runs : (k : ℕ) (t : Turn) (w : Work) → ((p : Port) → reads h (noted_of w.core t p) w.core.command ≡ w.core.command) → Runs w → Runs (turn_at k t w)
   turn_runs k t w silent r =
       noting_runs (record w { ports = with_port k (after_turn t) w.ports }) (option_map_or (noted_of w.core t) (port_at w.ports k) [])
-      (noted_is k t w r (λ es. reads h es w.core.command ≡ w.core.command) (λ e. silent r.port) refl)
-      (port_runs k (after_turn t) w (turn_its t w.core.command) (λ p. turn-phase p.side t) r)
+      (grind arith)
+      (grind arith)
 
   -- a message that is no command on pipe 01 is given
   give_runs : (k : ℕ) (m : Message) (w : Work) → (eqb m.0 1 && is_command_message m.1) ≡ false → Runs w → Runs (turn_at k (Give m) w)
-  give_runs k m w other r =
-      turn_runs k (Give m) w (λ p. sent_reads h p.desk.host (own_side w.core) p.session m (give_refusal p.side m) w.core.command other) r
+  give_runs k m w other r = turn_runs k (Give m) w (λ p. grind arith) r
 
   -- an end that takes a message is up
   taken_up : (p : Port) (m : Message) → give_refusal p.side m ≡ None → p.side.shdlc.phase ≡ Up
@@ -190,9 +161,9 @@ module _ (h : ℕ) (host : IsHost h) (before : List Entry) (now : LinkState) whe
     port = changed_if (eqb r.port.desk.host h) (after_turn (Give (1, order))) r.port;
     is = ap (with_port h (after_turn (Give (1, order)))) r.is;
     its = grind arith;
-    phase = changed_phase (eqb r.port.desk.host h) (after_turn (Give (1, order))) r.port (λ p. turn-phase p.side (Give (1, order))) ∙ r.phase;
+    phase = (grind arith) ∙ r.phase;
     short = r.short;
-    order = read_more w (option_map_or (noted_of told (Give (1, order))) (port_at w.ports h) []) w.core.command (Some order) r.order noted;
+    order = read_more w (option_map_or (noted_of told (Give (1, order))) (port_at w.ports h) []) w.core.command (Some order) r.order (grind arith);
   } where
     told : Core
     told = record w.core { command = Some order }
@@ -202,9 +173,6 @@ module _ (h : ℕ) (host : IsHost h) (before : List Entry) (now : LinkState) whe
 
     here : option_map_or (noted_of told (Give (1, order))) (port_at w.ports h) [] ≡ noted_of told (Give (1, order)) r.port
     here = grind arith
-
-    noted : reads h (option_map_or (noted_of told (Give (1, order))) (port_at w.ports h) []) w.core.command ≡ Some order
-    noted = ap (λ es. reads h es w.core.command) (here ∙ sent) ∙ order_reads h r.port.session order w.core.command command
 
   order_runs : (k : ℕ) → k ≡ h → (order : List ℕ) (w : Work) → Fits w.ports order → is_command_message order ≡ true → Runs w
       → Runs (done k (Orders order) w)
@@ -242,9 +210,7 @@ module _ (h : ℕ) (host : IsHost h) (before : List Entry) (now : LinkState) whe
       → MayDo h F deeds → Runs w → Stands (all_done k deeds w)
   all_stand k F [] w fits may r = inl r
   all_stand k F (Commits c ∷ deeds) w fits may r = then (all_done k deeds) (commit c w) (commit_stands c w r) (λ s. all_stand k F deeds (commit c w)
-      (subst (λ ps. (order : List ℕ) → F order → (k ≡ h) × Fits ps order) (sym (commit_ports c w)) fits) may s) where
-        commit_ports : (c : Command) (w : Work) → (commit c w).ports ≡ w.ports
-        commit_ports c w = by_test (fails_within (length (commit_writes w.core.journal w.core.tables (body_of c))) w.plan) (λ e. rw e refl) (λ e. rw e refl)
+      (subst (λ ps. (order : List ℕ) → F order → (k ≡ h) × Fits ps order) (sym (grind arith)) fits) may s)
   all_stand k F (Sends to m ∷ deeds) w fits may r =
       then (all_done k deeds) (turn_at to (Give m) w) (inl (give_runs to m w may.0 r)) (all_stand k (λ o. ⊥) deeds (turn_at to (Give m) w)
       (λ o x. absurd x) may.1)
@@ -382,15 +348,11 @@ module _ (h : ℕ) (host : IsHost h) (before : List Entry) (now : LinkState) whe
   abbrev answers : Message → Bool
   answers m = eqb m.0 1 && is_response m.1
 
-  turn_read : (w : Work) (m : Message) → Runs_so w → (c : Option (List ℕ)) → reads h (entry.Turn (end_of_node w.core h) m.0 m.1 ∷ []) c ≡ cond
-      (answers m) None c
-  turn_read w m r c = rw (host_side w.core h host r.node, same_own h) refl
-
   -- what is noted of a turn leaves the command
   fetched_runs : (m : Message) (w : Work) → cond (answers m) None w.core.command ≡ w.core.command → Runs_so w → Runs_so (fetched m w)
   fetched_runs m w same r =
       let told : Runs_so (noting (entry.Turn (end_of_node w.core h) m.0 m.1 ∷ []) w) =
-      noting_runs h host before now w (entry.Turn (end_of_node w.core h) m.0 m.1 ∷ []) (turn_read w m r w.core.command ∙ same) r in
+      noting_runs h host before now w (entry.Turn (end_of_node w.core h) m.0 m.1 ∷ []) ((grind arith) ∙ same) r in
       let took : Runs_so (turn_at h FetchMessage (noting (entry.Turn (end_of_node w.core h) m.0 m.1 ∷ []) w)) =
       turn_runs h host before now h FetchMessage (noting (entry.Turn (end_of_node w.core h) m.0 m.1 ∷ []) w) (λ p. refl) told in
       desk_runs h host before now h (λ d. record d { holds = false }) (turn_at h FetchMessage (noting (entry.Turn (end_of_node w.core h) m.0 m.1 ∷ []) w))
@@ -410,7 +372,7 @@ module _ (h : ℕ) (host : IsHost h) (before : List Entry) (now : LinkState) whe
         short = r.short;
         order = Rattle.node_laws.proofs.readings.Turning.read_more h host before now w (entry.Turn (end_of_node w.core h) m.0 m.1 ∷ [])
             w.core.command None r.order
-            (turn_read w m r w.core.command ∙ ap (λ b. cond b None w.core.command) is);
+            ((rw (host_side w.core h host r.node, same_own h) refl) ∙ ap (λ b. cond b None w.core.command) is);
       } in
       desk_runs h host before now h (λ d. record d { holds = false }) (turn_at h FetchMessage v) (λ d. refl) (λ d. refl)
       (turn_runs h host before now h FetchMessage v (λ p. refl) begun)
@@ -443,9 +405,6 @@ module _ (h : ℕ) (host : IsHost h) (before : List Entry) (now : LinkState) whe
   same_if : (b : Bool) (c : Option (List ℕ)) → b ≡ false → cond b None c ≡ c
   same_if b c e = rw e refl
 
-  same_none : (b : Bool) (c : Option (List ℕ)) → c ≡ None → cond b None c ≡ c
-  same_none b c e = grind arith
-
   none_of : (c : Option (List ℕ)) → (is_some c ≡ true → ⊥) → c ≡ None
   none_of c e = grind arith
 
@@ -460,13 +419,6 @@ module _ (h : ℕ) (host : IsHost h) (before : List Entry) (now : LinkState) whe
     Shown : Bool → Result (MessageKind × ℕ) MessageFault → List Deed → Type 0
     Shown b x deeds = is_up r.port.side.shdlc.phase ≡ b → header_of m.1 ≡ x → host_deeds (own_view w.core) (end_view r.port) m ≡ deeds
 
-    ordered : (n : ℕ) → Shown true (Ok (IsCommand, n)) (ordered_deeds (own_view w.core) r.port.desk.errors m.0 n (body_in m.1))
-    ordered n u q = rw (u, q) refl
-
-    posted : (n : ℕ) (b : Bool) → (is_gate 4 (gate_of_pipe (own_view w.core) m.0) && posts_back m.1) ≡ b
-        → Shown true (Ok (IsEvent, n)) (cond b (Sends w.core.node m ∷ []) [])
-    posted n b e u q = rw (u, q) (ap (λ c. cond c (Sends w.core.node m ∷ []) []) e)
-
     answered : (n : ℕ) → Shown true (Ok (IsResponse, n)) (cond (eqb m.0 1) (response_deeds (own_view w.core) n (body_in m.1)) [])
     answered n u q = rw (u, q) refl
 
@@ -476,23 +428,21 @@ module _ (h : ℕ) (host : IsHost h) (before : List Entry) (now : LinkState) whe
     go : (b : Bool) (x : Result (MessageKind × ℕ) MessageFault) → is_up r.port.side.shdlc.phase ≡ b → header_of m.1 ≡ x
         → Handled m w (host_deeds (own_view w.core) (end_view r.port) m)
     go false x u q =
-        let none : w.core.command ≡ None = none_of w.core.command (λ some. true≢false (sym (up_is _ (r.its.up some)) ∙ u)) in
         rw u (λ lacks. all_stand h host before now h (λ o. ⊥) (Drops m.0 ∷ []) (fetched m w) (λ o z. absurd z) tt
-        (fetched_runs m w (same_none (answers m) w.core.command none) r))
+        (fetched_runs m w (grind arith) r))
     go true (Ok (IsCommand, instruction)) u q =
         let other : is_response m.1 ≡ false = rw q refl in
-        subst (Handled m w) (sym (ordered instruction u q))
+        subst (Handled m w) (sym (rw (u, q) refl))
         (does_stand w m (ordered_deeds (own_view w.core) r.port.desk.errors m.0 instruction (body_in m.1)) r u
         (same_if (answers m) w.core.command (off_right (eqb m.0 1) (is_response m.1) other))
         (ordered_may h NotLong w.core r.port.desk.errors m.0 instruction (body_in m.1)))
     go true (Ok (IsEvent, instruction)) u q =
         let other : is_response m.1 ≡ false = rw q refl in
-        let no_command : is_command_message m.1 ≡ false = rw q refl in
         let back : Bool = is_gate 4 (gate_of_pipe (own_view w.core) m.0) && posts_back m.1 in
-        subst (Handled m w) (sym (posted instruction back refl u q))
+        subst (Handled m w) (sym (grind arith))
         (does_stand w m (cond back (Sends w.core.node m ∷ []) []) r u
         (same_if (answers m) w.core.command (off_right (eqb m.0 1) (is_response m.1) other))
-        (posted_may h NotLong w.core m back no_command))
+        (posted_may h NotLong w.core m back (rw q refl)))
     go true (Ok (IsResponse, code)) u q = subst (Handled m w) (sym (answered code u q)) (by_test (eqb m.0 1)
         (λ e. rw e (by_order (ap (λ b. b && is_response m.1) e ∙ is) w.core.command refl))
         (λ e. rw e (does_stand w m [] r u (same_if (answers m) w.core.command (ap (λ b. b && is_response m.1) e)) tt))) where
@@ -507,7 +457,7 @@ module _ (h : ℕ) (host : IsHost h) (before : List Entry) (now : LinkState) whe
           heard order e = rw e refl
 
           by_order : answers m ≡ true → (c : Option (List ℕ)) → w.core.command ≡ c → Handled m w (response_deeds (own_view w.core) code (body_in m.1))
-          by_order one None e = subst (Handled m w) (sym (unheard e)) (does_stand w m [] r u (same_none (answers m) w.core.command e) tt)
+          by_order one None e = subst (Handled m w) (sym (unheard e)) (does_stand w m [] r u (grind arith) tt)
           by_order one (Some order) e =
               subst (Handled m w) (sym (heard order e)) (hears_stand w m (cond (eqb code 0) (learned (own_view w.core) order
               (body_in m.1)) [] ++ init_deeds (own_view w.core) code (body_in m.1) w.core.init) r u one

@@ -5,13 +5,12 @@ use Rattle.node_laws.proofs.Words.{IfAwaited, IsAbout, IsAnswered, IsAwaited, Is
 use Rattle.node_laws.proofs.Words.{IsRightNotice, IsTrue, JoinTwo, KeepsInStep, List, Message, MessageFault, MessageKind, None, Notice, Ok, Option, Orders}
 use Rattle.node_laws.proofs.Words.{PipeRow, Port, Releases, Removed, Result, SaysOk, Sends, SetsErrors, Some, Tells, Waits, Work, [], about_at, about_read}
 use Rattle.node_laws.proofs.Words.{answer_of, ap, ap₂, arith, asked_at, asking_in, asks_for, body_in, by_option, by_test, cases_Bool, commit_deeds, cond}
-use Rattle.node_laws.proofs.Words.{cond_both, controller_deeds, creation_deeds, creation_in, creation_of, creation_read, decided, decision_deeds}
-use Rattle.node_laws.proofs.Words.{deeds_by_relay, end_c, ends_of, entries_of_reply, eq-eqb, eqb, eqb-true, event_deeds, false, finds_room, gate_deeds}
-use Rattle.node_laws.proofs.Words.{goes_through, has, has_link, header_of, hosts_of_ends, hosts_where, if_notice, inl, inr, instruction_in, is_one_of}
-use Rattle.node_laws.proofs.Words.{kind_deeds, map, next_count, notice_deeds, notice_in, option_and_then, option_map, option_map_or, own_deeds, own_gate}
-use Rattle.node_laws.proofs.Words.{own_view, pipe_named_in, port_at, refl, relay_deeds, relayed_to, same_bytes, sent_in_session, served_at, session_now}
-use Rattle.node_laws.proofs.Words.{session_of_port, subst, sym, true, true≢false, unless_asking, view_for, view_of, ℕ, ◌&&◌, ◌++◌, ◌||◌, ◌∙◌, ◌∷◌, ◌≡◌, ◌≤◌}
-use Rattle.node_laws.proofs.Words.{◌⊎◌}
+use Rattle.node_laws.proofs.Words.{controller_deeds, creation_deeds, creation_in, creation_of, creation_read, decided, decision_deeds, deeds_by_relay, end_c}
+use Rattle.node_laws.proofs.Words.{ends_of, entries_of_reply, eq-eqb, eqb, eqb-true, false, finds_room, goes_through, has, has_link, header_of, hosts_of_ends}
+use Rattle.node_laws.proofs.Words.{hosts_where, if_notice, inl, inr, instruction_in, is_one_of, kind_deeds, map, next_count, notice_deeds, notice_in}
+use Rattle.node_laws.proofs.Words.{option_and_then, option_map, option_map_or, own_deeds, own_gate, own_view, pipe_named_in, port_at, refl, relayed_to}
+use Rattle.node_laws.proofs.Words.{same_bytes, sent_in_session, served_at, session_now, session_of_port, subst, sym, true, true≢false, unless_asking, view_for}
+use Rattle.node_laws.proofs.Words.{view_of, ℕ, ◌&&◌, ◌++◌, ◌||◌, ◌∙◌, ◌∷◌, ◌≡◌, ◌≤◌, ◌⊎◌}
 use Rattle.hcp_packet.specs.declared.MessageKind.TheVariants.{Command as IsCommandKind, Event as IsEvent}
 use Rattle.node_machine.specs.Controller.{about_of}
 use Rattle.node_laws.proofs.creations.Outcomes.{asked_of, desks_wait, one_of, waits}
@@ -66,15 +65,6 @@ module _ (ports : List Port) (h : ℕ) where
   decision_fair up core pipe (Commit c answer tell notice) = commit_fair up (finds_room core c) pipe c answer.items notice.items (hosts_where (has tell))
   decision_fair up core pipe (Ask asked notice c answer) = ((refl, tt), (tt, tt))
 
-  gate_fair : has_link ports h ≡ true → (gate errors pipe instruction : ℕ) (body : List ℕ) → Fair (gate_deeds gate errors h pipe instruction body)
-  gate_fair up gate errors pipe instruction body = grind arith
-
-  event_fair : has_link ports h ≡ true → (core : Core) (m : Message) → Fair (event_deeds core.tables h m)
-  event_fair up core m = cond_both _ (Sends h m ∷ []) (Drops m.0 ∷ []) Fair (λ _. ((refl, tt), (up, tt))) (λ _. (tt, (tt, tt)))
-
-  relay_fair : (m : Message) (other : ℕ) (up : Bool) → has_link ports other ≡ up → Fair (relay_deeds (has_link ports) h m other up)
-  relay_fair m other up a = grind arith
-
   creation_fair : (core : Core) (code : ℕ) (o : Option Creation) → ((c : Creation) → o ≡ Some c → has_link ports c.asker ≡ true)
       → Fair (creation_deeds (own_view core) code o)
   creation_fair core code o askers = grind arith
@@ -83,7 +73,7 @@ module _ (ports : List Port) (h : ℕ) where
     served_fair : has_link ports h ≡ true → (pipe instruction : ℕ) (body : List ℕ) (gate : Option ℕ)
         → Fair (served_at (own_view core) (view_for core.tables ports h) h pipe instruction body gate)
     served_fair up pipe instruction body None = decision_fair up core pipe (decided core.tables (view_for core.tables ports h) h pipe instruction body)
-    served_fair up pipe instruction body (Some gate) = gate_fair up gate (view_for core.tables ports h).errors pipe instruction body
+    served_fair up pipe instruction body (Some gate) = grind arith
 
     asking_fair : has_link ports h ≡ true → (m : Message) (instruction : ℕ) (asks : Bool) → Fair (unless_asking (view_of core ports) h m instruction asks)
     asking_fair up m instruction true = (tt, (tt, tt))
@@ -102,7 +92,7 @@ module _ (ports : List Port) (h : ℕ) where
 
     kind_fair : has_link ports h ≡ true → (m : Message) (header : Result (MessageKind × ℕ) MessageFault) → Fair (kind_deeds (view_of core ports) h m header)
     kind_fair up m (Ok (IsCommandKind, instruction)) = asking_fair up m instruction (eqb m.0 1 && asks_for ports h)
-    kind_fair up m (Ok (IsEvent, instruction)) = event_fair up core m
+    kind_fair up m (Ok (IsEvent, instruction)) = grind arith
     kind_fair up m (Ok (IsResponse, code)) = notices_fair m code (eqb m.0 1)
     kind_fair up m (Err fault) = (tt, (tt, tt))
 
@@ -111,7 +101,7 @@ module _ (ports : List Port) (h : ℕ) where
     own_fair m false down = (tt, (tt, tt))
 
     by_relay_fair : (m : Message) (o : Option ℕ) → Fair (deeds_by_relay (view_of core ports) h m o)
-    by_relay_fair m (Some other) = relay_fair m other (has_link ports other) refl
+    by_relay_fair m (Some other) = grind arith
     by_relay_fair m None = own_fair m (has_link ports h) refl
 
     pub controller_sends : (m : Message)
@@ -311,12 +301,6 @@ pub asked_same : (t : List Entry) (p : Port) (r : Option (List ℕ)) → awaited
     → asked_at p ≡ creation_read t r
 asked_same t p r e = asked_joined p.desk.notice ∙ (ap joined e ∙ read_joined t r)
 
-asked_as : (p : Port) (n : Notice) → p.desk.notice ≡ Some n → asked_at p ≡ creation_in (Some n)
-asked_as p n q = ap creation_in q
-
-about_waits : (n : Notice) (c : Creation) → creation_in (Some n) ≡ Some c → n.about ≡ Waits c
-about_waits n c e = grind arith
-
 second : (a b : Bool) → IsTrue (a && b) → IsTrue b
 second a b both = grind arith
 
@@ -360,17 +344,16 @@ module _ (hosts : List ℕ) (are : AreHosts hosts) (t : List Entry) (w : Work) (
 
     waiting : (c : Creation) → n.about ≡ Waits c → read_of now m ≡ Some (Some c)
     waiting c about =
-        let asked : asked_at p ≡ Some c = asked_as p n there ∙ rw about refl in
+        let asked : asked_at p ≡ Some c = (ap creation_in there) ∙ rw about refl in
         let of : IsNoticeOf c m = subst (λ b. IsAbout b m) about about_is in
         let due : IsAwaited c = subst IfAwaited asked (at_port (λ (p : Port). IfAwaited (asked_at p)) w.ports k p a.awaited found) in
         let kept_right : IsRightNotice (Some n) = subst IsRightNotice there (at_port (λ (p : Port). IsRightNotice p.desk.notice) w.ports k p a.right found) in
         let right : IsRightAbout (Waits c) = subst IsRightAbout about kept_right in
         let reading = is_read_of (asking_in now c.asker) c (waits c.asker (asked_of w.ports)) (in_waits c.asker w.ports k p c found asked refl)
         (read_so c.asker) in
-        let same : reading.0 ≡ m = notice_same c reading.0 m reading.2 of in
         let one : of.row ≡ due.row = same_row of.row due.row (sym of.command ∙ due.command) in
         waits_read now m of.row of.message_is (closed of.row (subst IsCommand of.command right.0))
-        (ap (asking_in now) of.asker ∙ (reading.1 ∙ ap (λ z. Some z) same))
+        (ap (asking_in now) of.asker ∙ (reading.1 ∙ ap (λ z. Some z) (notice_same c reading.0 m reading.2 of)))
         ∙ (ap (λ (o : PipeRow). Some (Some (record { asker = of.row.creator; command = Create of.row; answer = answer_of response.Ok (ends_of o) }))) one
         ∙ (ap (λ z. Some (Some (record { asker = of.row.creator; command = Create of.row; answer = z }))) (sym due.answer)
         ∙ (ap (λ z. Some (Some (record { asker = of.row.creator; command = z; answer = c.answer }))) (sym of.command)
@@ -380,12 +363,11 @@ module _ (hosts : List ℕ) (are : AreHosts hosts) (t : List Entry) (w : Work) (
     clash : (c : Creation) → n.about ≡ Forgotten → instruction_in m ≡ 18 → (end : WaitsAtEnd w.ports c) → IsNoticeOf c m → ⊥
     clash c about is end of = by_option end.port.desk.notice
         (λ e. let none : None ≡ Some c = sym (ap creation_in e) ∙ end.asked in absurd (cc none))
-        (λ z e. read_there z e (about_waits z c (sym (ap creation_in e) ∙ end.asked)) (notice_in now end.host) refl
+        (λ z e. read_there z e (grind arith) (notice_in now end.host) refl
         (subst (IsKeptNotice (notice_in now end.host)) e (kept end.host end.port end.found))) where
           near : (z : Notice) → end.port.desk.notice ≡ Some z → z.about ≡ Waits c → (y : List ℕ) → notice_in now end.host ≡ Some y → IsNoticeOf c y → ⊥
           near z e waits y r kept_of =
-              let there_too : notice_in now end.host ≡ Some m = r ∙ ap (λ u. Some u) (notice_same c y m kept_of of) in
-              let host : end.host ≡ k = sym (names_read now named end.host m there_too is) ∙ names_read now named k m reads is in
+              let host : end.host ≡ k = sym (names_read now named end.host m (grind arith) is) ∙ names_read now named k m reads is in
               let ports : Some end.port ≡ Some p = sym end.found ∙ (ap (port_at w.ports) host ∙ found) in
               let one : end.port ≡ p = cc in
               let notices : Some z ≡ Some n = sym e ∙ (ap (λ (q : Port). q.desk.notice) one ∙ there) in
@@ -400,8 +382,7 @@ module _ (hosts : List ℕ) (are : AreHosts hosts) (t : List Entry) (w : Work) (
 
     -- a creation of a notice that is forgotten isn't read: its asker asks for none by the same message
     not_asked : n.about ≡ Forgotten → instruction_in m ≡ 18 → (row : PipeRow) → option_map_or (same_bytes m) (asking_in now row.creator) false ≡ true → ⊥
-    not_asked about is row e =
-        go (asking_in now row.creator) (waits row.creator (asked_of w.ports)) refl refl (read_so row.creator)
+    not_asked about is row e = go (asking_in now row.creator) (waits row.creator (asked_of w.ports)) refl refl (read_so row.creator)
       where
         go : (r : Option (List ℕ)) (l : List Creation) → asking_in now row.creator ≡ r → waits row.creator (asked_of w.ports) ≡ l → IsReadSo r l → ⊥
         go None [] q z so = true≢false (sym e ∙ ap (λ o. option_map_or (same_bytes m) o false) q)
@@ -448,12 +429,8 @@ module _ (t : List Entry) (ports : List Port) (ends : EndsAreRead t ports) (h : 
   abbrev read_session : ℕ → Option ℕ
   read_session k = session_now t (end_c k) 0
 
-  -- an end that is up has the session that is read
-  same_session : (k : ℕ) → has_link ports k ≡ true → read_session k ≡ session_of_port ports k
-  same_session k up = grind arith
-
   same_sent : (k : ℕ) (m : Message) → has_link ports k ≡ true → sent_in_session 0 read_session k m ≡ sent_in_session 0 (session_of_port ports) k m
-  same_sent k m up = ap (λ o. option_map_or (λ n. entry.Sent (end_c k) n m.0 m.1 ∷ []) o []) (same_session k up)
+  same_sent k m up = ap (λ o. option_map_or (λ n. entry.Sent (end_c k) n m.0 m.1 ∷ []) o []) (grind arith)
 
   pub same_noted : (count : ℕ) (deeds : List Deed) → AllByRecursion (SendsOver ports) deeds → AllReach ports deeds
       → entries_of_reply 0 read_session h count deeds ≡ entries_of_reply 0 (session_of_port ports) h count deeds

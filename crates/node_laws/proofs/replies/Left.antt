@@ -4,10 +4,10 @@ use Rattle.node_laws.proofs.Words.{Entry, ErrorCount, HasErrorsRead, IsBehind, I
 use Rattle.node_laws.proofs.Words.{KeepsInStep, LastsOverTurns, List, Message, Moment, None, Option, Port, ReadsInStep, Saying, Some, Work, [], acked_after}
 use Rattle.node_laws.proofs.Words.{acked_in, all_append, ap, append-nil, append_assoc, ap₂, arith, asking_in, book_in, by_test, cond, creations_at, desks_of}
 use Rattle.node_laws.proofs.Words.{drop, end_c, end_of_node, eqb, errors_after, false, filter_map, filter_map-append, fold, fold-append, goes_through_ends}
-use Rattle.node_laws.proofs.Words.{hosts_of_ends, inl, inr, is_held_at, is_later, is_some, lack_at, lack_of, lacking, le-ltb, links_of_turns, nat_lt}
-use Rattle.node_laws.proofs.Words.{need_of_all, no_errors, notice_at, notice_in, noting, oldest, option_and_then, option_map_or, passes, port_at, refl, said_of}
-use Rattle.node_laws.proofs.Words.{same_number, sent_by, sent_in, session_now, spare_at, subst, sym, true, unacknowledged_in, unhandled_after, unhandled_in}
-use Rattle.node_laws.proofs.Words.{until, waiting_at, ℕ, ◌++◌, ◌+◌, ◌-◌, ◌==◌, ◌∙◌, ◌∷◌, ◌≡◌, ◌⊎◌}
+use Rattle.node_laws.proofs.Words.{hosts_of_ends, inl, inr, is_held_at, is_later, is_some, lack_at, lack_of, lacking, le-ltb, links_of_turns, need_of_all}
+use Rattle.node_laws.proofs.Words.{no_errors, notice_at, notice_in, noting, oldest, option_and_then, option_map_or, passes, port_at, refl, said_of, same_number}
+use Rattle.node_laws.proofs.Words.{sent_by, sent_in, session_now, spare_at, subst, sym, true, unacknowledged_in, unhandled_after, unhandled_in, until}
+use Rattle.node_laws.proofs.Words.{waiting_at, ℕ, ◌++◌, ◌+◌, ◌-◌, ◌==◌, ◌∙◌, ◌∷◌, ◌≡◌, ◌⊎◌}
 use Rattle.node_laws.specs.passes.Passing.{Stays as StaysThere}
 use Rattle.node_laws.specs.passes.Passing.ComesTo.{Begins as PassBegins}
 use Rattle.node_laws.proofs.creations.Knowing.{far_fold, far_reading}
@@ -71,23 +71,16 @@ module _ (k : ℕ) where
     quiet : (b : Bool) (s : Saying) → sent_by n (Some s) ≡ None → sent_by n (cond b (Some s) None) ≡ None
     quiet b s q = grind arith
 
-    sent_one : (x : Entry) → IsFar x → sent_by n (said_of e x) ≡ None
-    sent_one x far = grind arith
-
     sent_all : (es : List Entry) → AreFar es → AllByRecursion (λ x. sent_by n (said_of e x) ≡ None) es
     sent_all [] far = tt
-    sent_all (x ∷ es) far = (sent_one x far.0, sent_all es far.1)
-
-    acked_one : (before : ℕ) (x : Entry) → IsFar x → IsUnheard x → acked_after n before (said_of e x) ≡ before
-    acked_one before x far heard = grind arith
+    sent_all (x ∷ es) far = (grind arith, sent_all es far.1)
 
     abbrev counts : ℕ → Entry → ℕ
     counts before x = acked_after n before (said_of e x)
 
     acked_all : (before : ℕ) (es : List Entry) → AreFar es → AllByRecursion IsUnheard es → fold counts before es ≡ before
     acked_all before [] far heard = refl
-    acked_all before (x ∷ es) far heard =
-        ap (λ b. fold counts b es) (acked_one before x far.0 heard.0) ∙ acked_all before es far.1 heard.1
+    acked_all before (x ∷ es) far heard = ap (λ b. fold counts b es) (grind arith) ∙ acked_all before es far.1 heard.1
 
     sent_calm : (t es : List Entry) → AreFar es → sent_in (t ++ es) e n ≡ sent_in t e n
     sent_calm t es far =
@@ -221,12 +214,7 @@ port_there (p ∷ ports) [] k later is =
     (p, rw (ap (λ n. eqb n k) one ∙ same_number k) refl)
 port_there (p ∷ ports) (h ∷ earlier) k later is = by_test (eqb p.desk.host k)
     (λ q. (p, rw q refl))
-    (λ q. ((port_there ports earlier k later rest).0, rw q (port_there ports earlier k later rest).1)) where
-      rest : hosts_of_ends ports ≡ earlier ++ k ∷ later
-      rest = cc
-
-none_later : (k : ℕ) → nat_lt k k ≡ false
-none_later k = le-ltb k k (omega arith)
+    (λ q. ((port_there ports earlier k later cc).0, rw q (port_there ports earlier k later cc).1))
 
 module _ (hosts : List ℕ) (are : AreHosts hosts) (t : List Entry) (w : Work) (step : ReadsInStep hosts t w) (carried : IsCarried t Controller w)
     (b : BeginsPass t w) where
@@ -252,16 +240,11 @@ module _ (hosts : List ℕ) (are : AreHosts hosts) (t : List Entry) (w : Work) (
       let p = port_there v.ports earlier k later (s.step.runs.keeps.hosts_are ∙ is) in
       s.messages.waiting k p.0 p.1 ∙ (sym (ap (λ o. option_map_or (λ (p : Port). p.side.got) o []) p.1) ∙ none)
 
-  -- its first message is held
-  own_calm : (v : Work) → K v → (k : ℕ) (held : Bool) (short : ℕ × ℕ)
-      → AreCalm (cond held [] (entry.Held (end_of_node v.core k) short.0 short.1 ∷ []))
-  own_calm v s k held short = grind arith
-
   own_late : (v : Work) → K v → (k : ℕ) (held : Bool) (short : ℕ × ℕ)
       → AllByRecursion (λ x. is_later (end_c k) x ≡ false) (cond held [] (entry.Held (end_of_node v.core k) short.0 short.1 ∷ []))
   own_late v s k true short = tt
   own_late v s k false short =
-      (ap (λ f. is_later (end_c k) (entry.Held f short.0 short.1)) (own_end_is v.core k s.step.runs.keeps.node) ∙ none_later k, tt)
+      (ap (λ f. is_later (end_c k) (entry.Held f short.0 short.1)) (own_end_is v.core k s.step.runs.keeps.node) ∙ (le-ltb k k (omega arith)), tt)
 
   own_left : (s : List Entry) (e f : End) (held : Bool) (short : ℕ × ℕ)
       → unhandled_in (s ++ cond held [] (entry.Held f short.0 short.1 ∷ [])) e ≡ unhandled_in s e
@@ -291,7 +274,7 @@ module _ (hosts : List ℕ) (are : AreHosts hosts) (t : List Entry) (w : Work) (
         let short : ℕ × ℕ = stays.0 in
         let told : t ++ (w.entries ++ c.front) ≡ t ++ v.entries = ap (λ l. t ++ l) (sym c.entries) in
         let here : until at ≡ (t ++ v.entries) ++ (c.own ++ rest) = same ∙ ap (λ l. l ++ (c.own ++ rest)) told in
-        let own : AreCalm c.own = subst AreCalm (sym stays.3) (own_calm v c.keeps k H short) in
+        let own : AreCalm c.own = subst AreCalm (sym stays.3) (grind arith) in
         let first : HasFirst v.ports k m messages = has_first v.ports k m messages waits in
         let got : unhandled_in (t ++ v.entries) (end_c k) ≡ m ∷ messages = c.keeps.messages.waiting k first.port first.here ∙ first.got in
         let with_own : unhandled_in ((t ++ v.entries) ++ c.own) (end_c k) ≡ m ∷ messages =
@@ -310,9 +293,8 @@ module _ (hosts : List ℕ) (are : AreHosts hosts) (t : List Entry) (w : Work) (
         × AllByRecursion (λ x. is_later (end_c k) x ≡ false) c.own
     by_waiting [] q =
         let stays : c.own ≡ [] = subst (StaysThere c.work last k c.own) q c.stays in
-        let ends : K (passes w) = (walk.keeps still).1 in
         let none : waiting_at (passes w).ports k ≡ [] = ap (λ (u : Work). waiting_at u.ports k) (sym whole) ∙ (c.waits ∙ q) in (
-          inl (none_waits (passes w) ends earlier k later (sym step.runs.keeps.hosts_are ∙ is) none),
+          inl (none_waits (passes w) ((walk.keeps still).1) earlier k later (sym step.runs.keeps.hosts_are ∙ is) none),
           subst (AllByRecursion (λ x. is_later (end_c k) x ≡ false)) (sym stays) tt,
         )
     by_waiting (m ∷ messages) q =

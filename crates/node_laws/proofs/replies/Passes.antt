@@ -216,16 +216,13 @@ module _ (hosts : List ℕ) (are : AreHosts hosts) (t : List Entry) (w : Work) (
   abbrev now : List Entry
   now = t ++ w.entries
 
-  one_at : (k : ℕ) (p : Port) → port_at w.ports k ≡ Some p → is_one_of hosts k ≡ true
-  one_at k p q = sym (there_is hosts are t w a k) ∙ ap is_some q
-
   none_at : (k : ℕ) → port_at w.ports k ≡ None → false ≡ is_one_of hosts k
   none_at k q = sym (ap is_some q) ∙ there_is hosts are t w a k
 
   links_same : (k : ℕ) → has_link w.ports k ≡ (is_one_of hosts k && is_up_read now 0 k)
   links_same k = by_option (port_at w.ports k)
       (λ q. rw q (ap (λ b. b && is_up_read now 0 k) (none_at k q)))
-      (λ p q. rw q (ups k p q ∙ sym (ap (λ b. b && is_up_read now 0 k) (one_at k p q))))
+      (λ p q. rw q (ups k p q ∙ sym (ap (λ b. b && is_up_read now 0 k) (sym (there_is hosts are t w a k) ∙ ap is_some q))))
 
   links_read : LinksAreRead hosts now w.ports
   links_read k one = links_same k ∙ ap (λ b. b && is_up_read now 0 k) one
@@ -238,8 +235,7 @@ module _ (hosts : List ℕ) (are : AreHosts hosts) (t : List Entry) (w : Work) (
       (λ p q. rw q (awaited_same hosts are t w a names k p q))
 
   view_same : (h : ℕ) → has_link w.ports h ≡ true → IsSameView (view_for w.core.tables w.ports h) (view_at hosts now h)
-  view_same h up =
-      view_known hosts are t w a links_read h ((and_parts (is_one_of hosts h) (is_up_read now 0 h) (sym (links_same h) ∙ up)).0)
+  view_same h up = view_known hosts are t w a links_read h ((and_parts (is_one_of hosts h) (is_up_read now 0 h) (sym (links_same h) ∙ up)).0)
 
   module _ (m : Moment) (same : until m ≡ now) where
     pub known_so : (h : ℕ) → KnowsTheSame (view_of w.core w.ports) (view_read hosts m 0) h
@@ -278,10 +274,8 @@ module _ (hosts : List ℕ) (are : AreHosts hosts) (t : List Entry) (w : Work) (
 
   spares_alike : (k : ℕ) → spare_with w.ports k ≡ spare_read hosts now_of_turns 0 k
   spares_alike k = by_option (port_at w.ports k)
-      (λ q. rw q (ap (λ b. cond b (spare_at now_of_turns (end_c k)) 0) (there None q)))
-      (λ p q. rw q (sym (ends.spares k p q) ∙ ap (λ b. cond b (spare_at now_of_turns (end_c k)) 0) (there (Some p) q))) where
-        there : (o : Option Port) → port_at w.ports k ≡ o → is_some o ≡ is_one_of hosts k
-        there o q = sym (ap is_some q) ∙ there_is hosts are t w a k
+      (λ q. rw q (ap (λ b. cond b (spare_at now_of_turns (end_c k)) 0) (sym (ap is_some q) ∙ there_is hosts are t w a k)))
+      (λ p q. rw q (sym (ends.spares k p q) ∙ ap (λ b. cond b (spare_at now_of_turns (end_c k)) 0) (sym (ap is_some q) ∙ there_is hosts are t w a k)))
 
   pub lack_so : (m : Moment) → until m ≡ now_of_turns → (h : ℕ) (message : Message) → lack_of hosts m (end_c h) message ≡ lacking w h message
   lack_so m same h message =
@@ -437,11 +431,10 @@ module _ (hosts : List ℕ) (are : AreHosts hosts) (t : List Entry) (K : Work �
     turn_replied front back e pid message is m same rest none =
         let u : HadTurn J w front e (pid, message) back = p.each front back (entry.Turn e pid message) is in
         let host : IsHost u.host = host_so u.work u.keeps u.host (pid, message) u.messages u.waiting in
-        let end_is : e ≡ end_c u.host = u.its_end ∙ end_so u.work u.keeps u.host in
         let noted : List Entry = noted_by_deeds u.host (deeds_of u.work.core u.work.ports u.host (pid, message)) (takes_up u.host (pid, message) u.work) in
         let behind : p.more ≡ (front ++ (entry.Turn e pid message ∷ noted)) ++ u.later =
         is ∙ (ap (λ l. front ++ (entry.Turn e pid message ∷ l)) u.notes ∙ sym (append_assoc front (entry.Turn e pid message ∷ noted) u.later)) in
-        subst (λ f. IsReplied hosts m (entry.Turn f pid message) (back ++ rest)) (sym end_is)
+        subst (λ f. IsReplied hosts m (entry.Turn f pid message) (back ++ rest)) (sym (u.its_end ∙ end_so u.work u.keeps u.host))
         (subst (λ l. IsReplied hosts m (entry.Turn (end_c u.host) pid message) (l ++ rest)) (sym u.notes)
         (replied_here u.work (beside u.work u.keeps.1) u.host host pid message u.room u.later rest
         (trails u.later (front ++ (entry.Turn e pid message ∷ noted)) behind u.next) u.power none m (until_so m front u.work.entries same u.entries)))
@@ -467,7 +460,6 @@ module _ (hosts : List ℕ) (are : AreHosts hosts) (t : List Entry) (K : Work �
         let u : WasHeld J w front e (need, spare) back = p.each front back (entry.Held e need spare) is in
         let k : KeepsBeside hosts t u.work = beside u.work u.keeps.1 in
         let r : MessagesAreRead (t ++ u.work.entries) u.work.ports = read u.work u.keeps.1 in
-        let end_is : e ≡ end_c u.host = u.its_end ∙ end_so u.work u.keeps u.host in
         let at : until m ≡ t ++ u.work.entries = until_so m front u.work.entries same u.entries in
         let first : HasFirst u.work.ports u.host u.message u.messages = has_first u.work.ports u.host u.message u.messages u.waiting in
         let fresh : first.port.desk.holds ≡ false = sym (ap (λ o. option_map_or (λ (p : Port). p.desk.holds) o false) first.here) ∙ u.fresh in
@@ -478,7 +470,7 @@ module _ (hosts : List ℕ) (are : AreHosts hosts) (t : List Entry) (K : Work �
         let lacks : lack_at hosts m (end_c u.host) ≡ Some (need, spare) =
         ap (λ l. option_and_then (lack_of hosts m (end_c u.host)) (oldest l)) waits
         ∙ (lack_so hosts are t u.work u.keeps.0 k.ends k.room k.reads.named m at u.host u.message ∙ u.lacks) in
-        subst (λ f. IsHeldFor hosts m (entry.Held f need spare) (back ++ rest)) (sym end_is) (held, lacks)
+        subst (λ f. IsHeldFor hosts m (entry.Held f need spare) (back ++ rest)) (sym (u.its_end ∙ end_so u.work u.keeps u.host)) (held, lacks)
 
   -- ### The pass of a step
 

@@ -65,8 +65,7 @@ turned s f e pid message =
 -- or is held
 held_so : (s : List Entry) (f e : End) (need spare : ℕ) → (unhandled_in (s ++ entry.Held f need spare ∷ []) e ≡ unhandled_in s e)
     × (holds_in (s ++ entry.Held f need spare ∷ []) e ≡ cond (same_end f e) true (holds_in s e))
-held_so s f e need spare =
-    (fold-append (unhandled_after e) [] s (entry.Held f need spare ∷ []), fold-append _ false s (entry.Held f need spare ∷ []))
+held_so s f e need spare = (fold-append (unhandled_after e) [] s (entry.Held f need spare ∷ []), fold-append _ false s (entry.Held f need spare ∷ []))
 
 same_ends : (h k : ℕ) (b : Bool) → eqb h k ≡ b → same_end (end_c h) (end_c k) ≡ b
 same_ends h k true q = rw q refl

@@ -1,21 +1,21 @@
 -- Whether the first message at an end of a node is held is what is read, whatever happens to a world.
 use Rattle.node_laws.proofs.Words.{Activates, AllByRecursion, AllByRecursion-append, AreNoTurns, ArePassed, Arms, AsksReset, AtEnd, Bool, Boots, Broken, Comes}
-use Rattle.node_laws.proofs.Words.{ComesTo, Controller, Core, Cut, Deed, Desk, End, Entry, Give, Gives, Happening, HasEnds, Host, IfItRuns, Inits, IsCut}
-use Rattle.node_laws.proofs.Words.{IsNoTurn, IsOrderly, IsTurnSo, IsWaitingRead, Link, LinkInput, List, Loses, Loss, Memory, Message, NextFrame, NoInput}
-use Rattle.node_laws.proofs.Words.{NodeInput, NodeWorld, None, Noted, NumberedEnd, Option, Plan, Port, Resets, Running, Site, Some, Starts, Takes, Ticks}
-use Rattle.node_laws.proofs.Words.{TimePasses, Turn, Work, [], activates, after_controller, after_host_step, after_near_tick, after_sessions, aged}
-use Rattle.node_laws.proofs.Words.{aged_entries, all_aged, all_done, ap, append-nil, append_assoc, append_cancel_left, arith, arrival, asked_at, beginning}
-use Rattle.node_laws.proofs.Words.{begins_with, boot_found, boot_written, boots, by_boot, by_coming, by_controller, by_controller_tick, by_host, by_host_tick}
-use Rattle.node_laws.proofs.Words.{by_loss, by_memory, by_option, by_power, by_running, by_test, comes_at, comes_to, comes_to_pass, cond, controller_cut}
-use Rattle.node_laws.proofs.Words.{controller_does, controller_ticks, controller_work, count_of, counts, deeds_of, end_c, end_h, end_of, ending_entries}
-use Rattle.node_laws.proofs.Words.{ending_of, entries_for, entry_of, eqb, exchanged, false, find, first_lost, flat_map, fold-append, forgets, forgotten}
-use Rattle.node_laws.proofs.Words.{frame_lost, frames_noted, has_come, has_come_so, has_freed, has_synced, holds_in, host_cut, host_does, host_tick, host_ticks}
-use Rattle.node_laws.proofs.Words.{host_work, hosts_in, hosts_of_ends, hosts_tick, input_at, is_forgotten, is_held, is_held_at, is_late, is_over, left_running}
+use Rattle.node_laws.proofs.Words.{ComesTo, Controller, Cut, Deed, Desk, End, Entry, Gives, Happening, HasEnds, Host, IfItRuns, Inits, IsCut, IsNoTurn}
+use Rattle.node_laws.proofs.Words.{IsOrderly, IsTurnSo, IsWaitingRead, Link, LinkInput, List, Loses, Loss, Memory, Message, NextFrame, NoInput, NodeInput}
+use Rattle.node_laws.proofs.Words.{NodeWorld, None, Noted, NumberedEnd, Option, Plan, Port, Resets, Running, Site, Some, Starts, Takes, Ticks, TimePasses, Turn}
+use Rattle.node_laws.proofs.Words.{Work, [], activates, after_controller, after_host_step, after_near_tick, after_sessions, aged, aged_entries, all_aged}
+use Rattle.node_laws.proofs.Words.{all_done, ap, append-nil, append_assoc, append_cancel_left, arith, arrival, asked_at, beginning, begins_with, boot_found}
+use Rattle.node_laws.proofs.Words.{boot_written, boots, by_boot, by_coming, by_controller, by_controller_tick, by_host, by_host_tick, by_loss, by_memory}
+use Rattle.node_laws.proofs.Words.{by_option, by_power, by_running, by_test, comes_at, comes_to, comes_to_pass, cond, controller_cut, controller_does}
+use Rattle.node_laws.proofs.Words.{controller_ticks, controller_work, count_of, counts, deeds_of, end_c, end_h, end_of, ending_entries, ending_of, entries_for}
+use Rattle.node_laws.proofs.Words.{entry_of, eqb, exchanged, false, find, first_lost, flat_map, fold-append, forgets, forgotten, frame_lost, frames_noted}
+use Rattle.node_laws.proofs.Words.{has_come, has_come_so, has_freed, has_synced, holds_in, host_cut, host_does, host_tick, host_ticks, host_work, hosts_in}
+use Rattle.node_laws.proofs.Words.{hosts_of_ends, hosts_tick, input_at, is_forgotten, is_held, is_held_at, is_late, is_over, left_running}
 use Rattle.node_laws.proofs.Words.{link_after_controller, link_to, links_of, loses_power_at, map, memory_at, near_end_in, near_tick, new_desk, not}
-use Rattle.node_laws.proofs.Words.{noted_before_pass, noted_by_deed, noted_of, option_map_or, owed_in_step, own_side, passes, port_at, port_for, refl}
-use Rattle.node_laws.proofs.Words.{reset_late, runs_left, runs_none, runs_on, same_end, sending, site_at, site_ticked, site_unticked, steps, subst, sym}
-use Rattle.node_laws.proofs.Words.{syncs_in, true, true≢false, waiting_after, waiting_at, waits_behind, wires_for, with_error, with_memory, with_node}
-use Rattle.node_laws.proofs.Words.{with_older, with_site, without_notice, work_of, world_step, world_ticks, ℕ, ◌++◌, ◌∙◌, ◌∷◌, ◌≡◌}
+use Rattle.node_laws.proofs.Words.{noted_before_pass, noted_by_deed, option_map_or, owed_in_step, own_side, passes, port_at, port_for, refl, reset_late}
+use Rattle.node_laws.proofs.Words.{runs_left, runs_none, runs_on, same_end, sending, site_at, site_ticked, site_unticked, steps, subst, sym, syncs_in, true}
+use Rattle.node_laws.proofs.Words.{true≢false, waiting_after, waiting_at, waits_behind, wires_for, with_error, with_memory, with_node, with_older, with_site}
+use Rattle.node_laws.proofs.Words.{without_notice, work_of, world_step, world_ticks, ℕ, ◌++◌, ◌∙◌, ◌∷◌, ◌≡◌}
 use Rattle.link_laws.specs.entries.Entries.{End as Side}
 use Rattle.node_laws.specs.passes.Passing.ComesTo.{Begins}
 use Rattle.node_laws.proofs.passes.InSteps.{before_entries, before_none, deeds_note_of_notes as deeds_note, links_none, noted_none, steps_are}
@@ -25,7 +25,7 @@ use Rattle.node_laws.proofs.passes.Waiting.{waiting_read}
 use Rattle.node_laws.proofs.readings.Noting.{IsBeside, Notes, NotesSo, all_do as notes_do, steps_note}
 use Rattle.node_laws.proofs.steps.StepWalks.{come_host, forgets_host, late_host, unless, without_host}
 use Rattle.node_laws.proofs.telling.Events.{node_is, sending_mute, site_is}
-use Rattle.node_laws.proofs.telling.Accounts.{AreMute, IsMute, all_last, all_owed_mute, all_synced_mute, deeds_mute, forgotten_mute, handling}
+use Rattle.node_laws.proofs.telling.Accounts.{AreMute, all_last, all_owed_mute, all_synced_mute, deeds_mute, forgotten_mute, handling}
 use Rattle.node_laws.proofs.telling.Steps.{sessions_side}
 use Rattle.node_laws.proofs.turns.Passing.{map_is}
 use Rattle.node_laws.proofs.views.Events.{AreFine, map_fine, orderly_fine}
@@ -54,9 +54,7 @@ beside_unbooted n x b = grind arith
 
 mute_unbooted : (deeds : List Deed) → AreMute deeds → AllByRecursion (NotesSo IsNoBoot) deeds
 mute_unbooted [] all = tt
-mute_unbooted (d ∷ deeds) all = (one d all.0, mute_unbooted deeds all.1) where
-  one : (d : Deed) → IsMute d → NotesSo IsNoBoot d
-  one d i = grind arith
+mute_unbooted (d ∷ deeds) all = (grind arith, mute_unbooted deeds all.1)
 
 any_ends : (ports : List Port) → AllByRecursion (λ (p : Port). Unit {0}) ports
 any_ends [] = tt
@@ -101,15 +99,9 @@ IsOnSide b _ = Unit {0}
 abbrev pub AreOnSide : Bool → List Entry → Type 0
 AreOnSide b es = AllByRecursion (IsOnSide b) es
 
-quiet_one : (b : Bool) (x : Entry) → IsNoTurn x → IsNoBoot x → IsOnSide b x
-quiet_one b x none un = grind arith
-
 quiet_sided : (b : Bool) (es : List Entry) → AreNoTurns es → AreNoBoots es → AreOnSide b es
 quiet_sided b [] none un = tt
-quiet_sided b (x ∷ es) none un = (quiet_one b x none.0 un.0, quiet_sided b es none.1 un.1)
-
-side_of_end : (who : Side) (h : ℕ) → (end_of h who).at_host ≡ is_host_side who
-side_of_end who h = grind arith
+quiet_sided b (x ∷ es) none un = (grind arith, quiet_sided b es none.1 un.1)
 
 -- what holds of each entry holds of all
 each_all : (P : Entry → Type 0) (es : List Entry) → ((front back : List Entry) (x : Entry) → es ≡ front ++ (x ∷ back) → P x) → AllByRecursion P es
@@ -136,10 +128,10 @@ module _ (who : Side) where
       → IsOnSide (is_host_side who) x
   turn_sided w side front back (entry.Turn e pid message) t un =
       ap (λ (f : End). f.at_host) t.its_end
-      ∙ (ap (λ s. (end_of t.host s).at_host) (side_comes w t.work side t.keeps) ∙ side_of_end who t.host)
+      ∙ (ap (λ s. (end_of t.host s).at_host) (side_comes w t.work side t.keeps) ∙ (grind arith))
   turn_sided w side front back (entry.Held e need spare) t un =
       ap (λ (f : End). f.at_host) t.its_end
-      ∙ (ap (λ s. (end_of t.host s).at_host) (side_comes w t.work side t.keeps) ∙ side_of_end who t.host)
+      ∙ (ap (λ s. (end_of t.host s).at_host) (side_comes w t.work side t.keeps) ∙ (grind arith))
   turn_sided w side front back (entry.Booted n k) t un = absurd un
   turn_sided w side front back x t un = tt
 
@@ -189,8 +181,7 @@ module _ (k : ℕ) (b : Bool) where
   -- what is noted at the other side of links leaves it
   far_all : (s es : List Entry) → AreOnSide (not b) es → holds_in (s ++ es) e ≡ holds_in s e
   far_all s [] on = ap (λ l. holds_in l e) (append-nil s)
-  far_all s (x ∷ es) on =
-      ap (λ l. holds_in l e) (sym (append_assoc s (x ∷ []) es)) ∙ (far_all (s ++ x ∷ []) es on.1 ∙ far_one s x on.0)
+  far_all s (x ∷ es) on = ap (λ l. holds_in l e) (sym (append_assoc s (x ∷ []) es)) ∙ (far_all (s ++ x ∷ []) es on.1 ∙ far_one s x on.0)
 
   -- and so does what tells of no turn
   quiet_all : (s es : List Entry) → AreNoTurns es → AreNoBoots es → holds_in (s ++ es) e ≡ holds_in s e
@@ -203,15 +194,12 @@ module _ (who : Side) where
       all_last (λ (x : Work). own_side x.core ≡ who) (λ es u s p a. a) (λ k f u host a. a) (λ k t u a. a)
       (λ x y cut core ports entries a. ap (λ (m : ℕ). cond (eqb m 0) Controller Host) core ∙ a) (λ writes u a. a) h deeds v mute a
 
-  timed_side : (input : NodeInput) (w : Work) → own_side w.core ≡ who → own_side (has_come_so input w).core ≡ who
-  timed_side input w a = grind arith
-
   pub begun_side : (input : NodeInput) (w : Work) → own_side w.core ≡ who → own_side (comes_to_pass input w).core ≡ who
   begun_side input w a =
       let came : Work = has_come_so input w in
       let start : Work = record came { core = after_sessions came.core came.ports; ports = map without_notice (map (forgets came.ports) came.ports) } in
       let freed : own_side (has_freed input w).core ≡ who =
-      all_side 0 (forgotten came.ports) start (forgotten_mute came.ports) (sessions_side came.core came.ports ∙ timed_side input w a) in
+      all_side 0 (forgotten came.ports) start (forgotten_mute came.ports) (sessions_side came.core came.ports ∙ (grind arith)) in
       let synced : own_side (has_synced input w).core ≡ who =
       all_side 0 (syncs_in input w) (has_freed input w) (all_synced_mute w.core input w.ports) freed in
       unless (λ (x : Work). own_side x.core ≡ who) (all_done 0 (owed_in_step input w)) (has_synced input w)
@@ -228,9 +216,6 @@ same_held f host holds ports k =
     (λ q. sym (ap (λ o. option_map_or (λ (p : Port). p.desk.holds) o false) q))
     (λ p q. holds p ∙ sym (ap (λ o. option_map_or (λ (p : Port). p.desk.holds) o false) q))
 
-come_holds : (p : Port) (o : Option LinkInput) → (has_come p o).desk.holds ≡ p.desk.holds
-come_holds p o = grind arith
-
 late_holds : (p : Port) → (reset_late p).desk.holds ≡ p.desk.holds
 late_holds p = by_test (is_late p) (λ q. rw q refl) (λ q. rw q refl)
 
@@ -244,12 +229,12 @@ forgets_holds ports p = by_test (is_forgotten ports (asked_at p)) (λ q. rw q re
 
 come_held : (input : NodeInput) (w : Work) (k : ℕ) → is_held_at (has_come_so input w).ports k ≡ is_held_at w.ports k
 come_held (AtEnd h i) w k = same_held (λ p. has_come p (input_at (AtEnd h i) p)) (λ p. come_host p (input_at (AtEnd h i) p))
-    (λ p. come_holds p (input_at (AtEnd h i) p)) w.ports k
+    (λ p. grind arith) w.ports k
 come_held TimePasses w k =
     let came : List Port = map (λ p. has_come p (input_at TimePasses p)) w.ports in
     same_held reset_late late_host late_holds (map with_older came) k
     ∙ (same_held with_older (λ p. refl) (λ p. refl) came k
-    ∙ same_held (λ p. has_come p (input_at TimePasses p)) (λ p. come_host p (input_at TimePasses p)) (λ p. come_holds p (input_at TimePasses p)) w.ports k)
+    ∙ same_held (λ p. has_come p (input_at TimePasses p)) (λ p. come_host p (input_at TimePasses p)) (λ p. grind arith) w.ports k)
 
 -- what waits as a pass begins is what waited as something had come
 module _ (input : NodeInput) (w : Work) (k : ℕ) where
@@ -419,18 +404,12 @@ aged_leave w =
 
 -- ### Hosts
 
-pub host_side : (n : ℕ) (core : Core) → core.node ≡ n → eqb n 0 ≡ false → own_side core ≡ Host
-host_side n core number off = ap (λ m. cond (eqb m 0) Controller Host) number ∙ ap (λ b. cond b Controller Host) off
-
 -- what a host notes in a step
 host_leaves : (h : ℕ) (r : Running) (plan : Option Plan) (near_ends : ℕ → NumberedEnd) (es : List Entry) (input : NodeInput) → HasEnds h (h ∷ []) r
     → eqb h 0 ≡ false → AreNoTurns es → AreNoBoots es → Leaves (steps input (work_of r plan near_ends es)).entries
 host_leaves h r plan near_ends es input has off none un =
     far_leaves (steps input (work_of r plan near_ends es)).entries
-    (all_sided h Host [] input (work_of r plan near_ends es) has.number (host_side h r.core has.number off) none un)
-
-turn_quiet : (core : Core) (x : Turn) (o : Option Port) → AreNoTurns (option_map_or (noted_of core x) o [])
-turn_quiet core x o = grind arith
+    (all_sided h Host [] input (work_of r plan near_ends es) has.number (grind arith) none un)
 
 -- what it notes as it begins something of itself
 begins_leave : (h n : ℕ) (r : Running) (plan : Option Plan) (near_ends : ℕ → NumberedEnd) (deeds : List Deed) → r.core.node ≡ n
@@ -440,9 +419,6 @@ begins_leave h n r plan near_ends deeds number mute none =
     let w : Work = work_of r plan near_ends [] in
     quiet_leaves (begins_with h deeds w).entries (subst AreNoTurns (sym (deeds_note h deeds w)) (noted_none h deeds w none))
     (begins_unbooted n (own_side r.core) h deeds w mute number refl tt)
-
-sending_quiet : (h : ℕ) (m : Message) → AllByRecursion (λ (d : Deed). (k : ℕ) (w : Work) → AreNoTurns (noted_by_deed k d w)) (sending h m)
-sending_quiet h m = grind arith
 
 -- ### Sites
 
@@ -561,10 +537,7 @@ module _ (t : List Entry) (w : NodeWorld) (before : HoldsRead t w) where
       (λ z. stays (record v { sites = with_site n host_cut v.sites }) (entry.Cut n ∷ []) same (cut_leaves n))
 
   boots_read : (n : ℕ) → ThenRead t (boots w n)
-  boots_read n = by_boot (ThenRead t) w n (loses_read n (boot_written w n) written) runs where
-    written : (boot_written w n).controller ≡ w.controller
-    written = written_same n _
-
+  boots_read n = by_boot (ThenRead t) w n (loses_read n (boot_written w n) (written_same n _)) runs where
     count : ℕ
     count = count_of (boot_found w n).core.journal
 
@@ -578,7 +551,7 @@ module _ (t : List Entry) (w : NodeWorld) (before : HoldsRead t w) where
         let same : Some (boot_found w n) ≡ Some r = q in
         let is : boot_found w n ≡ r = cc in
         told true z k ∙ (sym (new_held (links_of w n) k) ∙ ap (λ (y : Running). is_held_among y.desks k) is))
-        (λ z r q k. told false z k ∙ before r (sym written ∙ q) k)
+        (λ z r q k. told false z k ∙ before r (sym (written_same n _) ∙ q) k)
 
   -- ### Losses
 
@@ -659,10 +632,10 @@ pub event_holds : (t : List Entry) (w : NodeWorld) (c : Happening) → HoldsRead
 event_holds t w (Boots n) before orderly = boots_read t w before n
 event_holds t w (IsCut n) before orderly = loses_read t w before n w refl
 event_holds t w (Gives e m) before orderly =
-    far_begins t w before (orderly_fine w orderly) e.link (sending e.link m) (sending_mute e.link m) (sending_quiet e.link m)
+    far_begins t w before (orderly_fine w orderly) e.link (sending e.link m) (sending_mute e.link m) (grind arith)
 event_holds t w (Inits e identity pipes) before orderly =
     far_begins t w before (orderly_fine w orderly) e.link (beginning identity pipes) (tt, (tt, tt))
-    ((λ k v. tt), ((λ k v. turn_quiet v.core (Give (1, 3 ∷ [])) (port_at v.ports k)), tt))
+    ((λ k v. tt), ((λ k v. grind arith), tt))
 event_holds t w (Takes e) before orderly = comes_read t w before orderly e NextFrame
 event_holds t w (Loses e why) before orderly = lost_read t w before e why
 event_holds t w Ticks before orderly = ticks_read t w before orderly

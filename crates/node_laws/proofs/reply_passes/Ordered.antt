@@ -2,16 +2,16 @@
 use Rattle.node_laws.proofs.Words.{AllByRecursion, AllByRecursion-append, AreDifferent, AreHosts, AreInTurn, AreNoTurns, AtEnd, Bool, Comes, ComesTo}
 use Rattle.node_laws.proofs.Words.{Controller, Core, Deed, Desk, End, Entry, FollowsNodes, Give, Got, Handles, Happening, HasEnds, Header, Holds, Host}
 use Rattle.node_laws.proofs.Words.{IsComing, IsOutside, LetsGo, Line, Link, LinkEnd, LinkInput, List, MayBoot, Message, MessagesAreRead, NodeHistory, NodeInput}
-use Rattle.node_laws.proofs.Words.{NodeWorld, None, NumberedEnd, Occurrence, Option, Port, Refused, Reset, Running, Site, Some, TimePasses, Work, []}
-use Rattle.node_laws.proofs.Words.{after_input, after_sessions, aged, aged_entries, all_aged, all_come, all_done, and-false, ap, append-nil, append_assoc}
-use Rattle.node_laws.proofs.Words.{arith, arrival, as_it_ticks, by_option, by_test, comes_to, comes_to_pass, cond, controller_begins, deeds_of, done, drop}
-use Rattle.node_laws.proofs.Words.{end_c, end_of, end_of_node, entries_for, entries_in, eqb, eqb-true, false, flat_map, fold-append, forgets, forgotten}
-use Rattle.node_laws.proofs.Words.{handles, has_come, has_come_so, has_freed, has_synced, holds_back, holds_in, hosts_in, hosts_of_ends, input_at, input_of}
-use Rattle.node_laws.proofs.Words.{is_held_at, is_late, is_one_of, is_some, lets_go, link_to, map, near_end_in, new_world, node_of, noted_before_pass}
-use Rattle.node_laws.proofs.Words.{noted_by_deed, noted_by_deeds, noted_of, occurrences_in, option_map_or, owed_in_step, own_side, port_at, refl, report}
-use Rattle.node_laws.proofs.Words.{reset_late, same_end, sent_unless, site_at, subst, sym, syncs_in, takes_up, times_out, told, told_at, told_late}
-use Rattle.node_laws.proofs.Words.{told_of_coming, told_of_late, true, true≢false, unhandled_after, unhandled_in, waiting_at, whole_acked, with_older}
-use Rattle.node_laws.proofs.Words.{without_notice, work_of, world_behind, world_step, ℕ, ◌++◌, ◌||◌, ◌∙◌, ◌∷◌, ◌≡◌}
+use Rattle.node_laws.proofs.Words.{NodeWorld, None, NumberedEnd, Occurrence, Option, Port, Refused, Running, Site, Some, TimePasses, Work, [], after_input}
+use Rattle.node_laws.proofs.Words.{after_sessions, aged, aged_entries, all_aged, all_come, all_done, and-false, ap, append-nil, append_assoc, arith, arrival}
+use Rattle.node_laws.proofs.Words.{as_it_ticks, by_option, by_test, comes_to, comes_to_pass, cond, controller_begins, deeds_of, done, drop, end_c, end_of}
+use Rattle.node_laws.proofs.Words.{end_of_node, entries_for, entries_in, eqb, eqb-true, false, flat_map, fold-append, forgets, forgotten, handles, has_come}
+use Rattle.node_laws.proofs.Words.{has_come_so, has_freed, has_synced, holds_back, holds_in, hosts_in, hosts_of_ends, input_at, input_of, is_held_at, is_one_of}
+use Rattle.node_laws.proofs.Words.{is_some, lets_go, link_to, map, near_end_in, new_world, node_of, noted_before_pass, noted_by_deed, noted_by_deeds, noted_of}
+use Rattle.node_laws.proofs.Words.{occurrences_in, option_map_or, owed_in_step, own_side, port_at, refl, report, reset_late, same_end, sent_unless, site_at}
+use Rattle.node_laws.proofs.Words.{subst, sym, syncs_in, takes_up, times_out, told, told_at, told_late, told_of_coming, told_of_late, true, true≢false}
+use Rattle.node_laws.proofs.Words.{unhandled_after, unhandled_in, waiting_at, whole_acked, with_older, without_notice, work_of, world_behind, world_step, ℕ}
+use Rattle.node_laws.proofs.Words.{◌++◌, ◌||◌, ◌∙◌, ◌∷◌, ◌≡◌}
 use Rattle.link_laws.specs.entries.Entries.{End as Side}
 use Rattle.node_laws.specs.passes.Passing.ComesTo.{Begins}
 use Rattle.node_laws.proofs.kept.Events.{hosts_same as sites_same}
@@ -27,7 +27,7 @@ use Rattle.node_laws.proofs.reply_passes.Held.{notes_unbooted, ports_held, side_
 use Rattle.node_laws.proofs.steps.StepWalks.{come_host, forgets_host, late_host, unless, without_host}
 use Rattle.node_laws.proofs.telling.Steps.{at_map, come_turns, forgets_same, sessions_side, without_same}
 use Rattle.node_laws.proofs.telling.Lasting.{AnyLine, all_lines, boots_may, history_holds, new_orderly, step_orderly}
-use Rattle.node_laws.proofs.telling.Accounts.{AreMute, IsMute, all_owed_mute, all_synced_mute, deeds_mute, forgotten_mute}
+use Rattle.node_laws.proofs.telling.Accounts.{AreMute, all_owed_mute, all_synced_mute, deeds_mute, forgotten_mute}
 use Rattle.node_laws.proofs.telling.Events.{hosts_same_of_nodes as hosts_same, link_is, node_is, ports_for}
 use Rattle.node_laws.proofs.telling.Ticks.{reset_turns}
 use Rattle.node_laws.proofs.turns.Passing.{AreStill, At, Becomes, Front, Goes, Known, all_do as at_all, all_left, doing, front_goes, goes-append, gots_go}
@@ -48,13 +48,10 @@ module _ (e : End) where
   given_still : (core : Core) (m : Message) (o : Option Port) → AreStill e (option_map_or (noted_of core (Give m)) o [])
   given_still core m o = grind arith
 
-  deed_still : (h : ℕ) (d : Deed) (w : Work) → IsMute d → AreStill e (noted_by_deed h d w)
-  deed_still h d w mute = grind arith
-
   pub deeds_still : (h : ℕ) (deeds : List Deed) (w : Work) → AreMute deeds → AreStill e (noted_by_deeds h deeds w)
   deeds_still h [] w mute = tt
   deeds_still h (d ∷ deeds) w mute =
-      AllByRecursion-append (λ (x : Entry). doing e x ≡ Nothing) (noted_by_deed h d w) _ (deed_still h d w mute.0)
+      AllByRecursion-append (λ (x : Entry). doing e x ≡ Nothing) (noted_by_deed h d w) _ (grind arith)
       (by_test (done h d w).cut (λ q. rw q tt) (λ q. rw q (deeds_still h deeds (done h d w) mute.1)))
 
   held_still : (h : ℕ) (short : ℕ × ℕ) (w : Work) → AreStill e (own_held h short w)
@@ -77,11 +74,7 @@ module _ (t : List Entry) (who : Side) (k : ℕ) (z : List Message) where
 
   same_goes : (v u : Work) (es : List Entry) → AreStill e es → waiting_at u.ports k ≡ waiting_at v.ports k
       → Goes e (waiting_at v.ports k ++ z) es (waiting_at u.ports k ++ z)
-  same_goes v u es still is =
-      subst (λ l. Goes e (waiting_at v.ports k ++ z) es (l ++ z)) (sym is) (still_goes e es (waiting_at v.ports k ++ z) still)
-
-  its_side : has_side who e ≡ true
-  its_side = grind arith
+  same_goes v u es still is = subst (λ l. Goes e (waiting_at v.ports k ++ z) es (l ++ z)) (sym is) (still_goes e es (waiting_at v.ports k ++ z) still)
 
   handled_runs : (v : Work) (h : ℕ) (m : Message) (messages : List Message) → own_side v.core ≡ who → waiting_at v.ports h ≡ m ∷ messages → Runs v
       → Runs (handles h m (deeds_of v.core v.ports h m) v)
@@ -112,7 +105,7 @@ module _ (t : List Entry) (who : Side) (k : ℕ) (z : List Message) where
             other_handles k (waiting_at v.ports k) (is_held_at v.ports k) h m deeds v off (refl, refl) in
             same_goes v u (x ∷ noted) (told_is ∙ rw other refl, still) sees.0
         by true on =
-            let side_on : has_side who e ≡ true = its_side in
+            let side_on : has_side who e ≡ true = grind arith in
             let here : same_end (end_of h who) e ≡ true = same_is who h e ∙ rw (on, side_on) refl in
             let takes : doing e x ≡ Takes m = told_is ∙ rw here refl in
             let sees : SeesAt h messages false u = handles_sees h m messages deeds v waiting in
@@ -184,9 +177,8 @@ module _ (t : List Entry) (who : Side) (f : End) (off : has_side who f ≡ false
     handled_apart : (u : Work) (h : ℕ) (m : Message) → own_side u.core ≡ who → Apart u → Apart (handles h m (deeds_of u.core u.ports h m) u)
     handled_apart u h m own b =
         let deeds : List Deed = deeds_of u.core u.ports h m in
-        let quiet : doing f (entry.Turn (end_of_node u.core h) m.0 m.1) ≡ Nothing = grind arith in
         apart_more u (handles h m deeds u) (entry.Turn (end_of_node u.core h) m.0 m.1 ∷ noted_by_deeds h deeds (takes_up h m u))
-        (handles_entries h m deeds u) (quiet, deeds_still f h deeds (takes_up h m u) (deeds_mute u.core u.ports h m)) b
+        (handles_entries h m deeds u) (grind arith, deeds_still f h deeds (takes_up h m u) (deeds_mute u.core u.ports h m)) b
 
 -- ### Until a pass begins
 
@@ -212,10 +204,7 @@ module _ (f : End) (who : Side) where
 
   lates_told : (core : Core) (ports : List Port) (q : List Message) → Goes f q (flat_map (told_late core) ports) q
   lates_told core [] q = refl
-  lates_told core (p ∷ ports) q =
-      goes-append f (told_late core p) (flat_map (told_late core) ports) q q q (by (is_late p)) (lates_told core ports q) where
-        by : (b : Bool) → Goes f q (cond b (told_at core p (Some (Reset None))) []) q
-        by b = grind arith
+  lates_told core (p ∷ ports) q = goes-append f (told_late core p) (flat_map (told_late core) ports) q q q (grind arith) (lates_told core ports q)
 
   late_told : (input : NodeInput) (w : Work) (q : List Message) → Goes f q (told_of_late input w) q
   late_told (AtEnd h i) w q = refl
@@ -277,9 +266,6 @@ abbrev IfComing : Option LinkInput → Type 0
 IfComing None = Unit {0}
 IfComing (Some i) = IsComing i
 
-comes_outside_of_came : (input : NodeInput) (p : Port) → IsOutside input → IfComing (input_at input p)
-comes_outside_of_came input p a = grind arith
-
 -- an end of a node on this side
 module _ (k : ℕ) (who : Side) where
   abbrev pub its_end : End
@@ -288,19 +274,13 @@ module _ (k : ℕ) (who : Side) where
   pub mine : true ≡ true → has_side who its_end ≡ true
   mine q = grind arith
 
-  here_on : (h : ℕ) → eqb h k ≡ true → same_end (end_of h who) its_end ≡ true
-  here_on h q = let there : has_side who its_end ≡ true = mine refl in same_is who h its_end ∙ rw (q, there) refl
-
-  there_off : (h : ℕ) → eqb h k ≡ false → same_end (end_of h who) its_end ≡ false
-  there_off h q = same_is who h its_end ∙ rw q refl
-
   others_go : (core : Core) (p : Port) (o : Option LinkInput) (q : List Message) → own_side core ≡ who → eqb p.desk.host k ≡ false
       → Goes its_end q (told_at core p o) q
   others_go core p None q side off = refl
   others_go core p (Some i) q side off =
       subst (λ x. Goes its_end q (entries_for p.desk.host (told x p.session (report p.side i) (whole_acked (after_input p.side i)))) q) (sym side)
       (told_goes its_end p.desk.host who p.session (whole_acked (after_input p.side i)) (report p.side i) q q
-      (still_goes its_end _ q (gots_still its_end p.desk.host who p.session (report p.side i).got (there_off p.desk.host off))))
+      (still_goes its_end _ q (gots_still its_end p.desk.host who p.session (report p.side i).got (same_is who p.desk.host its_end ∙ rw off refl))))
 
   own_goes : (core : Core) (p : Port) (o : Option LinkInput) → own_side core ≡ who → eqb p.desk.host k ≡ true → IfComing o
       → Goes its_end p.side.got (told_at core p o) (has_come p o).side.got
@@ -310,7 +290,7 @@ module _ (k : ℕ) (who : Side) where
       (after_input p.side i).got) (sym side)
       (told_goes its_end p.desk.host who p.session (whole_acked (after_input p.side i)) (report p.side i) p.side.got (after_input p.side i).got
       (subst (λ z. Goes its_end p.side.got (entries_for p.desk.host (map (Got who p.session) (report p.side i).got)) z) (sym (input_got p.side i c))
-      (gots_go its_end p.desk.host who p.session (report p.side i).got p.side.got (here_on p.desk.host on))))
+      (gots_go its_end p.desk.host who p.session (report p.side i).got p.side.got (grind arith))))
 
   module _ (input : NodeInput) (outside : IsOutside input) (core : Core) (side : own_side core ≡ who) where
     abbrev noted : Port → List Entry
@@ -331,17 +311,14 @@ module _ (k : ℕ) (who : Side) where
         let A : ℕ → Type 0 = λ n. AllByRecursion (λ j. (eqb j n) ≡ false) (hosts_of_ends ports) in
         subst (λ (y : Port). Goes its_end y.side.got (flat_map noted (x ∷ ports)) (has_come y (input_at input y)).side.got) is
         (goes-append its_end (noted x) (flat_map noted ports) x.side.got (has_come x (input_at input x)).side.got (has_come x (input_at input x)).side.got
-        (own_goes core x (input_at input x) side q (comes_outside_of_came input x outside))
+        (own_goes core x (input_at input x) side q (grind arith))
         (others_all ports (has_come x (input_at input x)).side.got (subst A (eqb-true x.desk.host k q) d.0))))
         (λ q. goes-append its_end (noted x) (flat_map noted ports) p.side.got p.side.got (has_come p (input_at input p)).side.got
         (others_go core x (input_at input x) p.side.got side q) (all_go ports p d.1 (rw q at here)))
 
   late_goes : (core : Core) (ports : List Port) (q : List Message) → Goes its_end q (flat_map (told_late core) ports) q
   late_goes core [] q = refl
-  late_goes core (p ∷ ports) q =
-      goes-append its_end (told_late core p) (flat_map (told_late core) ports) q q q (go (is_late p)) (late_goes core ports q) where
-        go : (b : Bool) → Goes its_end q (cond b (told_at core p (Some (Reset None))) []) q
-        go b = grind arith
+  late_goes core (p ∷ ports) q = goes-append its_end (told_late core p) (flat_map (told_late core) ports) q q q (grind arith) (late_goes core ports q)
 
   -- ### A pass begins
 
@@ -379,16 +356,13 @@ module _ (k : ℕ) (who : Side) where
           first : Work
           first = all_come input w
 
-    come_side : (i : NodeInput) → own_side (has_come_so i w).core ≡ who
-    come_side i = grind arith
-
     pub begun_at : At its_end who true mine p.side.got ms ms (comes_to_pass input w)
     begun_at =
         let come : Work = has_come_so input w in
         let so = came input refl in
         let start : Work = record come { core = after_sessions come.core come.ports; ports = map without_notice (map (forgets come.ports) come.ports) } in
         let zero : At its_end who true mine p.side.got ms ms start = record {
-          side = sessions_side come.core come.ports ∙ come_side input;
+          side = sessions_side come.core come.ports ∙ (grind arith);
           port = known_map its_end who true mine p.side.got ms without_notice without_host (λ x. (without_same x).turns)
               (λ x. ap (λ (z : LinkEnd). z.got) (without_same x).side) ms (map (forgets come.ports) come.ports)
               (known_map its_end who true mine p.side.got ms (forgets come.ports) (forgets_host come.ports) (λ x. (forgets_same come.ports x).turns)
@@ -406,8 +380,7 @@ module _ (k : ℕ) (who : Side) where
     came_read : (t : List Entry) → unhandled_in t its_end ≡ p.side.got → (q : Port) → port_at (comes_to_pass input w).ports k ≡ Some q
         → unhandled_in (t ++ (comes_to_pass input w).entries) its_end ≡ q.side.got
     came_read t was q there =
-        let known : Is (Some q) = subst Is there begun_at.port in
-        goes_read its_end t (comes_to_pass input w).entries p.side.got ms was begun_at.goes ∙ sym known.1
+        goes_read its_end t (comes_to_pass input w).entries p.side.got ms was begun_at.goes ∙ sym (subst Is there begun_at.port).1
 
 -- ### Ends that are there
 
@@ -486,8 +459,7 @@ near_read : (t : List Entry) (w : NodeWorld) → AllWait t w → (r : Running) �
 near_read t w a r runs k s here =
     let all : Waiting t w false k = a.waiting false k in
     let power : ByPower (is_some w.controller) all.messages s.link.controller.side.got = subst (NearWaits w.controller all.messages) here all.waits in
-    let is : all.messages ≡ s.link.controller.side.got = grind arith in
-    goes_read (end_c k) [] t [] all.messages refl all.goes ∙ is
+    goes_read (end_c k) [] t [] all.messages refl all.goes ∙ (grind arith)
 
 module _ (t : List Entry) (w : NodeWorld) (r : Running) (number : r.core.node ≡ 0) (ends : map (λ (d : Desk). d.host) r.desks ≡ hosts_in w.sites)
     (different : AreDifferent (hosts_in w.sites)) (near_ends : ℕ → NumberedEnd) (es : List Entry)
@@ -572,8 +544,7 @@ pub near_goes : (t : List Entry) (w : NodeWorld) → AllWait t w → (r : Runnin
 near_goes t w a r runs k s here =
     let all : Waiting t w false k = a.waiting false k in
     let power : ByPower (is_some w.controller) all.messages s.link.controller.side.got = subst (NearWaits w.controller all.messages) here all.waits in
-    let is : all.messages ≡ s.link.controller.side.got = grind arith in
-    subst (Goes (end_c k) [] t) is all.goes
+    subst (Goes (end_c k) [] t) (grind arith) all.goes
 
 module _ (t : List Entry) (w : NodeWorld) (r : Running) (number : r.core.node ≡ 0) (ends : map (λ (d : Desk). d.host) r.desks ≡ hosts_in w.sites)
     (different : AreDifferent (hosts_in w.sites)) (near_ends : ℕ → NumberedEnd) (es : List Entry)

@@ -5,23 +5,22 @@ use Rattle.node_laws.proofs.Words.{Asks, AsksReset, AtEnd, BeginsPass, Bool, Boo
 use Rattle.node_laws.proofs.Words.{Entry, FetchMessage, FindsRoom, FollowsNodes, Give, Gives, Happening, HasRoomForAll, HciTables, Header, Hold, IfRuns, Inits}
 use Rattle.node_laws.proofs.Words.{IsCommand, IsCut, IsFew, IsNodeLineOf, IsNodeNumber, IsPlain, IsRecordable, IsSentByHost, IsUnformatted, Journal, Knows}
 use Rattle.node_laws.proofs.Words.{Line, Link, LinkInput, List, Loses, Loss, Memory, Message, MessagesAreRead, NextFrame, NoInput, NodeHistory, NodeInput}
-use Rattle.node_laws.proofs.Words.{NodeWorld, None, NumberedEnd, Occurrence, OnWire, Option, Orders, Plan, Port, Release, Releases, Removed, Resets, Running}
-use Rattle.node_laws.proofs.Words.{RunsSo, SaysOk, Sends, SetAside, Side, Site, Some, Starts, State, StillRuns, Takes, Tells, Ticks, TimePasses, Turn, Verdict}
-use Rattle.node_laws.proofs.Words.{Waits, Work, Write, [], activates, after_controller, after_near_tick, after_planned, after_sessions, after_writes, all_aged}
-use Rattle.node_laws.proofs.Words.{all_come, all_done, all_happen, anyone, ap, append-nil, append_assoc, append_writes, apply, arith, arrival, as_it_ticks}
-use Rattle.node_laws.proofs.Words.{beginning, begins_with, body_of, boot_found, boot_writes, boot_written, boots, by_boot, by_coming, by_controller}
-use Rattle.node_laws.proofs.Words.{by_controller_tick, by_host, by_loss, by_memory, by_option, by_power, by_running, by_test, can_happen, cases_Bool, cases_eq}
-use Rattle.node_laws.proofs.Words.{comes_at, comes_to, comes_to_pass, commands_by_events, commit, commit_writes, committed, compact_writes, cond}
-use Rattle.node_laws.proofs.Words.{controller_begins, controller_does, controller_ticks, controller_work, count_of, current, deeds_of, done, end_c, end_h}
-use Rattle.node_laws.proofs.Words.{end_of_node, entries_for, entries_in, eqb, exchanged, fails_within, false, finds_room, first_verdict, flat_map, forgets}
-use Rattle.node_laws.proofs.Words.{forgotten, format_writes, frame_lost, frames_at, frames_noted, fresh, goes_on, happenings, happens_by, has_come_so}
-use Rattle.node_laws.proofs.Words.{has_freed, has_synced, host_does, hosts_tick, inl, input_of, inr, is_opened_gate, is_over, journal, last_place, length}
-use Rattle.node_laws.proofs.Words.{length-append, length-replicate, line_step, link_to, list_any, loses_power_at, map, memory_at, near_end_in, near_tick}
-use Rattle.node_laws.proofs.Words.{new_world, no_journal, node_entries, noted_before_pass, notified, noting, occurrences_in, occurrences_of, opens_gate}
-use Rattle.node_laws.proofs.Words.{option_map_or, owed_in_step, record_fits, refl, refusal_in, replicate, room_writes, sending, site_at, slice_index}
-use Rattle.node_laws.proofs.Words.{snapshot_bodies, state_of, steps, steps_from, subst, sym, syncs_in, taken_of, true, true≢false, turn_at, wires_for}
-use Rattle.node_laws.proofs.Words.{with_room, without_notice, work_of, world_behind, world_step, world_ticks, ℕ, ◌&&◌, ◌*◌, ◌++◌, ◌+◌, ◌<◌, ◌∙◌, ◌∷◌, ◌≡◌, ◌≤◌}
-use Rattle.node_laws.proofs.Words.{◌⊎◌}
+use Rattle.node_laws.proofs.Words.{NodeWorld, None, NumberedEnd, Occurrence, OnWire, Option, Orders, Plan, Release, Releases, Removed, Resets, Running, RunsSo}
+use Rattle.node_laws.proofs.Words.{SaysOk, Sends, SetAside, Side, Site, Some, Starts, State, StillRuns, Takes, Tells, Ticks, TimePasses, Turn, Waits, Work}
+use Rattle.node_laws.proofs.Words.{Write, [], activates, after_controller, after_near_tick, after_planned, after_sessions, after_writes, all_aged, all_come}
+use Rattle.node_laws.proofs.Words.{all_done, all_happen, anyone, ap, append-nil, append_assoc, append_writes, apply, arith, arrival, as_it_ticks, beginning}
+use Rattle.node_laws.proofs.Words.{begins_with, body_of, boot_found, boot_writes, boot_written, boots, by_boot, by_coming, by_controller, by_controller_tick}
+use Rattle.node_laws.proofs.Words.{by_host, by_loss, by_memory, by_option, by_power, by_running, by_test, can_happen, cases_Bool, cases_eq, comes_at, comes_to}
+use Rattle.node_laws.proofs.Words.{comes_to_pass, commands_by_events, commit, commit_writes, committed, compact_writes, cond, controller_begins}
+use Rattle.node_laws.proofs.Words.{controller_does, controller_ticks, controller_work, count_of, current, deeds_of, done, end_c, end_h, end_of_node}
+use Rattle.node_laws.proofs.Words.{entries_for, entries_in, eqb, exchanged, fails_within, false, finds_room, flat_map, forgets, forgotten, format_writes}
+use Rattle.node_laws.proofs.Words.{frame_lost, frames_at, frames_noted, fresh, goes_on, happenings, has_come_so, has_freed, has_synced, host_does, hosts_tick}
+use Rattle.node_laws.proofs.Words.{inl, input_of, inr, is_opened_gate, journal, last_place, length, length-append, length-replicate, line_step, link_to}
+use Rattle.node_laws.proofs.Words.{loses_power_at, map, memory_at, near_end_in, near_tick, new_world, no_journal, node_entries, noted_before_pass, notified}
+use Rattle.node_laws.proofs.Words.{noting, occurrences_in, occurrences_of, opens_gate, option_map_or, owed_in_step, record_fits, refl, refusal_in, replicate}
+use Rattle.node_laws.proofs.Words.{room_writes, sending, site_at, slice_index, snapshot_bodies, state_of, steps, steps_from, subst, sym, syncs_in, taken_of}
+use Rattle.node_laws.proofs.Words.{true, true≢false, turn_at, wires_for, with_room, without_notice, work_of, world_behind, world_step, world_ticks, ℕ, ◌&&◌}
+use Rattle.node_laws.proofs.Words.{◌*◌, ◌++◌, ◌+◌, ◌<◌, ◌∙◌, ◌∷◌, ◌≡◌, ◌≤◌, ◌⊎◌}
 use Rattle.journal_laws.proofs.Opening.{format_is_cut, format_state}
 use Rattle.node_laws.specs.passes.Passing.ComesTo.{Begins}
 use Rattle.node_laws.specs.reply_passes.Counts.{commands_noted as commits}
@@ -82,10 +81,9 @@ module _ (t : List Entry) where
   commits_grow : (c : Command) (w : Work) → Grows w → Grows (commit c w)
   commits_grow c w a = by_test (fails_within (length (commit_writes w.core.journal w.core.tables (body_of c))) w.plan)
       (λ q. rw q (
-      let one = commits-append t ((w.entries ++ entry.Command w.core.node c ∷ []) ++ entry.Cut w.core.node ∷ []) in
       let two = commits-append (w.entries ++ entry.Command w.core.node c ∷ []) (entry.Cut w.core.node ∷ []) in
       let four = commits-append w.entries (entry.Command w.core.node c ∷ []) in
-      omega (arith, a, one, two, three, four)))
+      omega (arith, a, commits-append t ((w.entries ++ entry.Command w.core.node c ∷ []) ++ entry.Cut w.core.node ∷ []), two, three, four)))
       (λ q. rw q (
       let four = commits-append w.entries (entry.Command w.core.node c ∷ []) in
       let grown = commit_grows w.core.journal w.core.tables (body_of c) in
@@ -135,9 +133,6 @@ module _ (t : List Entry) where
   all_grow : (h : ℕ) (deeds : List Deed) (w : Work) → Grows w → Grows (all_done h deeds w)
   all_grow h deeds w a = all_last Grows AnyOfGrowing AnyMessage grow_lasts h deeds w (any_deeds deeds) a
 
-  sessions_journal : (core : Core) (ports : List Port) → (after_sessions core ports).journal ≡ core.journal
-  sessions_journal core ports = by_test (list_any is_over ports) (λ q. rw q refl) (λ q. rw q refl)
-
   come_grow : (input : NodeInput) (w : Work) → Grows w → Grows (has_come_so input w)
   come_grow (AtEnd h i) w a = more w (has_come_so (AtEnd h i) w) _ refl refl refl a
   come_grow TimePasses w a =
@@ -151,14 +146,13 @@ module _ (t : List Entry) where
   freed_grow input w a =
       let came : Work = has_come_so input w in
       more came (record came { core = after_sessions came.core came.ports; ports = map without_notice (map (forgets came.ports) came.ports) }) []
-      (sessions_journal came.core came.ports) refl (sym (append-nil came.entries)) (come_grow input w a)
+      (grind arith) refl (sym (append-nil came.entries)) (come_grow input w a)
 
   -- as a pass begins
   pub begun_grows : (input : NodeInput) (w : Work) → Grows w → Grows (comes_to_pass input w)
   begun_grows input w a =
-      let came : Work = has_come_so input w in
       unless Grows (all_done 0 (owed_in_step input w)) (has_synced input w) (λ v b. all_grow 0 (owed_in_step input w) v b)
-      (all_grow 0 (syncs_in input w) (has_freed input w) (all_grow 0 (forgotten came.ports) _ (freed_grow input w a)))
+      (all_grow 0 (syncs_in input w) (has_freed input w) (all_grow 0 (forgotten (has_come_so input w).ports) _ (freed_grow input w a)))
 
   -- as a step ends
   steps_grow : (input : NodeInput) (w : Work) → Grows w → Grows (steps input w)
@@ -193,9 +187,6 @@ same_generation c d same = ap (λ (j : Journal). j.head.generation) same
 known_generation : (content : List ℕ) (s : State) (t : HciTables) → Knows content s t → generation_in content ≡ s.generation
 known_generation content s t k = ap (λ (x : State). x.generation) k.state_is
 
-room_grows : (s : State) (t : HciTables) (body : List ℕ) → (with_room s t body).generation ≤ s.generation + 1
-room_grows s t body = commit_grows s t body
-
 module _ (content : List ℕ) (s : State) (t : HciTables) (c : Command) (k : Knows content s t) (are : AreTables t) (may : IsRecordable t)
     (command : IsCommand c) (room : FindsRoom s c) (i : ℕ) (fill new : List ℕ) (filled : IsFilled i fill (room_writes s t (body_of c)) content new) where
   abbrev by_room : Bool → List Write
@@ -211,7 +202,7 @@ module _ (content : List ℕ) (s : State) (t : HciTables) (c : Command) (k : Kno
     whole is =
         let b = known_generation (after_writes (room_writes s t (body_of c)) content) (with_room s t (body_of c)) t
         (room_knows content s t c k are may command room (record_fits s (body_of c)) refl).0 in
-        omega (arith, ap generation_in is, b, room_grows s t (body_of c))
+        omega (arith, ap generation_in is, b, commit_grows s t (body_of c))
 
     by_fit : (b : Bool) → record_fits s (body_of c) ≡ b → IsFilled i fill (by_room b) content new
         → (is_opened_gate (slice_index fill 0) ≡ true) ⊎ (is_opened_gate (slice_index fill 0) ≡ false) → generation_in new ≤ s.generation + 1
@@ -267,7 +258,7 @@ module _ (m : Memory) (s : State) (t : HciTables) (c : Command) (k : Knows m.con
           back.1,
           many m.content s t c k are may command room cut.i cut.fill left cut.filled,
         )))) in
-        omega (arith, a, known_generation (after_writes first m.content) (with_room s t (body_of c)) t r.0, room_grows s t (body_of c)))
+        omega (arith, a, known_generation (after_writes first m.content) (with_room s t (body_of c)) t r.0, commit_grows s t (body_of c)))
 
 -- ## In a history the generation of the controller's memory is one above the commands that were noted, at most
 
@@ -382,12 +373,10 @@ module _ (hosts : List ℕ) (are : AreHosts hosts) where
         → ThenGrown t (v, (steps input (work_of r w.memory.plan near_ends es)).entries ++ frames)
     stepped r runs near_ends es frames plain input v is =
         let k : Work = steps input (work_of r w.memory.plan near_ends es) in
-        let a = step_grown hosts are t w.memory r runs before near_ends es plain input in
         let b = ap (λ (x : Memory). generation_in x.content) is in
         let one = commits-append t (k.entries ++ frames) in
         let two = commits-append k.entries frames in
-        let three = commits-append t k.entries in
-        omega (arith, a, b, one, two, three)
+        omega (arith, step_grown hosts are t w.memory r runs before near_ends es plain input, b, one, two, commits-append t k.entries)
 
     runs_so : AllKeep hosts t w → (r : Running) → w.controller ≡ Some r → RunsSo 0 hosts w.memory.content t r
     runs_so all r q = subst (IfRuns 0 hosts w.memory.content t) q all.controller.runs
@@ -544,8 +533,7 @@ module _ (header : Header) (lines : List Line) (t : NodeHistory) (follows : Foll
         let whole = ap (λ l. commits (entries_in front ++ l)) (before_entries (AtEnd h i) begun) in
         let one = commits-append (entries_in front) (begun.entries ++ noted_before_pass (AtEnd h i) begun) in
         let two = commits-append begun.entries (noted_before_pass (AtEnd h i) begun) in
-        let three = commits-append (entries_in front) begun.entries in
-        few_find_room (entries_in front) begun first (omega (arith, whole, one, two, three, most))
+        few_find_room (entries_in front) begun first (omega (arith, whole, one, two, commits-append (entries_in front) begun.entries, most))
 
     pub comes_room : (h : ℕ) (comes : Comes) (i : LinkInput) (v : Work) → ComesTo (comes_to_pass (AtEnd h i) (controller_begins w r h comes)) v
         → commits (entries_in front ++ v.entries) ≤ 4000000000 → HasRoomForAll v
@@ -562,8 +550,7 @@ module _ (header : Header) (lines : List Line) (t : NodeHistory) (follows : Foll
         → commits ((entries_in front ++ (all_aged w).1) ++ v.entries) ≤ 4000000000 → HasRoomForAll v
     tick_room v reached most =
         let old : AllKeep hosts (entries_in front ++ (all_aged w).1) (all_aged w).0 = (aged_goes hosts are (entries_in front) w keep).keep in
-        let so : RunsSo 0 hosts w.memory.content (entries_in front ++ (all_aged w).1) r =
-        subst (IfRuns 0 hosts w.memory.content (entries_in front ++ (all_aged w).1)) runs old.controller.runs in
+        let so : RunsSo 0 hosts w.memory.content (entries_in front ++ (all_aged w).1) r = grind arith in
         let now : IsGrown (entries_in front ++ (all_aged w).1) w =
         (let more = commits-append (entries_in front) (all_aged w).1 in omega (arith, grown, more)) in
         let first : Grows (entries_in front ++ (all_aged w).1) (as_it_ticks w r) =
@@ -638,16 +625,11 @@ frames_few w e few = by_side (link_to w.sites e.link) (by_option (site_at w.site
 taken_few : (count : Option ℕ) (wire : List OnWire) → length wire ≤ 64 → taken_of count wire ≤ 64
 taken_few count wire few = grind arith
 
-damage_few : (e : End) (v : Option Verdict) → length (happens_by e v) ≤ 100
-damage_few e v = grind arith
-
 -- a line causes 100 events at most
 causes_few : (header : Header) (w : NodeWorld) (l : Line) → AreFewWires w.sites → IsNodeLineOf header l → length (happenings w l) ≤ 100
 causes_few header w (line.Deliver e count) few is =
-    let most = taken_few count (frames_at w e) (frames_few w e few) in
-    let long = length-replicate (taken_of count (frames_at w e)) (Takes e) in
-    omega (arith, most, long)
-causes_few header w (line.Damage e places) few is = damage_few e (first_verdict (frames_at w e) places.items)
+    omega (arith, taken_few count (frames_at w e) (frames_few w e few), length-replicate (taken_of count (frames_at w e)) (Takes e))
+causes_few header w (line.Damage e places) few is = grind arith
 causes_few header w (line.Tick None) few is = omega arith
 causes_few header w (line.Tick (Some n)) few is = let long = length-replicate n Ticks in let most = is.1 in omega (arith, long, most)
 causes_few header w _ few is = omega arith

@@ -144,24 +144,19 @@ controller_took : (w : NodeWorld) (k h : ℕ) (s : Site) → site_at w.sites h �
     → GoesOnLink (world_step w (Takes (end_c k))).0 h s (controller_takes s.host w k)
 controller_took w k h s q = go (input_of (link_to w.sites k) NextFrame) w.controller refl refl
   where
-    none : (events : List LinkEvent) (v : NodeWorld) → events ≡ [] → v ≡ w → GoesOnLink v h s events
-    none events v e p =
-        record { later = s; is = ap (λ (u : NodeWorld). site_at u.sites h) p ∙ q; host = refl; link = rw e refl }
-
     go : (i : Option LinkInput) (c : Option Running) → input_of (link_to w.sites k) NextFrame ≡ i → w.controller ≡ c
         → GoesOnLink (world_step w (Takes (end_c k))).0 h s (controller_takes s.host w k)
-    go None c p r = none (controller_takes s.host w k) (world_step w (Takes (end_c k))).0 (rw p refl) (rw p refl)
-    go (Some i) None p r = none (controller_takes s.host w k) (world_step w (Takes (end_c k))).0 (rw (p, r) refl) (rw (p, r) refl)
+    go None c p r = grind arith
+    go (Some i) None p r = grind arith
     go (Some i) (Some r) p t =
         let work : Work = controller_work w r k NextFrame (steps (AtEnd k i)) in
         let one : LinkEvent = AtController (Step (comes_to k NextFrame s.host) (turns_at work s.host) (ending_of work)) in
         let world : (world_step w (Takes (end_c k))).0 ≡ ((after_controller w k NextFrame work).0) = rw (p, t) refl in
         let events : controller_takes s.host w k ≡ one ∷ [] = rw (p, t) refl in
         let F : Site → Site = link_after_controller k NextFrame work in
-        let m = site_map F (λ x. refl) w.sites h s q in
         record {
           later = F s;
-          is = ap (λ (u : NodeWorld). site_at u.sites h) world ∙ m.0;
+          is = ap (λ (u : NodeWorld). site_at u.sites h) world ∙ (site_map F (λ x. refl) w.sites h s q).0;
           host = refl;
           link = ap (after_link_events s.link) (sym events);
         }
@@ -172,14 +167,9 @@ stays w v h s p q = record { later = s; is = ap (λ (u : NodeWorld). site_at u.s
 goes_as : (w v : NodeWorld) (h : ℕ) (s : Site) (es fs : List LinkEvent) → es ≡ fs → GoesOnLink v h s fs → GoesOnLink v h s es
 goes_as w v h s es fs p g = subst (GoesOnLink v h s) (sym p) g
 
--- a site is changed where it is this one, and keeps its host
-changed-host : (b : Bool) (f : Site → Site) (s : Site) → ((x : Site) → (f x).host ≡ x.host) → (changed_if b f s).host ≡ s.host
-changed-host b f s keeps = grind arith
-
 pub changed_site : (k : ℕ) (f : Site → Site) → ((x : Site) → (f x).host ≡ x.host) → (sites : List Site) (h : ℕ) (s : Site) → site_at sites h ≡ Some s
     → site_at (with_site k f sites) h ≡ Some (changed_if (s.host == k) f s)
-changed_site k f keeps sites h s q =
-    (site_map (λ x. changed_if (x.host == k) f x) (λ x. changed-host (x.host == k) f x keeps) sites h s q).0
+changed_site k f keeps sites h s q = (site_map (λ x. changed_if (x.host == k) f x) (λ x. grind arith) sites h s q).0
 
 -- a host takes a frame: its own link
 host_took_own : (w : NodeWorld) (s : Site) → site_at w.sites s.host ≡ Some s → GoesOnLink (world_step w (Takes (end_h s.host))).0 s.host s (site_takes s)
@@ -197,11 +187,10 @@ host_took_own w s q = go (input_of (exchanged s.link) NextFrame) s.node refl ref
         let v : NodeWorld = record w { sites = with_site s.host (after_host NextFrame work) w.sites } in
         let one : LinkEvent = AtHost (Step NextFrame (turns_at work s.host) (ending_of work)) in
         let world : (world_step w (Takes (end_h s.host))).0 ≡ v = rw (link, p, q, t) refl in
-        let events : site_takes s ≡ one ∷ [] = rw (p, t) refl in
         let at : site_at v.sites s.host ≡ Some (after_host NextFrame work s) =
         changed_site s.host (after_host NextFrame work) (λ x. refl) w.sites s.host s q
         ∙ ap (λ (b : Bool). Some (changed_if b (after_host NextFrame work) s)) (eq-eqb s.host s.host refl) in
-        goes_as w (world_step w (Takes (end_h s.host))).0 s.host s (site_takes s) (one ∷ []) events
+        goes_as w (world_step w (Takes (end_h s.host))).0 s.host s (site_takes s) (one ∷ []) (rw (p, t) refl)
         (record { later = after_host NextFrame work s; is = ap (λ (u : NodeWorld). site_at u.sites s.host) world ∙ at; host = refl; link = refl })
 
 -- and the link of another host
@@ -286,8 +275,7 @@ pub world_ticked : (w : NodeWorld) (h : ℕ) (s : Site) → site_at w.sites h �
 world_ticked w h s q =
     let G : Site → Site = λ x. record x { link = aged x.link } in
     let old : NodeWorld = (all_aged w).0 in
-    let aged_site = site_map G (λ x. refl) w.sites h s q in
-    let near = controller_ticked old h (G s) aged_site.0 in
+    let near = controller_ticked old h (G s) (site_map G (λ x. refl) w.sites h s q).0 in
     let between : Site = near.0 in
     let H : Site → Site = λ x. (host_ticks x).0 in
     let far = site_map H (λ x. (site_ticked x).0) (controller_ticks old).0.sites h between near.1 in
@@ -351,8 +339,7 @@ all_go (Takes e ∷ causes) w h s p q = go (can_happen w (Takes e)) refl (takes_
         → GoesOnLink (all_happen w (Takes e ∷ causes)).0 h s (events_on h w (Takes e ∷ causes))
     go true b one later =
         let v : NodeWorld = (world_step w (Takes e)).0 in
-        let both = go_then v (all_happen v causes).0 h s (link_events_in h w (Takes e)) (events_on h v causes) one (later one.later one.is) in
-        rw b both
+        rw b (go_then v (all_happen v causes).0 h s (link_events_in h w (Takes e)) (events_on h v causes) one (later one.later one.is))
     go false b one later = rw b (rests_so w h s q)
 all_go (Ticks ∷ causes) w h s p q =
     let v : NodeWorld = (world_step w Ticks).0 in
@@ -488,8 +475,7 @@ module _ (w : NodeWorld) (h : ℕ) (s : Site) (fine : IsFineWorld w) (q : site_a
   tick_so_allowed : (late : Bool) (c d : Node) → AreNodes c d → IsEvent s.link (tick_so s.link late c d)
   tick_so_allowed late c d sends = by_test (late && not (is_waiting s.link.controller.side.shdlc))
       (λ r. let is : tick_so s.link late c d ≡ TicksWithout (Step (AsksReset None) c.turns c.ending ∷ []) d = rw r refl in
-      let waits : is_waiting s.link.controller.side.shdlc ≡ false = grind arith in
-      subst (IsEvent s.link) (sym is) (reset_allowed s.link c d sends here.link.line waits))
+      subst (IsEvent s.link) (sym is) (reset_allowed s.link c d sends here.link.line (grind arith)))
       (λ r. let is : tick_so s.link late c d ≡ LinkTicks c [] d = rw r refl in
       subst (IsEvent s.link) (sym is) (tick_allowed s.link c d sends here.link.line))
 

@@ -1,7 +1,7 @@
 -- Few RSETs are put on the links of a world: two at most in each tick, and one where a reset is asked for.
-use Rattle.node_laws.proofs.Words.{Activates, Arms, AsksReset, AtController, AtEnd, AtHost, Bool, Boots, Comes, CutOff, End, Ending, Gives, GoesOut, Happening}
-use Rattle.node_laws.proofs.Words.{Inits, IsCut, Link, LinkEvent, List, Loses, Loss, Memory, NextFrame, NoInput, NodeWorld, None, Occurrence, Resets, Running}
-use Rattle.node_laws.proofs.Words.{Site, Some, Starts, Step, Takes, Ticks, Turn, Work, [], activates, after_host, aged, all_aged, all_happen, arith, beginning}
+use Rattle.node_laws.proofs.Words.{Activates, Arms, AsksReset, AtController, AtEnd, AtHost, Bool, Boots, Comes, End, Ending, Gives, GoesOut, Happening, Inits}
+use Rattle.node_laws.proofs.Words.{IsCut, Link, LinkEvent, List, Loses, Loss, Memory, NextFrame, NoInput, NodeWorld, None, Occurrence, Resets, Running, Site}
+use Rattle.node_laws.proofs.Words.{Some, Starts, Step, Takes, Ticks, Turn, Work, [], activates, after_host, aged, all_aged, all_happen, arith, beginning}
 use Rattle.node_laws.proofs.Words.{begins_with, boot_found, boot_written, boots, by_boot, by_coming, by_controller, by_controller_tick, by_host, by_host_tick}
 use Rattle.node_laws.proofs.Words.{by_loss, by_memory, by_power, by_running, by_test, can_happen, changed_if, comes_at, comes_to, controller_does}
 use Rattle.node_laws.proofs.Words.{controller_ticks, controller_work, counts, end_c, end_h, ending_of, exchanged, frame_lost, happens, host_cut, host_does}
@@ -20,8 +20,7 @@ few_longer : (m n : ℕ) (l : Link) → m ≤ n → FewRsets m l → FewRsets n 
 few_longer m n l q f = record { made = let z = f.made in omega (arith, q, z); numbered = f.numbered }
 
 few_by_event : (n : ℕ) (l : Link) (e : LinkEvent) → FewRsets n l → FewRsets (n + rset_causes e) (happens l e)
-few_by_event n l e f =
-    record { made = let z = made_by_event l e in let a = f.made in omega (arith, z, a); numbered = event_numbered l e f.numbered }
+few_by_event n l e f = record { made = let z = made_by_event l e in let a = f.made in omega (arith, z, a); numbered = event_numbered l e f.numbered }
 
 few_aged : (n : ℕ) (l : Link) → FewRsets n l → FewRsets n (aged l)
 few_aged n l f = record { made = let a = f.made in omega (arith, a); numbered = aged_numbered l f.numbered }
@@ -64,8 +63,7 @@ changed m n b f q one s a = grind arith
 
 one_of : (m n h : ℕ) (f : Site → Site) → m ≤ n → ((s : Site) → FewRsets m s.link → FewRsets n (f s).link) → (sites : List Site)
     → FewRsetsOnEach m sites → FewRsetsOnEach n (with_site h f sites)
-one_of m n h f q one sites a =
-    each m n (λ (s : Site). changed_if (s.host == h) f s) (λ s b. changed m n (s.host == h) f q one s b) sites a
+one_of m n h f q one sites a = each m n (λ (s : Site). changed_if (s.host == h) f s) (λ s b. changed m n (s.host == h) f q one s b) sites a
 
 pub each_longer : (m n : ℕ) (sites : List Site) → m ≤ n → FewRsetsOnEach m sites → FewRsetsOnEach n sites
 each_longer m n [] q a = tt
@@ -115,21 +113,14 @@ few_plain n w e comes none a =
     each_longer (n + resets_in_coming comes) n (comes_at w e comes).0.sites (omega (arith, none)) (few_behind_coming n w e comes a)
 
 few_begun : (n : ℕ) (w : NodeWorld) (h : ℕ) (f : Work → Work) → FewRsetsOnEach n w.sites → FewRsetsOnEach n (host_does w h NoInput f).0.sites
-few_begun n w h f a =
-    each_longer (n + resets_in_coming NoInput) n (host_does w h NoInput f).0.sites (omega arith) (few_behind_host n w h NoInput f a)
+few_begun n w h f a = each_longer (n + resets_in_coming NoInput) n (host_does w h NoInput f).0.sites (omega arith) (few_behind_host n w h NoInput f a)
 
 -- ## Power and losses
 
-few_cut : (n : ℕ) (s : Site) → FewRsets n s.link → FewRsets n (happens s.link (AtController (Step NoInput [] CutOff)))
-few_cut n s b = grind arith
-
-few_host_cut : (n : ℕ) (s : Site) → FewRsets n s.link → FewRsets n (host_cut s).link
-few_host_cut n s b = few_longer (n + 0) n (host_cut s).link (omega arith) (few_by_event n s.link (AtHost (Step NoInput [] CutOff)) b)
-
 few_behind_cut : (n : ℕ) (node : ℕ) (w : NodeWorld) → FewRsetsOnEach n w.sites → FewRsetsOnEach n (loses_power_at node w).sites
 few_behind_cut n node w a =
-    by_power (λ v. FewRsetsOnEach n v.sites) node w (λ q. each n n _ (λ s b. few_cut n s b) w.sites a)
-    (λ q. one_of n n node host_cut (omega arith) (λ s b. few_host_cut n s b) w.sites a)
+    by_power (λ v. FewRsetsOnEach n v.sites) node w (λ q. each n n _ (λ s b. grind arith) w.sites a)
+    (λ q. one_of n n node host_cut (omega arith) (λ s b. grind arith) w.sites a)
 
 few_with_memory : (n node : ℕ) (m : Memory) (w : NodeWorld) → FewRsetsOnEach n w.sites → FewRsetsOnEach n (with_memory node m w).sites
 few_with_memory n node m w a =
@@ -147,14 +138,11 @@ few_behind_boot n w node a =
     let b : FewRsetsOnEach n v.sites = few_with_memory n node _ w a in
     by_boot (λ p. FewRsetsOnEach n p.0.sites) w node (few_behind_cut n node v b) (few_with_node n node (boot_found w node) v b)
 
-lost_here : (n : ℕ) (e : End) (why : Loss) (s : Site) → FewRsets n s.link → FewRsets n (site_lost e why s).link
-lost_here n e why s a = grind arith
-
 few_behind_loss : (n : ℕ) (w : NodeWorld) (e : End) (why : Loss) → FewRsetsOnEach n w.sites → FewRsetsOnEach n (frame_lost w e why).0.sites
 few_behind_loss n w e why a =
     by_loss (λ p. FewRsetsOnEach n p.0.sites) w e why
-    (λ q. one_of n n e.link (λ s. record (site_lost e why s) { node = counts why e.link s.node }) (omega arith) (λ s b. lost_here n e why s b) w.sites a)
-    (λ q. one_of n n e.link (site_lost e why) (omega arith) (λ s b. lost_here n e why s b) w.sites a)
+    (λ q. one_of n n e.link (λ s. record (site_lost e why s) { node = counts why e.link s.node }) (omega arith) (λ s b. grind arith) w.sites a)
+    (λ q. one_of n n e.link (site_lost e why) (omega arith) (λ s b. grind arith) w.sites a)
 
 -- ## Ticks
 
@@ -225,9 +213,8 @@ pub few_behind_events : (events : List Occurrence) (n : ℕ) (w : NodeWorld) →
     → FewRsetsOnEach (n + rsets_by_all (happened_in events)) (world_behind w events).sites
 few_behind_events [] n w a = each_longer n (n + rsets_by_all []) w.sites (omega arith) a
 few_behind_events (o ∷ events) n w a =
-    let z = by_one_more o.cause (happened_in events) in
     each_longer (n + rsets_by o.cause + rsets_by_all (happened_in events)) (n + rsets_by_all (happened_in (o ∷ events)))
-    (world_behind (world_step w o.cause).0 events).sites (omega (arith, z))
+    (world_behind (world_step w o.cause).0 events).sites (omega (arith, by_one_more o.cause (happened_in events)))
     (few_behind_events events (n + rsets_by o.cause) (world_step w o.cause).0 (few_behind_step n w o.cause a))
 
 -- ## From the beginning on
@@ -244,8 +231,7 @@ few_in_new_world hosts = few_at_first (replicate 65536 255) hosts
 
 pub numbers_of_few : (n : ℕ) (sites : List Site) → FewRsetsOnEach n sites → NumbersWithinOnEach n sites
 numbers_of_few n [] a = tt
-numbers_of_few n (s ∷ sites) a =
-    (numbers_within n s.link (let z = a.0.made in omega (arith, z)) a.0.numbered, numbers_of_few n sites a.1)
+numbers_of_few n (s ∷ sites) a = (numbers_within n s.link (let z = a.0.made in omega (arith, z)) a.0.numbered, numbers_of_few n sites a.1)
 
 pub numbers_in_worlds : (hosts : List ℕ) (causes : List Happening)
     → NumbersWithinOnEach (rsets_by_all causes) (all_happen (new_world hosts) causes).0.sites

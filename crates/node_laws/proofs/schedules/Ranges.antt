@@ -30,9 +30,6 @@ abbrev pub count : End → List End → ℕ
 count e [] = 0
 count e (f ∷ fs) = one_at (same_end f e) + count e fs
 
-pub ends_same : (e f : End) → same_end e f ≡ true → e ≡ f
-ends_same e f is = grind arith
-
 -- a list in which an end stands, without it
 record Without (x : End) (ys : List End) : Type 0 where
   left : List End
@@ -45,7 +42,7 @@ take_one x (y ∷ ys) some = by_test (same_end y x)
     (λ q. record {
       left = ys;
       long = omega arith;
-      counts = λ e. ap (λ (z : End). one_at (same_end z e) + count e ys) (ends_same y x q);
+      counts = λ e. ap (λ (z : End). one_at (same_end z e) + count e ys) (grind arith);
     })
     (λ q. let still : 1 ≤ count x ys = (let none : one_at (same_end y x) ≡ 0 = ap one_at q in omega (arith, some, none)) in
     let r : Without x ys = take_one x ys still in
@@ -60,8 +57,7 @@ pub fewer : (xs ys : List End) → ((e : End) → count e xs ≤ count e ys) →
 fewer [] ys each = omega arith
 fewer (x ∷ xs) ys each =
     let r : Without x ys = take_one x ys (omega (arith, each x, ap one_at (same_end_itself x))) in
-    let rest = fewer xs r.left (λ e. let most = each e in let is = r.counts e in omega (arith, most, is)) in
-    omega (arith, r.long, rest)
+    omega (arith, r.long, (fewer xs r.left (λ e. let most = each e in let is = r.counts e in omega (arith, most, is))))
 
 -- ## What may stand in a schedule of a world of nodes is what the laws of such worlds ask for
 
@@ -91,14 +87,12 @@ few_above : (low : ℕ) (xs : List ℕ) → low ≤ 7 → AllByRecursion (IsAbov
     → length xs + low ≤ 7
 few_above low [] most over hosts sorted = omega (arith, most)
 few_above low (x ∷ xs) most over hosts sorted =
-    let rest = few_above x xs hosts.0.1 (sorted_head nat_cmp x xs sorted) hosts.1 (sorted_tail nat_cmp x xs sorted) in
-    omega (arith, rest, above low x over.0)
+    omega (arith, few_above x xs hosts.0.1 (sorted_head nat_cmp x xs sorted) hosts.1 (sorted_tail nat_cmp x xs sorted), above low x over.0)
 
 few : (xs : List ℕ) → AllByRecursion IsHost xs → IsStrictlySortedBy nat_cmp xs → length xs ≤ 7
 few [] hosts sorted = omega arith
 few (x ∷ xs) hosts sorted =
-    let rest = few_above x xs hosts.0.1 (sorted_head nat_cmp x xs sorted) hosts.1 (sorted_tail nat_cmp x xs sorted) in
-    omega (arith, rest, hosts.0.0)
+    omega (arith, few_above x xs hosts.0.1 (sorted_head nat_cmp x xs sorted) hosts.1 (sorted_tail nat_cmp x xs sorted), hosts.0.0)
 
 pub hosts_few : (header : Header) → IsNodeHeader header → length header.hosts.items ≤ 7
 hosts_few header is = grind arith
@@ -158,7 +152,7 @@ pub record IsFewWires (l : Link) : Type 0 where
 
 fits_few : (wire : List OnWire) (x : OnWire) → length wire ≤ 64 → length (fits (wire ++ x ∷ [])) ≤ 64
 fits_few wire x few = by_test (nat_lt 64 (length (wire ++ x ∷ [])))
-    (λ q. rw q (let less = length-drop 1 (wire ++ x ∷ []) in omega (arith, less, (length-append wire (x ∷ [])), few)))
+    (λ q. rw q (let less = length-drop 1 (wire ++ x ∷ []) in omega (arith, less, length-append wire (x ∷ []), few)))
     (λ q. rw q (let low = ltb-false 64 (length (wire ++ x ∷ [])) q in omega (arith, low)))
 
 put_few : (l : Link) (c : Control) → IsFewWires l → IsFewWires (put l c)
@@ -172,12 +166,6 @@ puts_few l (c ∷ cs) a = puts_few (put l c) cs (put_few l c a)
 
 -- ### Steps of one end
 
-ended_few : (l : Link) (b : Bool) → IsFewWires l → IsFewWires (with_ended l b)
-ended_few l b a = grind arith
-
-silent_few : (l : Link) (e : LinkEnd) → IsFewWires (silent l e)
-silent_few l e = record { to_controller = omega arith; to_host = omega arith }
-
 finished_few : (l : Link) (e : LinkEnd) (ending : Ending) → IsFewWires l → IsFewWires (finished l e ending)
 finished_few l e GoesOut a =
     let p : IsFewWires (put_all l (frames_out e)) = puts_few l (frames_out e) a in record { to_controller = p.to_controller; to_host = p.to_host }
@@ -186,7 +174,7 @@ finished_few l e CutOff a = record { to_controller = omega arith; to_host = omeg
 input_few : (l : Link) (i : LinkInput) (ts : List Turn) (ending : Ending) → IsFewWires l → IsFewWires (has_input l i ts ending)
 input_few l i ts ending a =
     let b : Bool = is_some (ended_by l.controller.side i) in
-    finished_few (with_ended l b) (turned (after_input l.controller.side i) ts) ending (ended_few l b a)
+    finished_few (with_ended l b) (turned (after_input l.controller.side i) ts) ending (grind arith)
 
 taken_few : (l : Link) (x : OnWire) (xs : List OnWire) (ts : List Turn) (ending : Ending) → length xs ≤ 64 → length l.to_host ≤ 64
     → IsFewWires (has_taken l x xs ts ending)
@@ -194,12 +182,12 @@ taken_few l x xs ts ending near far =
     let b : Bool = is_some (ended_by l.controller.side (Take x.frame)) in
     let k : Link = record l { to_controller = xs } in
     let m : Link = with_ended k b in
-    let fine : IsFewWires m = ended_few k b (record { to_controller = near; to_host = far }) in
+    let fine : IsFewWires m = grind arith in
     finished_few (record m { controller = record m.controller { took = took_with l.controller.took x } })
     (turned (after_input l.controller.side (Take x.frame)) ts) ending (record { to_controller = fine.to_controller; to_host = fine.to_host })
 
 restarted_few : (l : Link) (e : LinkEnd) (ts : List Turn) (ending : Ending) → IsFewWires (has_restarted l e ts ending)
-restarted_few l e ts ending = finished_few (silent l e) (turned e ts) ending (silent_few l e)
+restarted_few l e ts ending = finished_few (silent l e) (turned e ts) ending (grind arith)
 
 step_few : (l : Link) (comes : Comes) (ts : List Turn) (ending : Ending) → IsFewWires l → IsFewWires (steps_at_controller l comes ts ending)
 step_few l NextFrame ts ending a = go l.to_controller a.to_controller where

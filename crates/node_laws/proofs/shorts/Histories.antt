@@ -2,12 +2,12 @@
 use Rattle.node_laws.proofs.Words.{AllByRecursion, AreHosts, ArePlayable, AtEachOccurrence, AtEnd, End, Ending, Entry, FollowsNodes, GoesOut, Happening, Header}
 use Rattle.node_laws.proofs.Words.{IsBegunByHost, IsFew, IsHost, IsInitOfHost, IsNodeOf, IsSentByHost, Line, LinkInput, List, NextFrame, NodeHistory, NodeWorld}
 use Rattle.node_laws.proofs.Words.{None, Occurrence, OnWire, Site, Some, Takes, Ticks, Work, [], after_host, ap, append_assoc, ap₂, arith, by_coming, by_host}
-use Rattle.node_laws.proofs.Words.{by_option, by_test, end_h, ending_of, entries_in, eqb, exchanged, false, first_verdict, frames_at, happenings, happens_by}
-use Rattle.node_laws.proofs.Words.{host_does, host_work, inl, inr, is_left_short, is_some, length, list_any, ne_eqb, new_world, node_at, node_entries}
-use Rattle.node_laws.proofs.Words.{occurrences_in, refl, refusal_in, replicate, same_number, site_at, steps, steps_at_controller, subst, suc, sym, taken_of}
-use Rattle.node_laws.proofs.Words.{true, true≢false, turns_at, unwrap_or, world_behind, world_step, zero, ℕ, ◌++◌, ◌||◌, ◌∙◌, ◌∷◌, ◌≡◌, ◌≤◌}
+use Rattle.node_laws.proofs.Words.{by_option, by_test, end_h, ending_of, entries_in, eqb, exchanged, false, frames_at, happenings, host_does, host_work, inl}
+use Rattle.node_laws.proofs.Words.{inr, is_left_short, is_some, length, list_any, ne_eqb, new_world, node_entries, occurrences_in, refl, refusal_in, replicate}
+use Rattle.node_laws.proofs.Words.{same_number, site_at, steps, steps_at_controller, subst, suc, sym, taken_of, true, true≢false, turns_at, unwrap_or}
+use Rattle.node_laws.proofs.Words.{world_behind, world_step, zero, ℕ, ◌++◌, ◌||◌, ◌∙◌, ◌∷◌, ◌≡◌, ◌≤◌}
 use Rattle.node_laws.specs.reply_passes.Counts.{commands_noted as commits}
-use Rattle.node_laws.proofs.cuts.Ticking.{node_far, with_here}
+use Rattle.node_laws.proofs.cuts.Ticking.{with_here}
 use Rattle.node_laws.proofs.hosts.Events.{E, IsMissing, event_parted, short_so}
 use Rattle.node_laws.proofs.hosts.Histories.{low, so, stands}
 use Rattle.node_laws.proofs.order.Lines.{IsSo}
@@ -60,16 +60,12 @@ takes_may (suc n) w e far many = (
   takes_may n (world_step w (Takes e)).0 e far (take_stands w e n far many),
 )
 
-damage_may : (w : NodeWorld) (e : End) (places : List ℕ) (wire : List OnWire) → frames_at w e ≡ wire
-    → AllMay MayTake w (happens_by e (first_verdict wire places))
-damage_may w e places wire here = grind arith
-
 line_takes : (w : NodeWorld) (l : Line) → IsSentByHost l → refusal_in w l ≡ None → AllMay MayTake w (happenings w l)
 line_takes w (line.Deliver e count) is none = by_test e.at_host
     (λ far. takes_may (taken_of count (frames_at w e)) w e far
     (λ s found on. let same = ap (λ (xs : List OnWire). length xs) (frames_far w e s far found) in omega (arith, taken_most count (frames_at w e), same)))
     (λ near. repeated_may MayTake (Takes e) (λ v far. absurd (true≢false (sym far ∙ near))) (taken_of count (frames_at w e)) w)
-line_takes w (line.Damage e places) is none = damage_may w e places.items (frames_at w e) refl
+line_takes w (line.Damage e places) is none = grind arith
 line_takes w (line.Tick times) is none = repeated_may MayTake Ticks (λ v. tt) (unwrap_or times 1) w
 line_takes w (line.Busy e) is none = tt
 line_takes w (line.Ready e) is none = tt
@@ -107,14 +103,11 @@ module _ (header : Header) (lines : List Line) (t : NodeHistory) (follows : Foll
       abbrev IsOff : Type 0
       IsOff = (s : Site) → site_at here.sites n ≡ Some s → s.node ≡ None
 
-      node_off : IsOff → node_at here n ≡ None
-      node_off all = by_option (site_at here.sites n) (λ q. rw off (rw q refl)) (λ s q. node_far here n s off q ∙ all s q)
-
       -- a host that doesn't run doesn't run behind what is noted of others
       off_short : (c : Happening) (es : List Entry) → IsOff → AreCalmAt n es → Short c es
       off_short c es all calm =
           short_off hosts past (record { cause = c; entries = es }) (end_h n)
-          (runs_calm n (entries_in past) es calm ∙ off_read n header lines t follows are sent few node past (o ∷ back) parts (node_off all))
+          (runs_calm n (entries_in past) es calm ∙ off_read n header lines t follows are sent few node past (o ∷ back) parts (grind arith))
 
       -- what is known of the world
       abbrev is_so : IsSo hosts past here

@@ -46,12 +46,9 @@ module _ (n : ℕ) where
   abbrev pub AreCalmAt : List Entry → Type 0
   AreCalmAt es = AllByRecursion IsCalmAt es
 
-  other_calm : (x : Entry) → is_of_node n x ≡ false → IsCalmAt x
-  other_calm x off = grind arith
-
   pub others_calm : (es : List Entry) → AreNotOf n es → AreCalmAt es
   others_calm [] a = tt
-  others_calm (x ∷ es) a = (other_calm x a.0, others_calm es a.1)
+  others_calm (x ∷ es) a = (grind arith, others_calm es a.1)
 
   -- frames
   frames_all : (h : ℕ) (notes : List Noted) → AllByRecursion IsFrame notes → AreCalmAt (entries_for h notes)
@@ -83,8 +80,7 @@ module _ (n : ℕ) where
   book_one b x calm = grind arith
 
   tables_calm : (t es : List Entry) → AreCalmAt es → tables_in (t ++ es) n ≡ tables_in t n
-  tables_calm t es calm =
-      ap (λ (b : Book). b.tables) (book_more t es n ∙ fold_calm (book_after n) book_one (book_in t n) es calm)
+  tables_calm t es calm = ap (λ (b : Book). b.tables) (book_more t es n ∙ fold_calm (book_after n) book_one (book_in t n) es calm)
 
   order_one : (x : Entry) → IsCalmAt x → IsSilent n x
   order_one x calm = grind arith
@@ -107,8 +103,7 @@ module _ (n : ℕ) where
 
   pub runs_calm : (s es : List Entry) → AreCalmAt es → runs_in (s ++ es) n ≡ runs_in s n
   runs_calm s [] calm = ap (λ l. runs_in l n) (append-nil s)
-  runs_calm s (x ∷ es) calm =
-      ap (λ l. runs_in l n) (sym (append_assoc s (x ∷ []) es)) ∙ (runs_calm (s ++ x ∷ []) es calm.1 ∙ runs_one s x calm.0)
+  runs_calm s (x ∷ es) calm = ap (λ l. runs_in l n) (sym (append_assoc s (x ∷ []) es)) ∙ (runs_calm (s ++ x ∷ []) es calm.1 ∙ runs_one s x calm.0)
 
   waits_one : (s : List Entry) (x : Entry) → IsCalmAt x → unhandled_in (s ++ x ∷ []) e ≡ unhandled_in s e
   waits_one s (entry.Held f need spare) calm = fold-append (unhandled_after e) [] s (entry.Held f need spare ∷ [])
@@ -169,11 +164,8 @@ module _ (n : ℕ) where
 -- behind those entries as behind these
 module _ (hosts : List ℕ) (n : ℕ) (off : eqb n 0 ≡ false) (t s : List Entry) (session : session_now s (end_h n) n ≡ session_now t (end_h n) n)
     (spares : spare_at s (end_h n) ≡ spare_at t (end_h n)) (errors : errors_in s (end_h n) ≡ errors_in t (end_h n)) where
-  at_end : end_of_number n n ≡ end_h n
-  at_end = rw off refl
-
   errors_same : errors_in s (end_of_number n n) ≡ errors_in t (end_of_number n n)
-  errors_same = subst (λ z. errors_in s z ≡ errors_in t z) (sym at_end) errors
+  errors_same = subst (λ z. errors_in s z ≡ errors_in t z) (sym (rw off refl)) errors
 
   spares_same : (j : ℕ) → spare_read hosts s n j ≡ spare_read hosts t n j
   spares_same j = grind arith
@@ -259,8 +251,7 @@ module _ (n : ℕ) (w : Work) (is : hosts_of_ends w.ports ≡ n ∷ []) (on : w.
 -- a host has no later end
 all_taken : (n : ℕ) (es : List Entry) → take_while (λ x. not (is_later (end_h n) x)) es ≡ es
 all_taken n [] = refl
-all_taken n (x ∷ es) =
-    take_while-cons (λ y. not (is_later (end_h n) y)) x es ∙ ap (λ l. x ∷ l) (all_taken n es)
+all_taken n (x ∷ es) = take_while-cons (λ y. not (is_later (end_h n) y)) x es ∙ ap (λ l. x ∷ l) (all_taken n es)
 
 module _ (hosts : List ℕ) (n : ℕ) (host : IsHost n) (past : List Occurrence) (cause : Happening) (i : Option Init)
     (begun : init_begun n (init_in past n) cause ≡ i) (lead rest : List Entry) (stays : reads_init n lead i ≡ i) (calm : AreCalmAt n rest)

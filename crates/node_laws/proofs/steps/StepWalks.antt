@@ -1,22 +1,21 @@
 -- What lasts over each thing that a node does lasts over its step: so do whitelists while a host is asked, and creations that wait allowed.
 use Rattle.std.proofs.lemmas.List.Sums.{sum_by-cons}
 use Rattle.node_laws.proofs.Words.{AllByRecursion, Answer, AreTables, Ask, Asks, AsksAsAllowed, Bool, Command, Commit, Commits, Core, Decision, Deed}
-use Rattle.node_laws.proofs.Words.{FetchMessage, HciTables, Hold, IsAllowedBy, IsAllowedFor, IsAllowedStill, IsAskedFor, IsCommand, IsTrue, LinkInput, LinkView}
-use Rattle.node_laws.proofs.Words.{List, MayWait, Message, OfDecision, Option, Plain, Port, Some, Sync, Tells, Work, [], after_sessions, all_done, all_false}
+use Rattle.node_laws.proofs.Words.{FetchMessage, HciTables, Hold, IsAllowedBy, IsAllowedFor, IsAllowedStill, IsCommand, IsTrue, LinkInput, LinkView, List}
+use Rattle.node_laws.proofs.Words.{MayWait, Message, OfDecision, Option, Plain, Port, Some, Sync, Tells, Work, [], after_sessions, all_done, all_false}
 use Rattle.node_laws.proofs.Words.{all_of_controller, answers_and_passes, anyone, ap, apply, arith, asked_at, body_in, by_option, by_test, changed_if}
 use Rattle.node_laws.proofs.Words.{cond_both, controller_deeds, decided, decided_as_allowed, decided_holds, deeds_of, done, end_of_node, eqb, false, filter}
 use Rattle.node_laws.proofs.Words.{forgets, goes_through_ends, handles, has, has_come, have_turns, holds_back, inl, inr, is_asked_at, is_forgotten, is_held}
-use Rattle.node_laws.proofs.Words.{is_kept, is_late, is_over, lack, lets_go, list_any, mask_of, needs, noting, option_map_or, param_in, passes, port_at, refl}
-use Rattle.node_laws.proofs.Words.{reset_late, subst, suc, sym, tests_to_clear, tests_to_set_it, true, turn_at, unless_cut, value_at, view_for, view_of}
-use Rattle.node_laws.proofs.Words.{with_desk, without_notice, zero, ℕ, ◌%◌, ◌&&◌, ◌*◌, ◌+◌, ◌/◌, ◌^◌, ◌∙◌, ◌∷◌, ◌≡◌, ◌≤◌, ◌⊎◌}
+use Rattle.node_laws.proofs.Words.{is_kept, is_late, is_over, lack, lets_go, list_any, mask_of, needs, noting, option_map_or, passes, port_at, refl, reset_late}
+use Rattle.node_laws.proofs.Words.{subst, suc, sym, tests_to_clear, tests_to_set_it, true, turn_at, unless_cut, value_at, view_for, view_of, with_desk}
+use Rattle.node_laws.proofs.Words.{without_notice, zero, ℕ, ◌%◌, ◌*◌, ◌+◌, ◌/◌, ◌^◌, ◌∙◌, ◌∷◌, ◌≡◌, ◌≤◌, ◌⊎◌}
 use Rattle.gate_admin.proofs.CreationLemmas.{AllFalse}
 use Rattle.gate_admin.specs.View.{hosts_where, is_asked}
 use Rattle.tables_laws.proofs.tables.Values.{values-apply}
 use Rattle.tables_laws.specs.gate.Rules.{EndsAtController}
 use Rattle.tables_laws.specs.tables.Changes.{told_value}
 use Rattle.whitelist.specs.Whitelist.{holds}
-use Rattle.node_laws.specs.steps.Creations.{AreAllowedDeeds, DeedLeavesWhitelist, IsAllowedDeed, IsBeingAsked, IsMaking, IsWaitedFor, LeavesWhitelist}
-use Rattle.node_laws.specs.steps.Creations.{WaitsForPipes}
+use Rattle.node_laws.specs.steps.Creations.{AreAllowedDeeds, DeedLeavesWhitelist, IsAllowedDeed, IsBeingAsked, IsWaitedFor, LeavesWhitelist, WaitsForPipes}
 use Rattle.trace_model.specs.declared.entry.Entry.TheVariants as entry
 
 -- ## What an input leaves of a port of a node, and of its core
@@ -233,13 +232,6 @@ Leaves x (Answer answer) = Unit {0}
 Leaves x (Commit command answer tell notice) = LeavesWhitelist x command
 Leaves x (Ask host notice command answer) = Unit {0}
 
--- a test that the host x is asked and sends the command itself refuses what it would do to itself
-own_one : (v : LinkView) (h x : ℕ) (b : Bool) → is_asked v x ≡ true → (b && is_asked v h) ≡ false → (eqb h x && b) ≡ false
-own_one v h x b asked refused = grind arith
-
-own_all : (v : LinkView) (h x : ℕ) → is_asked v x ≡ true → is_asked v h ≡ false → eqb h x ≡ false
-own_all v h x asked free = grind arith
-
 decided_leaves : (t : HciTables) (v : LinkView) (h pipe instruction x : ℕ) (body : List ℕ) → is_asked v x ≡ true
     → Leaves x (decided t v h pipe instruction body)
 unfolding AllFalse
@@ -248,20 +240,14 @@ decided_leaves t v h pipe instruction x body asked =
       opens = tt;
       closes = tt;
       sets = λ passed.
-          let none = all_false (tests_to_set_it v h body) passed in own_one v h x (eqb (param_in body) 3) asked none.1.1.1.1.0;
+          let none = all_false (tests_to_set_it v h body) passed in (grind arith);
       makes = λ _ controller. tt;
       asks = λ _ other. tt;
       deletes = λ _. tt;
-      clears = λ passed. let none = all_false (tests_to_clear t v h body) passed in own_all v h x asked none.1.0;
+      clears = λ passed. let none = all_false (tests_to_clear t v h body) passed in (grind arith);
     })
 
 -- ### Deeds
-
-making : (x : ℕ) (c : Command) → IsMaking c → LeavesWhitelist x c
-making x c is = grind arith
-
-plain_of_whitelists : (x : ℕ) → Plain (DeedLeavesWhitelist x)
-plain_of_whitelists x = record { sends = λ to x. tt; says_ok = tt; releases = λ asker. tt; is_answered = tt; drops = λ pid. tt }
 
 decision_fine_of_whitelists : (x h : ℕ) (d : Decision) → Leaves x d → OfDecision (DeedLeavesWhitelist x) h d
 decision_fine_of_whitelists x h (Answer answer) leaves = tt
@@ -279,17 +265,14 @@ pub whitelists_stay : (core : Core) (ports : List Port) (h : ℕ) (m : Message) 
     → AllByRecursion (DeedLeavesWhitelist x) (controller_deeds (view_of core ports) h m)
 whitelists_stay core ports h m x asked waits =
     let v : LinkView = view_for core.tables ports h in
-    all_of_controller (DeedLeavesWhitelist x) (plain_of_whitelists x) core ports h m
+    all_of_controller (DeedLeavesWhitelist x) (grind arith) core ports h m
     (λ n. decision_fine_of_whitelists x h (decided core.tables v h m.0 n (body_in m.1))
     (decided_leaves core.tables v h m.0 n x (body_in m.1) (seen core.tables ports h x asked)))
-    (λ p c here asks. making x c.command (waits p c here asks)) (λ errors n value command gate is. tt)
+    (λ p c here asks. grind arith) (λ errors n value command gate is. tt)
 
 -- ## Creations that wait stay allowed
 
 -- ### One command
-
-making_of_waits : (t : HciTables) (h : ℕ) (c : Command) → IsAllowedFor t h c → IsMaking c
-making_of_waits t h c is = grind arith
 
 -- the host is one from 01 to 07
 pub within : (t : HciTables) (h : ℕ) (c : Command) → IsAllowedFor t h c → (1 ≤ h) × (h ≤ 7)
@@ -302,13 +285,10 @@ same_list t u h c same is = grind arith
 at_once : (t : HciTables) (c : Command) → EndsAtController c → IsAllowedBy t c
 at_once t c ends = grind arith
 
-asked_for : (t : HciTables) (v : LinkView) (h to : ℕ) (c : Command) → IsAskedFor t v h to c → IsAllowedFor t to c
-asked_for t v h to c is = grind arith
-
 -- ### Hosts that are asked
 
 waits_for_pipes : (t : HciTables) (ports : List Port) (h : ℕ) → MayWait t ports → WaitsForPipes ports h
-waits_for_pipes t ports h may p c here asked = making_of_waits t h c.command (may h p c here asked)
+waits_for_pipes t ports h may p c here asked = grind arith
 
 -- ### A message
 
@@ -334,7 +314,7 @@ module _ (core : Core) (ports : List Port) (h : ℕ) (sorted : AreTables core.ta
         let host = within core.tables x made.command now in
         let seen : Asked ports = grind arith in
         same_list core.tables (apply core.tables c) x made.command (whitelist_left core.tables c x sorted command host.0 host.1 (leaves seen)) now
-  one (Asks to message creation) allowed leaves = asked_for core.tables (view_for core.tables ports h) h to creation.command allowed.0
+  one (Asks to message creation) allowed leaves = grind arith
   one _ allowed leaves = tt
 
   all_of : (deeds : List Deed) → AllByRecursion (IsAllowedDeed core.tables ports h) deeds → AllByRecursion (λ d. (x : Asked ports)
@@ -435,5 +415,4 @@ module _ (J : Work → Type 0) where
 
     pub rest_lasts : (freed syncs owing : List Deed) (w : Work) → AllByRecursion May freed → AllByRecursion May syncs → AllByRecursion May owing → J w
         → J (answers_and_passes freed syncs owing w)
-    rest_lasts freed syncs owing w f s o a =
-        rest May all_last (λ h v b. having h (got_at h v) v (l.come h v b) b) freed syncs owing w f s o a
+    rest_lasts freed syncs owing w f s o a = rest May all_last (λ h v b. having h (got_at h v) v (l.come h v b) b) freed syncs owing w f s o a

@@ -86,12 +86,9 @@ IsUncut _ = Unit {0}
 abbrev pub AreUncut : List Entry → Type 0
 AreUncut t = AllByRecursion IsUncut t
 
-one_uncut : (x : Entry) → IsPlain x → IsUncut x
-one_uncut x p = grind arith
-
 plain_uncut : (t : List Entry) → ArePlain t → AreUncut t
 plain_uncut [] a = tt
-plain_uncut (x ∷ t) a = (one_uncut x a.0, plain_uncut t a.1)
+plain_uncut (x ∷ t) a = (grind arith, plain_uncut t a.1)
 
 -- a turn of a node that fetches no message
 abbrev pub IsNoFetch : Turn → Type 0
@@ -109,17 +106,14 @@ module _ (Of : Work → Type 0)
     (loses : (writes : List Write) (w : Work) → Of w → Of (loses_power writes w)) where
   commits : (c : Command) (w : Work) → Of w → Of (commit c w)
   commits c w a = by_test (fails_within (length writes) w.plan)
-      (λ q. rw q (loses writes begun noted))
-      (λ q. rw q (beside begun (keeps c writes begun) refl refl refl refl noted))
+      (λ q. rw q (loses writes begun (note (entry.Command w.core.node c ∷ []) w (tt, tt) a)))
+      (λ q. rw q (beside begun (keeps c writes begun) refl refl refl refl (note (entry.Command w.core.node c ∷ []) w (tt, tt) a)))
     where
       writes : List Write
       writes = commit_writes w.core.journal w.core.tables (body_of c)
 
       begun : Work
       begun = noting (entry.Command w.core.node c ∷ []) w
-
-      noted : Of begun
-      noted = note (entry.Command w.core.node c ∷ []) w (tt, tt) a
 
   tells : (k : ℕ) (about : About) (message : List ℕ) (w : Work) → Of w → Of (notified k about message w)
   tells k about message w a =
@@ -211,8 +205,7 @@ module _ (Of : Work → Type 0)
   lost writes w a = grind arith
 
   pub all_do : (k : ℕ) (deeds : List Deed) (w : Work) → AreMute deeds → Of w → Of (all_done k deeds w)
-  all_do k deeds w i a =
-      all_last Of (λ es v s u b. note es v s b) desk turns (λ x v c n p q b. beside x v n p q b) lost k deeds w i a
+  all_do k deeds w i a = all_last Of (λ es v s u b. note es v s b) desk turns (λ x v c n p q b. beside x v n p q b) lost k deeds w i a
 
   pub rest : (freed syncs owing : List Deed) (w : Work) → AreMute freed → AreMute syncs → AreMute owing → Of w
       → Of (answers_and_passes freed syncs owing w)
@@ -261,8 +254,7 @@ at_changed [] h k g p keeps q = cc
 at_changed (x ∷ ports) h k g p keeps q = by_test (x.desk.host == h)
     (λ e. grind arith)
     (λ e. let rest : port_at ports h ≡ Some p = rw e at q in
-    let fails : (y.desk.host == h) ≡ false = same ∙ e in
-    rw fails (at_changed ports h k g p keeps rest))
+    rw (same ∙ e) (at_changed ports h k g p keeps rest))
   where
     y : Port
     y = changed_if (x.desk.host == k) g x

@@ -193,8 +193,7 @@ module _ (s : Site) (r : Running) (comes : Comes) (host : (s.host == 0) ≡ fals
 
   -- and nothing is told of any other link
   pub host_away : (h : ℕ) → (s.host == h) ≡ false → Away h HostStart
-  host_away h q =
-      record { none = none r.desks node.ends; told = of_other s.host h (arrival Host (exchanged s.link) comes) q }
+  host_away h q = record { none = none r.desks node.ends; told = of_other s.host h (arrival Host (exchanged s.link) comes) q }
     where
       none : (desks : List Desk) → map (λ (d : Desk). d.host) desks ≡ s.host ∷ []
           → port_at (ports_for (λ j. near_end_in (exchanged s.link) comes) desks) h ≡ None
@@ -334,8 +333,7 @@ tells_nothing : (h : ℕ) (l : Link) (t : List Entry) → of_link h t ≡ [] →
 tells_nothing h l t q = record { events = []; is = refl; told = q }
 
 pub tells_one : (h : ℕ) (l : Link) (e : LinkEvent) (t : List Entry) → TellOf h l e t → Tells h l (happens l e) t
-tells_one h l e t a =
-    record { events = e ∷ []; is = refl; told = a ∙ ap (λ z. of_link h (entries_for h z)) (sym (append-nil (event_entries l e))) }
+tells_one h l e t a = record { events = e ∷ []; is = refl; told = a ∙ ap (λ z. of_link h (entries_for h z)) (sym (append-nil (event_entries l e))) }
 
 pub after-append : (es fs : List LinkEvent) (l : Link) → after_link_events l (es ++ fs) ≡ after_link_events (after_link_events l es) fs
 after-append [] fs l = refl
@@ -364,8 +362,7 @@ tells_then h l m n t u a b =
 -- ### Worlds
 
 pub goes_not : (w : NodeWorld) (t : List Entry) → ((h : ℕ) → of_link h t ≡ []) → IsOrderly w → EachGoesSo w w t
-goes_not w t q a =
-    record { orderly = a; each = λ h s found. record { site = s; there = found; tells = tells_nothing h s.link t (q h) } }
+goes_not w t q a = record { orderly = a; each = λ h s found. record { site = s; there = found; tells = tells_nothing h s.link t (q h) } }
 
 pub goes_then : (w v u : NodeWorld) (t more : List Entry) → EachGoesSo w v t → EachGoesSo v u more → EachGoesSo w u (t ++ more)
 goes_then w v u t more a b =
@@ -382,11 +379,8 @@ pub site_map : (f : Site → Site) → ((s : Site) → (f s).host ≡ s.host) �
 site_map f keeps [] h s q = absurd (cc q)
 site_map f keeps (x ∷ sites) h s q = by_test (x.host == h)
     (λ e. grind arith)
-    (λ e. let fails : ((f x).host == h) ≡ false = same ∙ e in
+    (λ e. let fails : ((f x).host == h) ≡ false = (grind arith) ∙ e in
     rw fails (site_map f keeps sites h s (rw e at q)))
-  where
-    same : ((f x).host == h) ≡ (x.host == h)
-    same = ap (λ n. n == h) (keeps x)
 
 -- each site becomes another one
 module _ (w : NodeWorld) (memory : Memory) (controller : Option Running) (f : Site → Site) (keeps : (s : Site) → (f s).host ≡ s.host) where
@@ -399,8 +393,7 @@ module _ (w : NodeWorld) (memory : Memory) (controller : Option Running) (f : Si
       → AllByRecursion (λ (s : Site). IfItRuns s.host (s.host ∷ []) s.node) sites
       → AllByRecursion (λ (s : Site). IfItRuns s.host (s.host ∷ []) s.node) (map f sites)
   nodes_map one [] a = tt
-  nodes_map one (s ∷ sites) a =
-      (subst (λ (n : ℕ). IfItRuns n (n ∷ []) (f s).node) (sym (keeps s)) (one s a.0), nodes_map one sites a.1)
+  nodes_map one (s ∷ sites) a = (subst (λ (n : ℕ). IfItRuns n (n ∷ []) (f s).node) (sym (keeps s)) (one s a.0), nodes_map one sites a.1)
 
   pub orderly_map : IsOrderly w → IfItRuns 0 (hosts_in w.sites) controller
       → ((s : Site) → IfItRuns s.host (s.host ∷ []) s.node → IfItRuns s.host (s.host ∷ []) (f s).node)
@@ -433,11 +426,8 @@ module _ (w : NodeWorld) (memory : Memory) (controller : Option Running) (k : �
       → EachGoesSo w (record { memory = memory; controller = controller; sites = with_site k g w.sites }) t
   goes_site a runs nodes own others =
       goes_map w memory controller (λ (s : Site). changed_if (s.host == k) g s) (λ s. changed_host (s.host == k) g s (keeps s)) t a runs
-      (λ s node. node_here s node (s.host == k) refl) (λ h s found. here h s found (s.host == k) refl)
+      (λ s node. grind arith) (λ h s found. here h s found (s.host == k) refl)
     where
-      node_here : (s : Site) → IfItRuns s.host (s.host ∷ []) s.node → (b : Bool) → (s.host == k) ≡ b → IfItRuns s.host (s.host ∷ []) (changed_if b g s).node
-      node_here s node b q = grind arith
-
       here : (h : ℕ) (s : Site) → site_at w.sites h ≡ Some s → (b : Bool) → (s.host == k) ≡ b → Tells h s.link (changed_if b g s).link t
       here h s found true q =
           let is : k ≡ h = sym (eqb-true s.host k q) ∙ site_host w.sites h s found in
@@ -525,7 +515,7 @@ lost_goes_nothing w k g t keeps nodes links q a =
 pub memory_goes : (n : ℕ) (m : Memory) (w : NodeWorld) → IsOrderly w → EachGoesSo w (with_memory n m w) []
 memory_goes n m w a =
     by_memory (λ v. EachGoesSo w v []) n w m
-    (λ z. (grind arith))
+    (λ z. grind arith)
     (λ z. lost_goes_nothing w n (λ s. record s { memory = m }) [] (λ s. refl) (λ s e node. node) (λ s. refl) (λ h. refl) a)
 
 power_goes : (n : ℕ) (w : NodeWorld) → IsOrderly w → EachGoesSo w (loses_power_at n w) (entry.Cut n ∷ [])
@@ -557,7 +547,7 @@ boots_goes w n a =
     by_boot (λ p. EachGoesSo w p.0 p.1) w n
     (goes_then w written (loses_power_at n written) [] (entry.Cut n ∷ []) kept (power_goes n written kept.orderly))
     (goes_then w written (with_node n r written) [] (entry.Booted n (count_of r.core.journal) ∷ []) kept
-    (node_goes n r written (entry.Booted n (count_of r.core.journal) ∷ []) refl (new_ends (links_of w n) ∙ links) (λ h. refl) kept.orderly))
+    (node_goes n r written (entry.Booted n (count_of r.core.journal) ∷ []) refl (new_ends (links_of w n) ∙ (grind arith)) (λ h. refl) kept.orderly))
   where
     written : NodeWorld
     written = boot_written w n
@@ -570,10 +560,6 @@ boots_goes w n a =
 
     kept : EachGoesSo w written []
     kept = memory_goes n m w a
-
-    -- the links of a node are the same over a memory
-    links : links_of w n ≡ links_of written n
-    links = by_memory (λ v. links_of w n ≡ links_of v n) n w m (λ z. refl) (λ z. rw z refl)
 
 -- ### Losses
 

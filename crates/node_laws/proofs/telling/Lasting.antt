@@ -225,8 +225,7 @@ module _ (Holds : List Entry → NodeWorld → Type 0) (May : NodeWorld → Happ
 
   pub lines_hold : (lines : List Line) (t : List Entry) (w : NodeWorld) → Holds t w → AllByRecursion Is lines
       → AllHold t w (events_of_steps (steps_from w lines))
-  lines_hold lines t w all are =
-      lines_each (Behind t) May Is (goes_on_so t) line_may lines [] w (subst (λ z. Holds z w) (sym (append-nil t)) all) are
+  lines_hold lines t w all are = lines_each (Behind t) May Is (goes_on_so t) line_may lines [] w (subst (λ z. Holds z w) (sym (append-nil t)) all) are
 
   pub lines_last : (lines : List Line) (t : List Entry) (w : NodeWorld) → Holds t w → AllByRecursion Is lines
       → Holds (t ++ entries_of_steps (steps_from w lines)) (world_after w lines)
@@ -269,12 +268,11 @@ module _ (P K : List Entry → NodeWorld → Type 0)
   fronts_last done [] back is caused now = subst (λ l. P (entries_in l) (world_behind first l)) (sym (append-nil done)) now
   fronts_last done (o ∷ front) back is caused now =
       let w : NodeWorld = world_behind first done in
-      let next : P (entries_in done ++ o.entries) (world_step w o.cause).0 = grind arith in
       subst (λ l. P (entries_in l) (world_behind first l)) (append_assoc done (o ∷ []) front)
       (fronts_last (done ++ o ∷ []) front back (is ∙ sym (append_assoc done (o ∷ []) (front ++ back)))
       (subst (λ v. AreCaused Any v (front ++ back)) (sym (behind_push done o first)) caused.2)
       (subst (P (entries_in (done ++ o ∷ []))) (sym (behind_push done o first))
-      (subst (λ l. P l (world_step w o.cause).0) (sym (entries_one done o)) next)))
+      (subst (λ l. P l (world_step w o.cause).0) (sym (entries_one done o)) (grind arith))))
 
 -- ## Whatever lines are played, a world of nodes is orderly
 
@@ -351,8 +349,7 @@ step_orderly w (Arms n plan) a = (untimed_goes w (Arms n plan) tt a).orderly
 -- ### The beginning
 
 pub new_orderly : (hosts : List ℕ) → AreDifferent hosts → AllByRecursion (λ h. (h == 0) ≡ false) hosts → IsOrderly (new_world hosts)
-new_orderly hosts d a =
-    record { different = subst AreDifferent (sym (same hosts)) d; hosts = numbers hosts a; controller = tt; nodes = nodes hosts }
+new_orderly hosts d a = record { different = subst AreDifferent (sym (same hosts)) d; hosts = numbers hosts a; controller = tt; nodes = nodes hosts }
   where
     same : (hosts : List ℕ) → hosts_in (map (new_site (replicate 65536 255)) hosts) ≡ hosts
     same [] = refl

@@ -2,18 +2,16 @@
 use Rattle.node_laws.proofs.Words.{Acked, Active, AllByRecursion, AsksReset, AtEnd, Bool, Cause, Comes, Control, Core, Cut, CutOff, Deed, Desk, Down, Ending}
 use Rattle.node_laws.proofs.Words.{Entry, GaveUp, GoesOut, Got, HasTick, Link, LinkEnd, LinkInput, List, Loss, Message, NextFrame, NoInput, Node, NodeInput}
 use Rattle.node_laws.proofs.Words.{None, Noted, NumberedEnd, OnWire, Option, Port, Report, Reset, Restarted, Site, Some, Standing, Start, Starts, Stop, Stops}
-use Rattle.node_laws.proofs.Words.{Take, TimePasses, TooMany, Took, Turn, Work, Write, [], after_input, after_power, after_sessions, aged_entries, all_append}
-use Rattle.node_laws.proofs.Words.{all_come, all_owed, ap, append-nil, append_assoc, arith, begins_with, by_option, by_test, cond, ended_by, ending_entries}
-use Rattle.node_laws.proofs.Words.{ending_of, entries_for, entry_of, false, far, first_lost, flat_map, fold, fold-append, forgets, forgotten, frames_noted}
-use Rattle.node_laws.proofs.Words.{frames_out, if_so, input_at, input_entries, input_of, is_late, is_some, law_noted, left_after, length, loses_power, map}
-use Rattle.node_laws.proofs.Words.{nat_lt, noted_of, noting, number_of, of_link, option_map_or, option_to_list, own_side, port_at, pushed_out, put}
-use Rattle.node_laws.proofs.Words.{puts_entries, refl, report, rest_entries, silent, standing, standing_by_law, stands_noted, stands_told, step_entries, steps}
-use Rattle.node_laws.proofs.Words.{sym, synced, tells_of, tick_entries, times_out, told, told_at, told_late, told_of, took_with, true, turn, turn_at}
-use Rattle.node_laws.proofs.Words.{turn_entries, turn_entry, turned, whole_acked, wire_with, with_desk, with_ended, with_older, without_notice, without_power}
-use Rattle.node_laws.proofs.Words.{ℕ, ◌++◌, ◌∙◌, ◌∷◌, ◌≡◌}
+use Rattle.node_laws.proofs.Words.{Take, TimePasses, Took, Turn, Work, Write, [], after_input, after_power, after_sessions, aged_entries, all_append, all_come}
+use Rattle.node_laws.proofs.Words.{all_owed, ap, append-nil, append_assoc, arith, begins_with, by_option, by_test, cond, ended_by, ending_entries, ending_of}
+use Rattle.node_laws.proofs.Words.{entries_for, entry_of, false, far, first_lost, flat_map, fold, fold-append, forgets, forgotten, frames_noted, frames_out}
+use Rattle.node_laws.proofs.Words.{if_so, input_at, input_entries, input_of, is_late, is_some, law_noted, left_after, loses_power, map, nat_lt, noted_of}
+use Rattle.node_laws.proofs.Words.{noting, number_of, of_link, option_map_or, option_to_list, own_side, port_at, pushed_out, put, puts_entries, refl, report}
+use Rattle.node_laws.proofs.Words.{rest_entries, silent, standing, standing_by_law, stands_noted, stands_told, step_entries, steps, sym, synced, tells_of}
+use Rattle.node_laws.proofs.Words.{tick_entries, times_out, told, told_at, told_late, told_of, took_with, true, turn, turn_at, turn_entries, turn_entry, turned}
+use Rattle.node_laws.proofs.Words.{whole_acked, wire_with, with_desk, with_ended, with_older, without_notice, without_power, ℕ, ◌++◌, ◌∙◌, ◌∷◌, ◌≡◌}
 use Rattle.link_laws.specs.entries.Entries.{End as Side}
 use Rattle.link_laws.specs.entries.Entries.Entry.{Up}
-use Rattle.node_laws.proofs.steps.StepWalks.{sessions_node}
 use Rattle.node_laws.proofs.telling.Accounts.{AreMute, AreSilent, AreUncut, IsUncut, all_last, all_owed_mute, all_synced_mute, forgotten_mute, rest_lasts}
 use Rattle.node_laws.proofs.telling.Steps.{IsStep}
 use Rattle.trace_model.specs.declared.entry.Entry.TheVariants as entry
@@ -26,12 +24,9 @@ use Rattle.trace_model.specs.declared.entry.Entry.TheVariants as entry
 abbrev pub standing_said : ℕ → Standing → List Entry → Standing
 standing_said h x t = fold (stands_told h) x t
 
-one_uncut : (h : ℕ) (x : Standing) (e : Entry) → IsUncut e → stands_noted h x e ≡ stands_told h x e
-one_uncut h x e u = grind arith
-
 uncut_said : (h : ℕ) (t : List Entry) → AreUncut t → (x : Standing) → standing h x t ≡ standing_said h x t
 uncut_said h [] u x = refl
-uncut_said h (e ∷ t) u x = ap (λ y. standing h y t) (one_uncut h x e u.0) ∙ uncut_said h t u.1 (stands_told h x e)
+uncut_said h (e ∷ t) u x = ap (λ y. standing h y t) (grind arith) ∙ uncut_said h t u.1 (stands_told h x e)
 
 other_told : (h : ℕ) (x : Standing) (e : Entry) → tells_of h e ≡ false → stands_told h x e ≡ x
 other_told h x e q = grind arith
@@ -53,13 +48,10 @@ IsClear _ = Unit {0}
 abbrev pub AreClear : List Noted → Type 0
 AreClear notes = AllByRecursion IsClear notes
 
-one_clear : (h : ℕ) (x : Standing) (n : Noted) → IsClear n → law_noted h x n ≡ standing_said h x (entry_of h n)
-one_clear h x n c = grind arith
-
 clear_said : (h : ℕ) (notes : List Noted) → AreClear notes → (x : Standing) → standing_by_law h x notes ≡ standing_said h x (entries_for h notes)
 clear_said h [] c x = refl
 clear_said h (n ∷ notes) c x =
-    ap (λ y. standing_by_law h y notes) (one_clear h x n c.0)
+    ap (λ y. standing_by_law h y notes) (grind arith)
     ∙ (clear_said h notes c.1 (standing_said h x (entry_of h n))
     ∙ sym (fold-append (stands_told h) x (entry_of h n) (entries_for h notes)))
 
@@ -137,12 +129,9 @@ module _ (h n : ℕ) (off : Standing → Standing) (powers : (x : Standing) → 
             ∙ (ap (λ m. after_power h m (standing h x w.entries)) a.node
             ∙ (powers (standing h x w.entries)
             ∙ (ap off (a.stands x)
-            ∙ (gone w.cut (standing_said h x w.entries)
+            ∙ ((grind arith)
             ∙ ap off (sym (fold-append (stands_told h) x w.entries (entry.Cut w.core.node ∷ [])))))));
       }
-    where
-      gone : (b : Bool) (y : Standing) → off (cond b (off y) y) ≡ off y
-      gone b y = grind arith
 
   -- a node as a step begins
   fresh : (w : Work) → w.core.node ≡ n → w.cut ≡ false → AreUncut w.entries → Powered w
@@ -162,8 +151,7 @@ module _ (h n : ℕ) (off : Standing → Standing) (powers : (x : Standing) → 
 
   told_uncut : (core : Core) (p : Port) (o : Option LinkInput) → AreUncut (told_at core p o)
   told_uncut core p None = tt
-  told_uncut core p (Some i) =
-      entries_uncut p.desk.host (told (own_side core) p.session (report p.side i) (whole_acked (after_input p.side i)))
+  told_uncut core p (Some i) = entries_uncut p.desk.host (told (own_side core) p.session (report p.side i) (whole_acked (after_input p.side i)))
 
   late_uncut : (core : Core) (p : Port) → AreUncut (told_late core p)
   late_uncut core p = by_test (is_late p) (λ q. rw q (told_uncut core p (Some (Reset None)))) (λ q. rw q tt)
@@ -176,9 +164,6 @@ module _ (h n : ℕ) (off : Standing → Standing) (powers : (x : Standing) → 
       (all_append IsUncut w.entries _ u (uncut_flat (λ p. told_at w.core p (input_at TimePasses p)) (λ p. told_uncut w.core p (input_at TimePasses p)) w.ports))
       (uncut_flat (told_late w.core) (late_uncut w.core) (map with_older (all_come TimePasses w).ports))
 
-  came_cut : (input : NodeInput) (w : Work) → (times_out input (all_come input w)).cut ≡ w.cut
-  came_cut input w = grind arith
-
   came_core : (input : NodeInput) (w : Work) → (times_out input (all_come input w)).core ≡ w.core
   came_core input w = grind arith
 
@@ -187,10 +172,9 @@ module _ (h n : ℕ) (off : Standing → Standing) (powers : (x : Standing) → 
       let v : Work = times_out input (all_come input w) in
       let left : List Port = map (forgets v.ports) v.ports in
       let start : Work = record v { core = after_sessions v.core v.ports; ports = map without_notice left } in
-      let number : start.core.node ≡ n = sessions_node v.core v.ports ∙ (ap (λ (c : Core). c.node) (came_core input w) ∙ node) in
       rest_lasts Powered note desk turns beside loses (forgotten v.ports) (flat_map (synced w.core input) w.ports) (all_owed left) start
       (forgotten_mute v.ports) (all_synced_mute w.core input w.ports) (all_owed_mute left)
-      (fresh start number (came_cut input w ∙ cut) (came_uncut input w uncut))
+      (fresh start (grind arith) ((grind arith) ∙ cut) (came_uncut input w uncut))
 
 -- ## Where a fact holds of each kind of note, it holds of all that is told of an input that comes to an end
 
@@ -214,8 +198,7 @@ module _ (P : Noted → Type 0) (who : Side) (n acked : ℕ) (up : P (Up who n))
       (all_append P (if_so (nat_lt 0 r.acked) (Acked who n acked)) _ (so (nat_lt 0 r.acked) (Acked who n acked) some_acked) (each (Got who n) got r.got))))
 
   pub told_all : ((cause : Cause) → P (Down who cause)) → (r : Report) → AllByRecursion P (told who n r acked)
-  told_all down r =
-      all_append P (map (Down who) (option_to_list r.ended)) _ (each (Down who) down (option_to_list r.ended)) (rest_all r)
+  told_all down r = all_append P (map (Down who) (option_to_list r.ended)) _ (each (Down who) down (option_to_list r.ended)) (rest_all r)
 
 -- ## What the law of one link notes of a step ends with a cut exactly where the step does, and tells of no other one
 -- So how the link stands by that law is read off the step of a node.
@@ -231,24 +214,18 @@ clear-append (x ∷ xs) ys a b = (a.0, clear-append xs ys a.1 b)
 pub clear_told : (who : Side) (n : ℕ) (r : Report) (acked : ℕ) → AreClear (told who n r acked)
 clear_told who n r acked = told_all IsClear who n acked tt tt (λ k. tt) tt (λ m. tt) (λ c. tt) r
 
-clear_turn : (who : Side) (n : ℕ) (e : LinkEnd) (t : Turn) → AreClear (turn_entry who n e t)
-clear_turn who n e t = grind arith
-
 pub clear_turns : (who : Side) (n : ℕ) (e : LinkEnd) (ts : List Turn) → AreClear (turn_entries who n e ts)
 clear_turns who n e [] = tt
-clear_turns who n e (t ∷ ts) = clear-append (turn_entry who n e t) (turn_entries who n (turn e t) ts) (clear_turn who n e t) (clear_turns who n (turn e t) ts)
+clear_turns who n e (t ∷ ts) = clear-append (turn_entry who n e t) (turn_entries who n (turn e t) ts) (grind arith) (clear_turns who n (turn e t) ts)
 
 pub clear_lost : (who : Side) (why : Loss) (xs : List OnWire) → AreClear (first_lost who why xs)
 clear_lost who why xs = grind arith
-
-clear_pushed : (who : Side) (wire : List OnWire) → AreClear (pushed_out who wire)
-clear_pushed who wire = by_test (nat_lt 64 (length wire)) (λ q. rw q (clear_lost who TooMany wire)) (λ q. rw q tt)
 
 clear_puts : (who : Side) (l : Link) (cs : List Control) → AreClear (puts_entries who l cs)
 clear_puts who l [] = tt
 clear_puts who l (c ∷ cs) = (
   tt,
-  clear-append (pushed_out (far who) (wire_with l c)) (puts_entries who (put l c) cs) (clear_pushed (far who) (wire_with l c))
+  clear-append (pushed_out (far who) (wire_with l c)) (puts_entries who (put l c) cs) (grind arith)
       (clear_puts who (put l c) cs),
 )
 
@@ -353,14 +330,6 @@ shaped_step who l Stops ts ending o q c =
     }
 shaped_step who l NoInput ts ending o q c = record { rest = _; shaped = shaped_rest who l l.controller.side ts ending; is = refl }
 
-opened_same : (h : ℕ) (who : Side) (comes : Comes) (notes rest : List Noted) → notes ≡ opened_by who comes ++ rest
-    → of_link h (entries_for h notes) ≡ of_link h (entries_for h rest)
-opened_same h who comes notes rest q = grind arith
-
-pub opened_stands : (h : ℕ) (who : Side) (comes : Comes) (notes rest : List Noted) → notes ≡ opened_by who comes ++ rest → (x : Standing)
-    → standing_by_law h x notes ≡ standing_by_law h x rest
-opened_stands h who comes notes rest q x = grind arith
-
 -- ### Nodes
 
 -- how a link stands behind notes that end so
@@ -373,18 +342,12 @@ body_said : (h : ℕ) (who : Side) (ending : Ending) (notes : List Noted) (s : I
     → standing_said h x (entries_for h notes) ≡ standing_by_law h x s.body
 body_said h who ending notes s x =
     ap (λ z. standing_said h x (entries_for h z)) s.is
-    ∙ (flat ending
+    ∙ ((ap (standing_said h x) (split s.body ending))
     ∙ sym (clear_said h s.body s.clear x))
   where
-    silent_last : (e : Ending) → entries_for h (last_of who e) ≡ []
-    silent_last e = grind arith
-
     split : (b : List Noted) (e : Ending) → entries_for h (b ++ last_of who e) ≡ entries_for h b
-    split [] e = silent_last e
+    split [] e = grind arith
     split (y ∷ b) e = ap (λ z. entry_of h y ++ z) (split b e)
-
-    flat : (e : Ending) → standing_said h x (entries_for h (s.body ++ last_of who e)) ≡ standing_said h x (entries_for h s.body)
-    flat e = ap (standing_said h x) (split s.body e)
 
 pub twice : (who : Side) (x : Standing) → without_power who (without_power who x) ≡ without_power who x
 twice who x = grind arith
@@ -410,9 +373,6 @@ module _ (h n : ℕ) (who : Side) (powers : (x : Standing) → after_power h n x
       ∙ (sym (fold-append (stands_told h) x w.entries frames)
       ∙ (said_is ∙ sym (law_is false q))))))
     where
-      ends : Bool → Ending
-      ends b = cond b CutOff GoesOut
-
       by_body : Standing
       by_body = standing_by_law h x s.body
 
@@ -421,8 +381,8 @@ module _ (h n : ℕ) (who : Side) (powers : (x : Standing) → after_power h n x
           said_of_link h (w.entries ++ frames) x
           ∙ (ap (standing_said h x) told ∙ (sym (said_of_link h (entries_for h notes) x) ∙ body_said h who (ending_of w) notes s x))
 
-      law_is : (b : Bool) → w.cut ≡ b → standing_by_law h x notes ≡ standing_by_law h by_body (last_of who (ends b))
-      law_is b q = law_last h who (ending_of w) notes s x ∙ ap (λ c. standing_by_law h by_body (last_of who (ends c))) q
+      law_is : (b : Bool) → w.cut ≡ b → standing_by_law h x notes ≡ standing_by_law h by_body (last_of who (cond b CutOff GoesOut))
+      law_is b q = law_last h who (ending_of w) notes s x ∙ ap (λ c. standing_by_law h by_body (last_of who (cond c CutOff GoesOut))) q
 
       here : Bool → Standing
       here b = cond b (without_power who (standing_said h x w.entries)) (standing_said h x w.entries)
@@ -430,21 +390,17 @@ module _ (h n : ℕ) (who : Side) (powers : (x : Standing) → after_power h n x
   -- so it is with the step of an end
   pub comes_stands : (comes : Comes) (notes : List Noted) → IsStepShaped who comes (ending_of w) notes
       → of_link h (w.entries ++ frames) ≡ of_link h (entries_for h notes) → (x : Standing) → standing h x (w.entries ++ frames) ≡ standing_by_law h x notes
-  comes_stands comes notes s told x =
-      step_stands s.rest s.shaped (told ∙ opened_same h who comes notes s.rest s.is) x ∙ sym (opened_stands h who comes notes s.rest s.is x)
+  comes_stands comes notes s told x = step_stands s.rest s.shaped (told ∙ (grind arith)) x ∙ sym (grind arith)
 
 -- a step of a node that has no end on the link
 pub step_away : (h n : ℕ) (powers : (x : Standing) → after_power h n x ≡ x) (w : Work) (frames : List Entry) → Powered h n (λ x. x) powers (λ x. refl) w
     → AreUncut frames → of_link h (w.entries ++ frames) ≡ [] → (x : Standing) → standing h x (w.entries ++ frames) ≡ x
 step_away h n powers w frames a uncut none x =
     fold-append (stands_noted h) x w.entries frames
-    ∙ (ap (λ y. standing h y frames) (a.stands x ∙ same w.cut (standing_said h x w.entries))
+    ∙ (ap (λ y. standing h y frames) (a.stands x ∙ (grind arith))
     ∙ (uncut_said h frames uncut (standing_said h x w.entries)
     ∙ (sym (fold-append (stands_told h) x w.entries frames)
     ∙ (said_of_link h (w.entries ++ frames) x ∙ ap (standing_said h x) none))))
-  where
-    same : (b : Bool) (y : Standing) → cond b y y ≡ y
-    same b y = grind arith
 
 -- ### Frames
 

@@ -23,11 +23,8 @@ pub at_map : (f : Port → Port) → ((p : Port) → (f p).desk.host ≡ p.desk.
 at_map f keeps [] h p q = cc
 at_map f keeps (x ∷ ports) h p q = by_test (x.desk.host == h)
     (λ e. grind arith)
-    (λ e. let passed : ((f x).desk.host == h) ≡ false = same ∙ e in
+    (λ e. let passed : ((f x).desk.host == h) ≡ false = (grind arith) ∙ e in
     rw passed (at_map f keeps ports h p (rw e at q)))
-  where
-    same : ((f x).desk.host == h) ≡ (x.desk.host == h)
-    same = ap (λ n. n == h) (keeps x)
 
 pub none_map : (f : Port → Port) → ((p : Port) → (f p).desk.host ≡ p.desk.host) → (ports : List Port) (h : ℕ) → port_at ports h ≡ None
     → port_at (map f ports) h ≡ None
@@ -169,10 +166,9 @@ module _ (h : ℕ) (who : Side) (turns : List Turn) (ending : Ending) where
       let is : f ≡ i = cc in
       let b : Bool = is_some (ended_by l.controller.side f) in
       let m : Link = record l { to_controller = xs } in
-      let number : number_of (left_after k x xs).controller ≡ number_of (near_end_in k NextFrame) = grind arith in
       let all : IsParts NextFrame (Some f) k =
       ap (λ z. entries_for h (arrival who k NextFrame ++ (told_of who (near_end_in k NextFrame) f ++ z)))
-      (rest_is who (left_after k x xs) k (number_of (near_end_in k NextFrame)) (after_input l.controller.side f) turns ending number
+      (rest_is who (left_after k x xs) k (number_of (near_end_in k NextFrame)) (after_input l.controller.side f) turns ending (grind arith)
       (record { to_host = (ended_alike m b).to_host; resets = (ended_alike m b).resets })) in
       subst (λ (j : LinkInput). IsParts NextFrame (Some j) k) is all
     where
@@ -328,17 +324,8 @@ without_same p = grind arith
 pub forgets_same : (ports : List Port) (p : Port) → SameEnd p (forgets ports p)
 forgets_same ports p = grind arith
 
-pub come_session : (p : Port) (o : Option LinkInput) → (has_come p o).session ≡ p.session
-come_session p o = grind arith
-
-come_late : (p : Port) (o : Option LinkInput) → (has_come p o).late ≡ p.late
-come_late p o = grind arith
-
 pub come_turns : (p : Port) (o : Option LinkInput) → (has_come p o).turns ≡ p.turns
 come_turns p o = grind arith
-
-come_side : (p : Port) (o : Option LinkInput) → (has_come p o).side ≡ after_coming p.side o
-come_side p o = grind arith
 
 pub sessions_side : (core : Core) (ports : List Port) → own_side (after_sessions core ports) ≡ own_side core
 sessions_side core ports = by_test (list_any is_over ports) (λ q. rw q refl) (λ q. rw q refl)
@@ -379,9 +366,9 @@ module _ (h : ℕ) (who : Side) (l : Link) (comes : Comes) (o : Option LinkInput
         port = last;
         here = at_map without_notice without_host _ h left (at_map (forgets ports) (forgets_host ports) _ h come
             (at_map (λ p. has_come p (input_at input p)) (λ p. come_host p (input_at input p)) w.ports h p a.here));
-        session = session_is ∙ a.session;
-        late_is = (without_same left).late ∙ ((forgets_same ports come).late ∙ (come_late p (input_at input p) ∙ a.late));
-        is = side_is;
+        session = ((without_same left).session ∙ ((forgets_same ports come).session ∙ (grind arith))) ∙ a.session;
+        late_is = (without_same left).late ∙ ((forgets_same ports come).late ∙ ((grind arith) ∙ a.late));
+        is = ((without_same left).side ∙ ((forgets_same ports come).side ∙ ((grind arith) ∙ ap (turned e) (sym turns_are))));
         told = told_is;
       }
     where
@@ -400,20 +387,11 @@ module _ (h : ℕ) (who : Side) (l : Link) (comes : Comes) (o : Option LinkInput
       last : Port
       last = without_notice left
 
-      session_is : last.session ≡ p.session
-      session_is = (without_same left).session ∙ ((forgets_same ports come).session ∙ come_session p (input_at input p))
-
       turns_are : last.turns ≡ []
       turns_are = (without_same left).turns ∙ ((forgets_same ports come).turns ∙ (come_turns p (input_at input p) ∙ a.turns))
 
       e : LinkEnd
       e = after_coming (near_end_in l comes).side o
-
-      come_is : come.side ≡ e
-      come_is = come_side p (input_at input p) ∙ (ap (after_coming p.side) q ∙ ap (λ z. after_coming z o) a.is)
-
-      side_is : last.side ≡ turned e last.turns
-      side_is = (without_same left).side ∙ ((forgets_same ports come).side ∙ (come_is ∙ ap (turned e) (sym turns_are)))
 
       -- what is noted as something comes
       one : (x : Option LinkInput) → told_at w.core p x ≡ entries_for h (told_coming who (near_end_in l comes) x)

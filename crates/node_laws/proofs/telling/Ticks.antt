@@ -2,11 +2,11 @@
 use Rattle.node_laws.proofs.Words.{AllByRecursion, AreDifferent, Asked, AsksReset, Bool, Cause, Comes, Control, Core, Cut, CutOff, Down, Emit, EndState, Ending}
 use Rattle.node_laws.proofs.Words.{Entry, GoesOut, Link, LinkEnd, LinkInput, List, Loss, Lost, NoInput, None, Noted, OnWire, Option, Port, Reset, Some, Tick}
 use Rattle.node_laws.proofs.Words.{TimePasses, TooMany, TooOld, Took, Up, Waiting, Work, [], after_input, after_sessions, aged_entries, all_append, all_come}
-use Rattle.node_laws.proofs.Words.{all_owed, ap, append-nil, arith, arrival, by_option, by_test, ended_by, ending_entries, entries_for, eqb-true, false, far}
+use Rattle.node_laws.proofs.Words.{all_owed, ap, append-nil, arith, arrival, by_option, by_test, ended_by, ending_entries, entries_for, eqb-true, false}
 use Rattle.node_laws.proofs.Words.{first_lost, flat_map, forgets, forgotten, frames_out, has_come, in_front, is_due, is_late, is_open, is_some, map, nat_le}
-use Rattle.node_laws.proofs.Words.{nat_lt, no_session, number_of, of_link, own_side, port_at, pushed_out, put, put_entries, puts_entries, refl, report}
-use Rattle.node_laws.proofs.Words.{reset_late, steps, subst, sym, synced, tick_answer, ticked, times_out, told, told_at, told_late, told_of, true, turn_entries}
-use Rattle.node_laws.proofs.Words.{whole_acked, whole_among, wire_with, with_older, without_notice, ℕ, ◌++◌, ◌+◌, ◌-◌, ◌==◌, ◌∙◌, ◌∷◌, ◌≡◌}
+use Rattle.node_laws.proofs.Words.{nat_lt, no_session, number_of, of_link, own_side, port_at, put, put_entries, puts_entries, refl, report, reset_late, steps}
+use Rattle.node_laws.proofs.Words.{subst, sym, synced, tick_answer, ticked, times_out, told, told_at, told_late, told_of, true, turn_entries, whole_acked}
+use Rattle.node_laws.proofs.Words.{whole_among, with_older, without_notice, ℕ, ◌++◌, ◌+◌, ◌-◌, ◌==◌, ◌∙◌, ◌∷◌, ◌≡◌}
 use Rattle.link_laws.specs.entries.Entries.{End as Side}
 use Rattle.shdlc_core.specs.declared.answers.Due.TheVariants.{Rset as Rset_due}
 use Rattle.node_laws.proofs.kept.Doing.{hosts_map}
@@ -40,13 +40,9 @@ module _ (P : Noted → Type 0) where
 
   module _ (emit : (who : Side) (c : Control) → P (Emit who c)) (full : (who : Side) (c : Control) → P (Lost who c TooMany))
       (cut : (who : Side) → P (Cut who)) where
-    pushed_all : (who : Side) (wire : List OnWire) → All (pushed_out who wire)
-    pushed_all who wire = grind arith
-
     puts_all : (who : Side) (l : Link) (cs : List Control) → All (puts_entries who l cs)
     puts_all who l [] = tt
-    puts_all who l (c ∷ cs) =
-        all_append P (put_entries who l c) (puts_entries who (put l c) cs) (emit who c, pushed_all (far who) (wire_with l c)) (puts_all who (put l c) cs)
+    puts_all who l (c ∷ cs) = all_append P (put_entries who l c) (puts_entries who (put l c) cs) (emit who c, grind arith) (puts_all who (put l c) cs)
 
     pub ending_all : (who : Side) (l : Link) (e : LinkEnd) (ending : Ending) → All (ending_entries who l e ending)
     ending_all who l e GoesOut = puts_all who l (frames_out e)
@@ -67,9 +63,6 @@ record IsLeft (s t : EndState) : Type 0 where
   window : t.own_window ≡ s.own_window
   ready : t.ready ≡ s.ready
   acked : t.session.acked ≡ s.session.acked
-
-left_of_late : (s : EndState) → s.phase ≡ Up → is_some (tick_answer s).ended ≡ false → IsLeft s (ticked s)
-left_of_late s up lasts = grind arith
 
 -- the end of a link that was up and waits after a reset with its own window
 abbrev waits_so : LinkEnd → ℕ → Bool → LinkEnd
@@ -104,7 +97,7 @@ module _ (e : LinkEnd) (a : IsLasting e) where
   answer = let on = a.active in rw on at a.goes_on
 
   is_left : IsLeft e.shdlc (ticked e.shdlc)
-  is_left = left_of_late e.shdlc a.up answer
+  is_left = grind arith
 
   tick_is : after_input e Tick ≡ record e { shdlc = ticked e.shdlc }
   tick_is = let on = a.active in let lasts = answer in rw (on, lasts) refl
@@ -151,9 +144,6 @@ late_parts p late = grind arith
 
 reset_same_end : (p : Port) → is_late p ≡ false → SameEnd p (reset_late p)
 reset_same_end p q = rw q (record { session = refl; late = refl; side = refl; turns = refl })
-
-pub reset_session : (p : Port) → (reset_late p).session ≡ p.session
-reset_session p = by_test (is_late p) (λ q. rw q refl) (λ q. rw q refl)
 
 pub reset_turns : (p : Port) → (reset_late p).turns ≡ p.turns
 reset_turns p = by_test (is_late p) (λ q. rw q refl) (λ q. rw q refl)
@@ -210,9 +200,6 @@ module _ (h : ℕ) (who : Side) (l : Link) where
     turns_are : last.turns ≡ []
     turns_are = (without_same left).turns ∙ ((forgets_same ports come).turns ∙ (reset_turns (older p) ∙ a.turns))
 
-    session_is : last.session ≡ number_of l.controller
-    session_is = (without_same left).session ∙ ((forgets_same ports come).session ∙ (reset_session (older p) ∙ a.session))
-
     -- what is told of an input to its end
     one : (i : LinkInput) (q : Port) (e : LinkEnd) → q.desk.host ≡ h → q.session ≡ number_of l.controller → q.side ≡ e
         → told_at w.core q (Some i) ≡ entries_for h (told who (number_of l.controller) (report e i) (whole_acked (after_input e i)))
@@ -249,18 +236,16 @@ module _ (h : ℕ) (who : Side) (l : Link) where
 
     pub in_time : is_late (older p) ≡ false → TickedOfTicks false begun
     in_time q =
-        let same : SameEnd (older p) come = reset_same_end (older p) q in
-        let e : LinkEnd = after_input l.controller.side Tick in
         let t : List Entry = of_link h (entries_for h (told_of who l.controller Tick)) in
         let none : told_late w.core (older p) ≡ [] = rw q refl in
         record {
           side = sessions_side w.core ports ∙ a.side;
           port = last;
           here = last_here;
-          session = session_is;
-          late_is = (without_same left).late ∙ ((forgets_same ports come).late ∙ (same.late ∙ a.late));
+          session = ((without_same left).session ∙ ((forgets_same ports come).session ∙ ((grind arith) ∙ a.session)));
+          late_is = (without_same left).late ∙ ((forgets_same ports come).late ∙ ((reset_same_end (older p) q).late ∙ a.late));
           is = (without_same left).side ∙ (grind arith);
-          told = noted_all ∙ (ap (λ z. t ++ of_link h z) none ∙ (append-nil t ∙ begins_with_turns e t));
+          told = noted_all ∙ (ap (λ z. t ++ of_link h z) none ∙ (append-nil t ∙ begins_with_turns (after_input l.controller.side Tick) t));
         }
 
     pub too_late : is_late (older p) ≡ true → IfLate true l.controller.side → TickedOfTicks true begun
@@ -271,7 +256,6 @@ module _ (h : ℕ) (who : Side) (l : Link) where
         let e : LinkEnd = after_input side (Reset None) in
         let n : ℕ = number_of l.controller in
         let t : List Entry = of_link h (entries_for h (told_of who l.controller (Reset None))) in
-        let come_late : come.late ≡ true = rw q refl in
         let come_side : come.side ≡ after_input (after_input p.side Tick) (Reset None) = rw q refl in
         let told_is : told_late w.core (older p) ≡ told_at w.core (older p) (Some (Reset None)) = rw q refl in
         let first : of_link h (entries_for h (told_of who l.controller Tick)) ≡ [] = ap (λ z. of_link h (entries_for h z)) (tick_told side lasting who n) in
@@ -283,8 +267,8 @@ module _ (h : ℕ) (who : Side) (l : Link) where
           side = sessions_side w.core ports ∙ a.side;
           port = last;
           here = last_here;
-          session = session_is;
-          late_is = (without_same left).late ∙ ((forgets_same ports come).late ∙ come_late);
+          session = ((without_same left).session ∙ ((forgets_same ports come).session ∙ ((grind arith) ∙ a.session)));
+          late_is = (without_same left).late ∙ ((forgets_same ports come).late ∙ (rw q refl));
           is = (without_same left).side ∙ ((forgets_same ports come).side ∙ (grind arith));
           told = noted_all ∙ (ap (λ z. z ++ of_link h (told_late w.core (older p))) first ∙ (second ∙ begins_with_turns e t));
         }

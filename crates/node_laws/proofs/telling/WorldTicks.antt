@@ -57,9 +57,8 @@ module _ (h : ℕ) where
   other_host x host a q =
       by_host_tick (λ p. of_link h p.1 ≡ []) x (λ none. refl)
       (λ n runs.
-      let b : HasEnds x.host (x.host ∷ []) n = subst (IfItRuns x.host (x.host ∷ [])) runs a in
       let k : Work = host_tick x n in
-      let away : Away h k = away_tick h (work_of n x.memory.plan (λ j. x.link.host) []) (host_away x n NoInput host b h q) in
+      let away : Away h k = away_tick h (work_of n x.memory.plan (λ j. x.link.host) []) (host_away x n NoInput host (grind arith) h q) in
       of-append h k.entries (frames_noted Host x.host (exchanged x.link) k)
       ∙ (ap (λ t. t ++ of_link h (frames_noted Host x.host (exchanged x.link) k)) away.told ∙ frames_of h x.host Host (exchanged x.link) k q))
 
@@ -69,11 +68,10 @@ module _ (h : ℕ) where
   other_leaves x host a q y =
       by_host_tick (λ p. of_link h p.1 ≡ [] → standing h y p.1 ≡ y) x (λ none told. refl)
       (λ n runs told.
-      let b : HasEnds x.host (x.host ∷ []) n = subst (IfItRuns x.host (x.host ∷ [])) runs a in
       let k : Work = host_tick x n in
       step_away h x.host (other_power x.host h host q) k (frames_noted Host x.host (exchanged x.link) k)
       (steps_powered h x.host (λ z. z) (other_power x.host h host q) (λ z. refl) TimePasses
-      (work_of n x.memory.plan (λ j. x.link.host) []) b.number refl tt)
+      (work_of n x.memory.plan (λ j. x.link.host) []) (subst (IfItRuns x.host (x.host ∷ [])) runs a).number refl tt)
       (own_frames Host x.host (exchanged x.link) k).0 told y)
       (other_host x host a q)
 
@@ -431,9 +429,8 @@ module _ (w : NodeWorld) (h : ℕ) (s : Site) (orderly : IsOrderly w) (found : s
 
   far_told : of_link h (hosts_tick (controller_ticks old).0.sites).1 ≡ of_link h (entries_for h far_notes)
   far_told =
-      let P : ℕ → Type 0 = λ m. of_link m (host_ticks mine).1 ≡ of_link m (entries_for m far_notes) in
       hosts_only h (controller_ticks old).0.sites mine (ticked_orderly w orderly).different (ticked_orderly w orderly).hosts (ticked_orderly w orderly).nodes
-      first.there ∙ subst P number second.told
+      first.there ∙ subst (λ m. of_link m (host_ticks mine).1 ≡ of_link m (entries_for m far_notes)) number second.told
 
   told_all : of_link h (world_ticks w).1 ≡ of_link h (entries_for h (aged_notes s ++ (near_notes first.late (aged s.link) first.had ++ far_notes)))
   told_all =
@@ -498,10 +495,6 @@ module _ (w : NodeWorld) (h : ℕ) (s : Site) (orderly : IsOrderly w) (found : s
       ap (λ z. of_link h (entries_for h z)) (append_assoc (aged_entries Controller l.to_controller) (aged_entries Host l.to_host)
       (near_notes false (aged l) c ++ tick_entries Host (exchanged (between false (aged l) c)) n))
 
-  happens_is : (b : Bool) (l : Link) (c n : Node)
-      → happens l (tick_event b c n) ≡ exchanged (ticks_at_controller (exchanged (between b (aged l) c)) n.turns n.ending)
-  happens_is b l c n = grind arith
-
   pub ticking : Ticking w h s
   ticking = record {
     late = first.late;
@@ -512,7 +505,7 @@ module _ (w : NodeWorld) (h : ℕ) (s : Site) (orderly : IsOrderly w) (found : s
     ready = first.ready;
     near_there = first.there;
     there = hosts_at h (controller_ticks old).0.sites mine first.there;
-    is = happens_is first.late s.link first.had second.had ∙ sym second.is;
+    is = (grind arith) ∙ sym second.is;
     told = told_all ∙ event_told first.late s.link first.had second.had;
     stands = λ x. stands_all x ∙ event_stands first.late s.link first.had second.had x;
   }

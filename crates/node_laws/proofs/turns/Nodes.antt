@@ -144,14 +144,10 @@ module _ (w : NodeWorld) (c : Option Running) (k : ℕ) (g : Site → Site) (t :
   there : (s : Site) → site_at w.sites k ≡ Some s → (h : ℕ) (x : Site) → site_at w.sites h ≡ Some x → (P : Site → Type 0)
       → (h ≡ k → s ≡ x → P (g x)) → ((k == h) ≡ false → P x) → P (f x)
   there s found h x q P mine other = by_test (x.host == k)
-      (λ e. let is : h ≡ k = sym here ∙ eqb-true x.host k e in
+      (λ e. let is : h ≡ k = sym (site_host w.sites h x q) ∙ eqb-true x.host k e in
       let same : Some x ≡ Some s = sym q ∙ (ap (site_at w.sites) is ∙ found) in
-      let one : s ≡ x = cc in
-      rw e (mine is one))
-      (λ e. rw e (other (swapped h k (ap (λ n. n == k) (sym here) ∙ e))))
-    where
-      here : x.host ≡ h
-      here = site_host w.sites h x q
+      rw e (mine is cc))
+      (λ e. rw e (other (swapped h k (ap (λ n. n == k) (sym (site_host w.sites h x q)) ∙ e))))
 
   site_moves : (s : Site) → site_at w.sites k ≡ Some s → SiteGoes s (g s) t → AllMove w After t
   site_moves s found a false h q x = record {
@@ -159,19 +155,16 @@ module _ (w : NodeWorld) (c : Option Running) (k : ℕ) (g : Site → Site) (t :
     goes = a.others (end_c h) (and-false (s.host == h)) q;
     waits = sites_is f same_host w.sites h (NearWaits c q) (λ z. tt)
         (λ y z.
-        let was : ByPower (is_some w.controller) q y.link.controller.side.got = subst (NearWaits w.controller q) z x in
-        let now : ByPower (is_some c) q y.link.controller.side.got = subst (λ b. ByPower b q y.link.controller.side.got) (sym power) was in
         there s found h y z (λ v. ByPower (is_some c) q v.link.controller.side.got)
         (grind arith)
-        (λ off. now));
+        (λ off. (subst (λ b. ByPower b q y.link.controller.side.got) (sym power) (grind arith))));
   }
   site_moves s found a true h q x = by_test (k == h)
       (λ e. let is : k ≡ h = eqb-true k h e in
-      let here : site_at w.sites h ≡ Some s = ap (site_at w.sites) (sym is) ∙ found in
-      let own : OwnMoves s.host (g s) t q = a.goes q (subst (FarWaits q) here x) in
+      let own : OwnMoves s.host (g s) t q = a.goes q (subst (FarWaits q) (ap (site_at w.sites) (sym is) ∙ found) x) in
       record {
         left = own.left;
-        goes = subst (λ n. Goes (end_h n) q t own.left) (number ∙ is) own.goes;
+        goes = subst (λ n. Goes (end_h n) q t own.left) ((site_host w.sites k s found) ∙ is) own.goes;
         waits = sites_is f same_host w.sites h (FarWaits own.left) (λ z. tt)
             (λ y z. there s found h y z (λ v. FarWaits own.left (Some v))
             (λ same one. let P : Site → Type 0 = λ v. FarWaits own.left (Some (g v)) in subst P one own.waits)
@@ -179,15 +172,12 @@ module _ (w : NodeWorld) (c : Option Running) (k : ℕ) (g : Site → Site) (t :
       })
       (λ e. record {
         left = q;
-        goes = a.others (end_h h) (ap (λ n. (n == h) && true) number ∙ ap (λ b. b && true) e) q;
+        goes = a.others (end_h h) (ap (λ n. (n == h) && true) (site_host w.sites k s found) ∙ ap (λ b. b && true) e) q;
         waits = sites_is f same_host w.sites h (FarWaits q) (λ z. tt)
             (λ y z. there s found h y z (λ v. FarWaits q (Some v))
             (λ same one. absurd (true≢false (sym (eq-eqb k h (sym same)) ∙ e)))
             (λ off. subst (FarWaits q) z x));
       })
-    where
-      number : s.host ≡ k
-      number = site_host w.sites k s found
 
   -- where there is none with this number, nothing changes
   pub at_site : ((s : Site) → site_at w.sites k ≡ Some s → SiteGoes s (g s) t)
@@ -236,18 +226,14 @@ module _ (who : Side) (sides : ℕ → LinkEnd) (came : ℕ → List Message) (b
       → (q : List Message) → (sides e.link).got ≡ q → Leaving e (came e.link) k q
   own_left e p side here turns is q got =
       let done : Stands e who true (λ z. side) q (came e.link) k = grind arith in
-      let there : There k.ports e.link = there_too k.ports begun.ports e.link p a.ends here in
-      let known : Knows e who q (came e.link) true done.waiting (Some there.port) = grind arith in
+      let known : Knows e who q (came e.link) true done.waiting (Some (there_too k.ports begun.ports e.link p a.ends here).port) = grind arith in
       grind arith
-
-  waits_on : (e : End) (q ms : List Message) (o : Option Port) → Knows e who q (came e.link) false ms o → ms ≡ q
-  waits_on e q ms o x = grind arith
 
   pub away : (e : End) → ((q : List Message) → Fresh e who false (sides e.link) q (port_at begun.ports e.link)) → Leaves e k.entries
   away e fresh q =
       let done : Stands e who false (λ z. absurd (true≢false (sym z))) q (came e.link) k =
       a.does e false (λ z. absurd (true≢false (sym z))) q (fresh q) in
-      subst (Goes e q k.entries) (waits_on e q done.waiting (port_at k.ports e.link) done.at.port) done.at.goes
+      subst (Goes e q k.entries) (grind arith) done.at.goes
 
 -- as a step ends
 ends_so : (k : Work) (ms got : List Message) → got ≡ ended_with (ending_of k) ms → ByPower (is_some (runs_on k)) ms got
@@ -301,9 +287,8 @@ module _ (s v : Site) (r : Running) (near_end : NumberedEnd) (came : ℕ → Lis
   own_port q x =
       let here : site_at (s ∷ []) s.host ≡ Some s = let same : (s.host == s.host) ≡ true = same_number s.host in rw same refl in
       let one = stands (λ j. near_end) r.desks (s ∷ []) s.host s ends here in
-      let was : q ≡ s.link.host.side.got = subst (λ (o : Option Running). ByPower (is_some o) q s.link.host.side.got) runs x in
       own_left Host (λ j. near_end.side) came begun k does (end_h s.host) (port_for near_end one.desk) refl
-      (ap (λ ps. port_at ps s.host) ports ∙ one.here) refl refl q (ap (λ (z : LinkEnd). z.got) side ∙ sym was)
+      (ap (λ ps. port_at ps s.host) ports ∙ one.here) refl refl q (ap (λ (z : LinkEnd). z.got) side ∙ sym (grind arith))
 
   host_goes : v.node ≡ runs_on k → v.link.controller.side.got ≡ s.link.controller.side.got
       → v.link.host.side.got ≡ ended_with (ending_of k) (left_by (turns_at k s.host) (came s.host))
@@ -421,10 +406,7 @@ module _ (w : NodeWorld) (r : Running) (memory : Memory) (near_ends : ℕ → Nu
   leaves_far : (h : ℕ) → Leaves (end_h h) (k.entries ++ frames)
   leaves_far h =
       leaves-append (end_h h) k.entries frames
-      (away Controller (λ j. (near_ends j).side) came begun k does (end_h h) (λ q. fresh q (port_at begun.ports h))) (quiet (end_h h))
-    where
-      fresh : (q : List Message) (o : Option Port) → Fresh (end_h h) Controller false (near_ends h).side q o
-      fresh q o = grind arith
+      (away Controller (λ j. (near_ends j).side) came begun k does (end_h h) (λ q. grind arith)) (quiet (end_h h))
 
   controller_moves : ((s : Site) → (g s).host ≡ s.host) → ((s : Site) → (g s).node ≡ s.node)
       → ((s : Site) → (g s).link.host.side.got ≡ s.link.host.side.got)
@@ -516,9 +498,8 @@ module _ (w : NodeWorld) (r : Running) (runs : w.controller ≡ Some r) (node : 
 
           by : (b : Bool) → (h == k) ≡ b → P h
           by true e =
-              let input : input_of s.link comes ≡ Some i = ap (λ l. input_of l comes) (sym link ∙ ap (link_to w.sites) (eqb-true h k e)) ∙ q in
               ap (λ b. (steps_at_controller s.link (cond b comes NoInput) (turns_at v h) (ending_of v)).controller.side.got) e
-              ∙ (step_got s.link comes (Some i) (turns_at v h) (ending_of v) input (is_step comes i)
+              ∙ (step_got s.link comes (Some i) (turns_at v h) (ending_of v) (grind arith) (is_step comes i)
               ∙ ap (λ ms. ended_with (ending_of v) (left_by (turns_at v h) ms))
               (grind arith))
           by false e =

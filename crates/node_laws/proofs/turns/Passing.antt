@@ -1,10 +1,10 @@
 -- What came at an end and had no turn, over the deeds of a node, over its pass and its step.
-use Rattle.node_laws.proofs.Words.{Acked, ActStart, ActStop, Active, AllByRecursion, AreDifferent, AsksReset, AtEnd, Bool, Cause, Comes, Controller, Core, Cut}
-use Rattle.node_laws.proofs.Words.{CutOff, Deed, Desk, Down, End, Ending, Entry, FetchMessage, GaveUp, GoesOut, Got, Host, IsComing, IsOutside, Link, LinkEnd}
+use Rattle.node_laws.proofs.Words.{Acked, ActStart, ActStop, Active, AllByRecursion, AreDifferent, AsksReset, AtEnd, Bool, Comes, Controller, Core, Cut, CutOff}
+use Rattle.node_laws.proofs.Words.{Deed, Desk, Down, End, Ending, Entry, FetchMessage, GaveUp, GoesOut, Got, Host, IsComing, IsOutside, Link, LinkEnd}
 use Rattle.node_laws.proofs.Words.{LinkInput, List, Message, NextFrame, NoInput, NodeInput, None, Noted, Option, Port, Refused, Report, Reset, Restarted, Some}
 use Rattle.node_laws.proofs.Words.{Start, Starts, Stop, Stops, Take, Tick, Ticked, TimePasses, Turn, Work, Write, [], activated_got, after_input}
 use Rattle.node_laws.proofs.Words.{after_sessions, after_turn, all_come, all_done, all_owed, and-false, and_parts, answers_and_passes, ap, append-nil}
-use Rattle.node_laws.proofs.Words.{append_assoc, arith, begins_with, by_cut, by_list, by_option, by_test, changed_if, cond, deactivated, deeds_of, drop, end_of}
+use Rattle.node_laws.proofs.Words.{append_assoc, arith, begins_with, by_cut, by_list, by_option, by_test, changed_if, deactivated, deeds_of, drop, end_of}
 use Rattle.node_laws.proofs.Words.{end_of_node, ended_by, entries_for, entry_of, eqb-true, false, filter_map, filter_map-append, finished, flat_map}
 use Rattle.node_laws.proofs.Words.{flat_map-append, forgets, forgotten, got_entry, handles, has_come, has_input, have_turns, hosts_of_ends, if_so}
 use Rattle.node_laws.proofs.Words.{if◌then◌else◌, input_at, input_of, is_late, is_some, is_waiting, lack, loses_power, map, moved, moved_got, nat_lt, needs}
@@ -17,7 +17,7 @@ use Rattle.link_laws.specs.entries.Entries.{End as Side}
 use Rattle.link_laws.specs.entries.Entries.Entry.{Up}
 use Rattle.link_laws.specs.machine.Machine.{got_by}
 use Rattle.node_laws.proofs.steps.StepWalks.{changed_host, come_host, forgets_host, late_host, rest as rest_of, unless, without_host}
-use Rattle.node_laws.proofs.telling.Accounts.{AreMute, ArePlain, IsMute, IsNoFetch, IsPlain, all_owed_mute, all_synced_mute, at_host, deeds_mute, every_do}
+use Rattle.node_laws.proofs.telling.Accounts.{AreMute, ArePlain, IsMute, IsNoFetch, all_owed_mute, all_synced_mute, at_host, deeds_mute, every_do}
 use Rattle.node_laws.proofs.telling.Accounts.{forgotten_mute, holds, lets}
 use Rattle.node_laws.proofs.telling.Steps.{IsStep, after_coming, at_map, forgets_same, none_map, sessions_side, without_same}
 use Rattle.node_laws.proofs.telling.Ticks.{reset_turns}
@@ -63,8 +63,7 @@ input_got e Tick a = more e (after_input e Tick) (tick_got e)
 input_got e (Reset window) a = more e (after_input e (Reset window)) (reset_got e window)
 input_got e (Start value) a =
     more e (started e value) (activated_got (moved e true (stopped e.shdlc)) (ActStart value) ∙ moved_got e true (stopped e.shdlc))
-input_got e Stop a =
-    more e (deactivated e) (activated_got (moved e true (stopped e.shdlc)) ActStop ∙ moved_got e true (stopped e.shdlc))
+input_got e Stop a = more e (deactivated e) (activated_got (moved e true (stopped e.shdlc)) ActStop ∙ moved_got e true (stopped e.shdlc))
 input_got e _ a = absurd a
 
 -- ### Steps
@@ -74,12 +73,9 @@ abbrev pub ended_with : Ending → List Message → List Message
 ended_with GoesOut ms = ms
 ended_with CutOff ms = []
 
-finished_got : (l : Link) (e : LinkEnd) (ending : Ending) → (finished l e ending).controller.side.got ≡ ended_with ending e.got
-finished_got l e ending = grind arith
-
 all_got : (l : Link) (e : LinkEnd) (ts : List Turn) (ending : Ending)
     → (finished l (turned e ts) ending).controller.side.got ≡ ended_with ending (left_by ts e.got)
-all_got l e ts ending = finished_got l (turned e ts) ending ∙ ap (ended_with ending) (turned_got e ts)
+all_got l e ts ending = (grind arith) ∙ ap (ended_with ending) (turned_got e ts)
 
 pub step_got : (l : Link) (comes : Comes) (o : Option LinkInput) (ts : List Turn) (ending : Ending) → input_of l comes ≡ o → IsStep comes o
     → (steps_at_controller l comes ts ending).controller.side.got ≡ ended_with ending (left_by ts (after_coming l.controller.side o).got)
@@ -170,12 +166,9 @@ pub still_goes : (e : End) (t : List Entry) (q : List Message) → AreStill e t 
 still_goes e [] q a = refl
 still_goes e (x ∷ t) q a = (q, (subst (λ d. Becomes d q q) (sym a.0) refl, still_goes e t q a.1))
 
-plain_still : (e : End) (x : Entry) → IsPlain x → doing e x ≡ Nothing
-plain_still e x p = grind arith
-
 pub all_still : (e : End) (t : List Entry) → ArePlain t → AreStill e t
 all_still e [] a = tt
-all_still e (x ∷ t) a = (plain_still e x a.0, all_still e t a.1)
+all_still e (x ∷ t) a = (grind arith, all_still e t a.1)
 
 -- ### Messages that came, and those that had their turns
 
@@ -252,9 +245,6 @@ Knows e who begin came true ms (Some p) = (left_by p.turns came ≡ p.side.got) 
 Knows e who begin came false ms None = ms ≡ begin
 Knows e who begin came false ms (Some p) = (ms ≡ begin) × (has_side who e ≡ false)
 
-kept_same : (t : Turn) (ms : List Message) → IsNoFetch t → kept_by t ms ≡ ms
-kept_same t ms n = grind arith
-
 module _ (e : End) (who : Side) (own : Bool) (mine : own ≡ true → has_side who e ≡ true) (begin came : List Message) where
   abbrev pub Known : List Message → Option Port → Type 0
   Known ms o = Knows e who begin came own ms o
@@ -283,7 +273,7 @@ module _ (e : End) (who : Side) (own : Bool) (mine : own ≡ true → has_side w
 
   known_turn : (b : Bool) (ms : List Message) (t : Turn) (p : Port) → IsNoFetch t → Knows e who begin came b ms (Some p)
       → Knows e who begin came b ms (Some (after_turn t p))
-  known_turn true ms t p n k = (left_more p t k.0, turn_got p.side t ∙ (kept_same t p.side.got n ∙ k.1))
+  known_turn true ms t p n k = (left_more p t k.0, turn_got p.side t ∙ ((grind arith) ∙ k.1))
   known_turn false ms t p n k = k
 
   if_changed : (b : Bool) (f : Port → Port) (ms : List Message) (p : Port) → (b ≡ true → Known ms (Some (f p))) → Known ms (Some p)
@@ -294,9 +284,6 @@ module _ (e : End) (who : Side) (own : Bool) (mine : own ≡ true → has_side w
 
   sent_still : (h n : ℕ) (m : Message) (side : Side) (o : Option Refused) → AreStill e (entries_for h (sent_unless o side n m))
   sent_still h n m side o = grind arith
-
-  at_still : (core : Core) (t : Turn) (o : Option Port) → AreStill e (option_map_or (noted_of core t) o [])
-  at_still core t o = grind arith
 
   still : (es : List Entry) (w : Work) (ms : List Message) → AreStill e es → Goes e begin w.entries ms → Goes e begin (w.entries ++ es) ms
   still es w ms s g = goes-append e w.entries es begin ms ms g (still_goes e es ms s)
@@ -326,7 +313,7 @@ module _ (e : End) (who : Side) (own : Bool) (mine : own ≡ true → has_side w
         port = map_is (λ p. changed_if (p.desk.host == k) (after_turn t) p) (λ p. changed_host (p.desk.host == k) (after_turn t) p (λ q. refl)) w.ports
             e.link (Known ms) (λ q. subst (Known ms) q a.port)
             (λ p q. if_changed (p.desk.host == k) (after_turn t) ms p (one p q) (subst (Known ms) q a.port));
-        goes = still (option_map_or (noted_of w.core t) (port_at w.ports k) []) w ms (at_still w.core t (port_at w.ports k)) a.goes;
+        goes = still (option_map_or (noted_of w.core t) (port_at w.ports k) []) w ms (grind arith) a.goes;
       }
 
   pub turns : (ms : List Message) (k : ℕ) (t : Turn) (w : Work) → IsNoFetch t → At ms w → At ms (turn_at k t w)
@@ -356,9 +343,7 @@ module _ (e : End) (who : Side) (own : Bool) (mine : own ≡ true → has_side w
       → ⊥
   other_is k ports p off q z is =
       let here : (k == e.link) ≡ true = subst (λ n. (n == e.link) ≡ true) (eqb-true p.desk.host k z) (at_host ports e.link p q) in
-      let side : has_side who e ≡ true = mine is in
-      let on : same_end (end_of k who) e ≡ true = same_is who k e ∙ rw (here, side) refl in
-      true≢false (sym on ∙ off)
+      true≢false (sym (same_is who k e ∙ rw (here, (mine is)) refl) ∙ off)
 
   abbrev Turned : ℕ → Message → Work → List Entry
   Turned k m w = entry.Turn (end_of_node w.core k) m.0 m.1 ∷ []
@@ -413,7 +398,7 @@ module _ (e : End) (who : Side) (own : Bool) (mine : own ≡ true → has_side w
             (λ q. subst (λ b. Knows e who begin came b ms None) (sym is) tt)
             (λ p q. subst (λ b. Known ms (Some (changed_if b (after_turn FetchMessage) p))) (sym (here p.desk.host (at_host w.ports e.link p q)))
             (fetched_some own m ms p is (subst (Known (m ∷ ms)) q a.port)));
-        goes = still (option_map_or (noted_of w.core FetchMessage) (port_at w.ports k) []) told ms (at_still w.core FetchMessage (port_at w.ports k))
+        goes = still (option_map_or (noted_of w.core FetchMessage) (port_at w.ports k) []) told ms (grind arith)
             (goes-append e w.entries (Turned k m w) begin (m ∷ ms) ms a.goes (ms, (subst (λ d. Becomes d (m ∷ ms) ms) (sym first) refl, refl)));
       } in
       all_do ms k deeds (with_desk k (λ d. record d { holds = false }) (turn_at k FetchMessage told)) mute
@@ -506,17 +491,12 @@ lead e h xs ys q r a g =
 pub so_none : (b : Bool) (x : Noted) → IsNoGot x → AreNoGots (if_so b x)
 so_none b x a = grind arith
 
-pub ended_none : (who : Side) (o : Option Cause) → AreNoGots (map (Down who) (option_to_list o))
-ended_none who o = grind arith
-
 pub told_goes : (e : End) (h : ℕ) (who : Side) (n acked : ℕ) (r : Report) (q s : List Message) → Goes e q (entries_for h (map (Got who n) r.got)) s
     → Goes e q (entries_for h (told who n r acked)) s
 told_goes e h who n acked r q s g =
-    let five : List Noted = if_so (nat_lt 0 r.acked) (Acked who n acked) ++ map (Got who n) r.got in
-    let four : List Noted = map (GaveUp who) (option_to_list r.gave_up) ++ five in
+    let four : List Noted = map (GaveUp who) (option_to_list r.gave_up) ++ (if_so (nat_lt 0 r.acked) (Acked who n acked) ++ map (Got who n) r.got) in
     let three : List Noted = if_so r.became_active (Active who) ++ four in
-    let two : List Noted = if_so r.began (Up who n) ++ three in
-    lead e h (map (Down who) (option_to_list r.ended)) two q s (ended_none who r.ended)
+    lead e h (map (Down who) (option_to_list r.ended)) (if_so r.began (Up who n) ++ three) q s (grind arith)
     (lead e h (if_so r.began (Up who n)) three q s (so_none r.began (Up who n) tt)
     (lead e h (if_so r.became_active (Active who)) four q s (so_none r.became_active (Active who) tt)
     (grind arith)))
@@ -527,9 +507,6 @@ told_goes e h who n acked r q s g =
 abbrev pub input_on : NodeInput → ℕ → Option LinkInput
 input_on (AtEnd h i) k = if k == h then Some i else None
 input_on TimePasses k = Some Tick
-
-input_is : (input : NodeInput) (p : Port) → input_at input p ≡ input_on input p.desk.host
-input_is input p = grind arith
 
 abbrev IfComing : Option LinkInput → Type 0
 IfComing None = Unit {0}
@@ -548,12 +525,6 @@ pub reset_side : (p : Port) → (reset_late p).side.got ≡ p.side.got
 reset_side p = by_test (is_late p) (λ q. rw q (reset_got p.side None)) (λ q. rw q refl)
 
 module _ (e : End) (who : Side) (own : Bool) (mine : own ≡ true → has_side who e ≡ true) (begin : List Message) (s : LinkEnd) where
-  off_side : (k : ℕ) → has_side who e ≡ false → same_end (end_of k who) e ≡ false
-  off_side k q = same_is who k e ∙ rw q (and-false (k == e.link))
-
-  off_link : (k : ℕ) → (k == e.link) ≡ false → same_end (end_of k who) e ≡ false
-  off_link k q = same_is who k e ∙ rw q refl
-
   others_go : (core : Core) (p : Port) (o : Option LinkInput) (q : List Message) → own_side core ≡ who → same_end (end_of p.desk.host who) e ≡ false
       → Goes e q (told_at core p o) q
   others_go core p None q side off = refl
@@ -592,16 +563,13 @@ module _ (e : End) (who : Side) (own : Bool) (mine : own ≡ true → has_side w
     others_all : (ports : List Port) (q : List Message) → AllByRecursion (λ k. (k == e.link) ≡ false) (hosts_of_ends ports) → Goes e q (flat_map noted ports) q
     others_all [] q a = refl
     others_all (p ∷ ports) q a =
-        goes-append e (noted p) (flat_map noted ports) q q q (others_go core p (input_at input p) q side (off_link p.desk.host a.0))
+        goes-append e (noted p) (flat_map noted ports) q q q (others_go core p (input_at input p) q side (same_is who p.desk.host e ∙ rw a.0 refl))
         (others_all ports q a.1)
 
     one_goes : (b : Bool) (p : Port) → own ≡ b → (p.desk.host == e.link) ≡ true → Fresh e who b s begin (Some p)
         → Goes e begin (noted p) (then_waits b (Some p))
-    one_goes true p is here f =
-        let on : same_end (end_of p.desk.host who) e ≡ true = grind arith in
-        let coming : IfComing (input_at input p) = subst IfComing (sym (input_is input p)) (comes_outside input p.desk.host outside) in
-        own_goes core p (input_at input p) begin side on coming (ap (λ (z : LinkEnd). z.got) f.1 ∙ f.2)
-    one_goes false p is here f = others_go core p (input_at input p) begin side (off_side p.desk.host f)
+    one_goes true p is here f = own_goes core p (input_at input p) begin side (grind arith) (grind arith) (ap (λ (z : LinkEnd). z.got) f.1 ∙ f.2)
+    one_goes false p is here f = others_go core p (input_at input p) begin side (same_is who p.desk.host e ∙ rw f (and-false (p.desk.host == e.link)))
 
     none_goes : (b : Bool) → begin ≡ then_waits b None
     none_goes b = grind arith
@@ -619,7 +587,7 @@ module _ (e : End) (who : Side) (own : Bool) (mine : own ≡ true → has_side w
         (λ q. let is : port_at (p ∷ ports) e.link ≡ port_at ports e.link = rw q refl in
         subst (λ o. Goes e begin (flat_map noted (p ∷ ports)) (then_waits own o)) (sym is)
         (goes-append e (noted p) (flat_map noted ports) begin begin (then_waits own (port_at ports e.link))
-        (others_go core p (input_at input p) begin side (off_link p.desk.host q)) ((all_go ports d.1) (subst (λ o. Fresh e who own s begin o) is f))))
+        (others_go core p (input_at input p) begin side (grind arith)) ((all_go ports d.1) (subst (λ o. Fresh e who own s begin o) is f))))
 
     -- what is known of the end then
     knows_come : (b : Bool) (p : Port) → (p.desk.host == e.link) ≡ true → Fresh e who b s begin (Some p)
@@ -639,10 +607,7 @@ module _ (e : End) (who : Side) (own : Bool) (mine : own ≡ true → has_side w
 
   late_goes : (core : Core) (ports : List Port) (q : List Message) → Goes e q (flat_map (told_late core) ports) q
   late_goes core [] q = refl
-  late_goes core (p ∷ ports) q = goes-append e (told_late core p) (flat_map (told_late core) ports) q q q (go (is_late p)) (late_goes core ports q)
-    where
-      go : (b : Bool) → Goes e q (cond b (told_at core p (Some (Reset None))) []) q
-      go b = grind arith
+  late_goes core (p ∷ ports) q = goes-append e (told_late core p) (flat_map (told_late core) ports) q q q (grind arith) (late_goes core ports q)
 
   abbrev pub Stand : List Message → Work → Type 0
   Stand came w = Stands e who own mine begin came w
@@ -696,11 +661,8 @@ module _ (e : End) (who : Side) (own : Bool) (mine : own ≡ true → has_side w
       (goes-append e w.entries (flat_map (noted input outside w.core side) w.ports) begin begin ms g (all_go input outside w.core side w.ports d f))
       (late_goes w.core old ms))
 
-  knows_fresh : (b : Bool) (o : Option Port) → Fresh e who b s begin o → Knows e who begin s.got b begin o
-  knows_fresh b o f = grind arith
-
   pub begins_stand : (k : ℕ) (deeds : List Deed) (w : Work) → AreMute deeds → own_side w.core ≡ who → Fresh e who own s begin (port_at w.ports e.link)
       → Goes e begin w.entries begin → Stand s.got (begins_with k deeds w)
   begins_stand k deeds w m side f g =
       does e who own mine begin s.got k deeds w m
-      (record { waiting = begin; at = record { side = side; port = knows_fresh own (port_at w.ports e.link) f; goes = g } })
+      (record { waiting = begin; at = record { side = side; port = grind arith; goes = g } })

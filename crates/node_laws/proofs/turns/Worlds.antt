@@ -1,17 +1,17 @@
 -- What waits at each end of a world over whatever happens there and behind any lines; messages have their turns in order.
 use Rattle.std.proofs.Math.Bool.{and-false}
-use Rattle.node_laws.proofs.Words.{Activates, AllByRecursion, AreDifferent, AreInTurn, Arms, AsksReset, AtController, AtEnd, AtHost, Bool, Boots, Comes}
-use Rattle.node_laws.proofs.Words.{Controller, CutOff, Deed, End, Entry, FollowsNodes, Gives, GoesOut, Happening, HasEnds, Header, Host, IfItRuns, Inits, IsCut}
-use Rattle.node_laws.proofs.Words.{IsOrderly, Line, Link, LinkInput, List, Lose, Loses, Loss, MayBoot, Memory, Message, NextFrame, NoInput, NodeHistory}
-use Rattle.node_laws.proofs.Words.{NodeWorld, None, NumberedEnd, OnWire, Option, Resets, Running, Site, Some, Starts, Step, Takes, Ticks, Work, [], activates}
-use Rattle.node_laws.proofs.Words.{after_host, after_host_step, after_planned, aged, aged_entries, all_aged, ap, arith, beginning, begins_with, boot_found}
-use Rattle.node_laws.proofs.Words.{boot_writes, boot_written, boots, by_boot, by_coming, by_controller, by_controller_tick, by_counts, by_host, by_host_tick}
-use Rattle.node_laws.proofs.Words.{by_loss, by_memory, by_option, by_power, by_test, comes_at, cond, controller_does, controller_ticks, count_of, counts, end_c}
-use Rattle.node_laws.proofs.Words.{end_h, entries_for, eq-eqb, eqb-true, exchanged, false, first_lost, frame_lost, frames_noted, happens, host_cut, host_does}
-use Rattle.node_laws.proofs.Words.{host_ticks, host_work, hosts_in, hosts_tick, input_of, is_some, link_to, loses_power_at, map, memory_at, new_site, new_world}
-use Rattle.node_laws.proofs.Words.{node_at, node_entries, node_number, refl, replicate, same_end, sending, site_at, site_lost, site_unticked, steps, subst, sym}
-use Rattle.node_laws.proofs.Words.{tick_host, ticks_at_controller, true, true≢false, wires_for, with_memory, with_node, with_site, world_after, world_step}
-use Rattle.node_laws.proofs.Words.{world_ticks, ℕ, ◌&&◌, ◌++◌, ◌==◌, ◌∙◌, ◌∷◌, ◌≡◌}
+use Rattle.node_laws.proofs.Words.{Activates, AllByRecursion, AreDifferent, AreInTurn, Arms, AsksReset, AtController, AtEnd, Bool, Boots, Comes, Controller}
+use Rattle.node_laws.proofs.Words.{CutOff, Deed, End, Entry, FollowsNodes, Gives, GoesOut, Happening, HasEnds, Header, Host, IfItRuns, Inits, IsCut, IsOrderly}
+use Rattle.node_laws.proofs.Words.{Line, LinkInput, List, Loses, Loss, MayBoot, Memory, Message, NextFrame, NoInput, NodeHistory, NodeWorld, None, NumberedEnd}
+use Rattle.node_laws.proofs.Words.{OnWire, Option, Resets, Running, Site, Some, Starts, Step, Takes, Ticks, Work, [], activates, after_host, after_host_step}
+use Rattle.node_laws.proofs.Words.{after_planned, aged, aged_entries, all_aged, ap, arith, beginning, begins_with, boot_found, boot_writes, boot_written, boots}
+use Rattle.node_laws.proofs.Words.{by_boot, by_coming, by_controller, by_controller_tick, by_counts, by_host, by_host_tick, by_loss, by_memory, by_option}
+use Rattle.node_laws.proofs.Words.{by_power, by_test, comes_at, controller_does, controller_ticks, count_of, counts, end_c, end_h, entries_for, eq-eqb}
+use Rattle.node_laws.proofs.Words.{eqb-true, exchanged, false, first_lost, frame_lost, frames_noted, happens, host_cut, host_does, host_ticks, host_work}
+use Rattle.node_laws.proofs.Words.{hosts_in, hosts_tick, input_of, is_some, link_to, loses_power_at, map, memory_at, new_site, new_world, node_at, node_entries}
+use Rattle.node_laws.proofs.Words.{node_number, refl, replicate, same_end, sending, site_at, site_lost, site_unticked, steps, subst, sym, tick_host}
+use Rattle.node_laws.proofs.Words.{ticks_at_controller, true, true≢false, wires_for, with_memory, with_node, with_site, world_after, world_step, world_ticks, ℕ}
+use Rattle.node_laws.proofs.Words.{◌&&◌, ◌++◌, ◌==◌, ◌∙◌, ◌∷◌, ◌≡◌}
 use Rattle.link_laws.specs.entries.Entries.{End as Side}
 use Rattle.node_laws.specs.turns.Turns.{AreLeft}
 use Rattle.node_laws.proofs.kept.Events.{with_site_twice}
@@ -19,7 +19,7 @@ use Rattle.node_laws.proofs.links.Sites.{here_host}
 use Rattle.node_laws.proofs.telling.Events.{comes_goes, link_is, node_is, sending_mute, site_host, site_is}
 use Rattle.node_laws.proofs.telling.Lasting.{AnyLine, all_lines, boots_may, entries_of_steps, lines_last, new_orderly, step_orderly}
 use Rattle.node_laws.proofs.telling.Accounts.{AreMute}
-use Rattle.node_laws.proofs.telling.WorldTicks.{aged_orderly, near_orderly, tick_host as site_ticked}
+use Rattle.node_laws.proofs.telling.WorldTicks.{aged_orderly, near_orderly}
 use Rattle.node_laws.proofs.turns.Passing.{Front, Goes, all_left, doing, front_goes, goes-append, notes_still, ticks_got}
 use Rattle.node_laws.proofs.turns.Nodes.{AllMove, ByPower, FarWaits, Leaves, Moves, NearWaits, OwnMoves, SiteGoes, Waits, aged_none, at_site, controller_steps}
 use Rattle.node_laws.proofs.turns.Nodes.{controller_ticked, end_at, flat_leaves, host_begins, host_steps, host_ticked, leaves-append, lost_none, move_then}
@@ -31,14 +31,8 @@ use Rattle.trace_model.specs.declared.entry.Entry.TheVariants as entry
 
 -- ### Worlds that stay
 
--- all ends are as they were
-waits_same : (w v : NodeWorld) → is_some v.controller ≡ is_some w.controller → v.sites ≡ w.sites → (b : Bool) (h : ℕ) (q : List Message) → Waits w b h q
-    → Waits v b h q
-waits_same w v power sites b h q x = grind arith
-
 all_stay : (w v : NodeWorld) (t : List Entry) → is_some v.controller ≡ is_some w.controller → v.sites ≡ w.sites → ((e : End) → Leaves e t) → AllMove w v t
-all_stay w v t power sites quiet b h q x =
-    record { left = q; goes = quiet (end_at b h) q; waits = waits_same w v power sites b h q x }
+all_stay w v t power sites quiet b h q x = record { left = q; goes = quiet (end_at b h) q; waits = grind arith }
 
 nothing_moves : (w : NodeWorld) → AllMove w w []
 nothing_moves w = all_stay w w [] refl refl (λ e q. refl)
@@ -173,8 +167,7 @@ module _ (w : NodeWorld) (n : ℕ) (r : Running) (m : Memory) (count : ℕ) (a :
         near = refl;
         goes = λ q x.
             let none : s.node ≡ None = rw here at (rw z at off) in
-            let new : s.link.host.side.got ≡ [] = grind arith in
-            record { left = []; goes = clears (end_h s.host) n count q (eq-eqb n s.host (sym number)); waits = sym new };
+            record { left = []; goes = clears (end_h s.host) n count q (eq-eqb n s.host (sym number)); waits = sym (grind arith) };
         others = λ e out. clears_not e n count (others e out);
       }
         where
@@ -226,7 +219,7 @@ lost_moves w e why =
     let t : List Entry = entries_for e.link (first_lost Host why (link_to w.sites e.link).to_host) in
     let q : (x : End) → Leaves x t = quiet Host (link_to w.sites e.link).to_host in
     at_site w w.controller e.link (λ s. record (site_lost e why s) { node = counts why e.link s.node }) t refl (λ s. refl)
-    (λ s here. stays s (record (site_lost e why s) { node = counts why e.link s.node }) t (near e.at_host s.link) (far e.at_host s.link)
+    (λ s here. stays s (record (site_lost e why s) { node = counts why e.link s.node }) t (grind arith) (grind arith)
     (counts_power why e.link s.node) q)
     (λ none. all_stay w w t refl refl q))
     (λ side.
@@ -234,15 +227,9 @@ lost_moves w e why =
     let t : List Entry = entries_for e.link (first_lost Controller why (link_to w.sites e.link).to_controller) in
     let q : (x : End) → Leaves x t = quiet Controller (link_to w.sites e.link).to_controller in
     at_site w c e.link (site_lost e why) t (counts_power why e.link w.controller) (λ s. refl)
-    (λ s here. stays s (site_lost e why s) t (near e.at_host s.link) (far e.at_host s.link) refl q)
+    (λ s here. stays s (site_lost e why s) t (grind arith) (grind arith) refl q)
     (λ none. all_stay w (record w { controller = c }) t (counts_power why e.link w.controller) refl q))
   where
-    near : (b : Bool) (l : Link) → (happens l (cond b (AtHost (Lose why)) (AtController (Lose why)))).controller.side.got ≡ l.controller.side.got
-    near b l = grind arith
-
-    far : (b : Bool) (l : Link) → (happens l (cond b (AtHost (Lose why)) (AtController (Lose why)))).host.side.got ≡ l.host.side.got
-    far b l = grind arith
-
     quiet : (who : Side) (xs : List OnWire) (x : End) → Leaves x (entries_for e.link (first_lost who why xs))
     quiet who xs x = still_leaves x _ (notes_still x e.link (first_lost who why xs) (lost_none who why xs))
 
@@ -307,23 +294,16 @@ near_stays : (c : Option Running) (h : ℕ) (q : List Message) (sites : List Sit
     → NearWaits c q (site_at (hosts_tick sites).0 h)
 near_stays c h q [] b a x = tt
 near_stays c h q (y ∷ sites) b a x = by_test (y.host == h)
-    (λ e. let passes : ((host_ticks y).0.host == h) ≡ true = same ∙ e in
-    let was : NearWaits c q (Some y) = rw e at x in
-    rw passes (subst (ByPower (is_some c) q) (sym (site_ticks y b.0 a.0).near) was))
-    (λ e. let fails : ((host_ticks y).0.host == h) ≡ false = same ∙ e in
+    (λ e. let passes : ((host_ticks y).0.host == h) ≡ true = (grind arith) ∙ e in
+    rw passes (subst (ByPower (is_some c) q) (sym (site_ticks y b.0 a.0).near) (rw e at x)))
+    (λ e. let fails : ((host_ticks y).0.host == h) ≡ false = (grind arith) ∙ e in
     rw fails (near_stays c h q sites b.1 a.1 (rw e at x)))
-  where
-    same : ((host_ticks y).0.host == h) ≡ (y.host == h)
-    same = ap (λ n. n == h) (site_ticked y)
-
-off_far : (h : ℕ) (x : Site) → (x.host == h) ≡ false → same_end (end_h x.host) (end_h h) ≡ false
-off_far h x e = ap (λ b. b && true) e
 
 far_leaves : (h : ℕ) (sites : List Site) → AreNumbered sites → AreNodes sites → AllByRecursion (λ n. (n == h) ≡ false) (hosts_in sites)
     → Leaves (end_h h) (hosts_tick sites).1
 far_leaves h [] b a d q = refl
 far_leaves h (x ∷ sites) b a d q =
-    leaves-append (end_h h) (host_ticks x).1 (hosts_tick sites).1 ((site_ticks x b.0 a.0).others (end_h h) (off_far h x d.0))
+    leaves-append (end_h h) (host_ticks x).1 (hosts_tick sites).1 ((site_ticks x b.0 a.0).others (end_h h) (grind arith))
     (far_leaves h sites b.1 a.1 d.1) q
 
 hosts_go : (h : ℕ) (q : List Message) (sites : List Site) → AreDifferent (hosts_in sites) → AreNumbered sites → AreNodes sites
@@ -331,9 +311,8 @@ hosts_go : (h : ℕ) (q : List Message) (sites : List Site) → AreDifferent (ho
 hosts_go h q [] d b a x = record { left = q; goes = refl; waits = tt }
 hosts_go h q (y ∷ sites) d b a x = by_test (y.host == h)
     (λ e. let here : site_at (hosts_tick (y ∷ sites)).0 h ≡ Some (host_ticks y).0 =
-    let passes : ((host_ticks y).0.host == h) ≡ true = same ∙ e in rw passes refl in
-    let was : FarWaits q (Some y) = rw e at x in
-    let own : OwnMoves y.host (host_ticks y).0 (host_ticks y).1 q = one.goes q was in
+    let passes : ((host_ticks y).0.host == h) ≡ true = (grind arith) ∙ e in rw passes refl in
+    let own : OwnMoves y.host (host_ticks y).0 (host_ticks y).1 q = one.goes q (rw e at x) in
     record {
       left = own.left;
       goes = goes-append (end_h h) (host_ticks y).1 (hosts_tick sites).1 q own.left own.left
@@ -342,24 +321,20 @@ hosts_go h q (y ∷ sites) d b a x = by_test (y.host == h)
       waits = subst (FarWaits own.left) (sym here) own.waits;
     })
     (λ e. let here : site_at (hosts_tick (y ∷ sites)).0 h ≡ site_at (hosts_tick sites).0 h =
-    let fails : ((host_ticks y).0.host == h) ≡ false = same ∙ e in rw fails refl in
+    let fails : ((host_ticks y).0.host == h) ≡ false = (grind arith) ∙ e in rw fails refl in
     let rest : HostsMove h (hosts_tick sites) q = (hosts_go h q sites d.1 b.1 a.1) (rw e at x) in
     record {
       left = rest.left;
-      goes = goes-append (end_h h) (host_ticks y).1 (hosts_tick sites).1 q q rest.left (one.others (end_h h) (off_far h y e) q) rest.goes;
+      goes = goes-append (end_h h) (host_ticks y).1 (hosts_tick sites).1 q q rest.left (one.others (end_h h) (grind arith) q) rest.goes;
       waits = subst (FarWaits rest.left) (sym here) rest.waits;
     })
   where
-    same : ((host_ticks y).0.host == h) ≡ (y.host == h)
-    same = ap (λ n. n == h) (site_ticked y)
-
     one : SiteGoes y (host_ticks y).0 (host_ticks y).1
     one = site_ticks y b.0 a.0
 
 hosts_move : (w : NodeWorld) → AreDifferent (hosts_in w.sites) → AreNumbered w.sites → AreNodes w.sites
     → AllMove w (record w { sites = (hosts_tick w.sites).0 }) (hosts_tick w.sites).1
-hosts_move w d b a false h q x =
-    record { left = q; goes = near_leaves h w.sites b a q; waits = near_stays w.controller h q w.sites b a x }
+hosts_move w d b a false h q x = record { left = q; goes = near_leaves h w.sites b a q; waits = near_stays w.controller h q w.sites b a x }
 hosts_move w d b a true h q x =
     let one : HostsMove h (hosts_tick w.sites) q = hosts_go h q w.sites d b a x in record { left = one.left; goes = one.goes; waits = one.waits }
 
@@ -462,13 +437,11 @@ module _ (header : Header) (lines : List Line) (t : NodeHistory) (follows : Foll
   left_at_host h s r here runs =
       let all : Waiting (node_entries t) last true h = all_wait.waiting true h in
       let power : ByPower (is_some s.node) all.messages s.link.host.side.got = subst (FarWaits all.messages) here all.waits in
-      let is : all.messages ≡ s.link.host.side.got = grind arith in
-      subst (AreLeft (end_h h) (node_entries t)) is (sym (all_left (end_h h) (node_entries t) [] [] all.messages refl all.goes))
+      subst (AreLeft (end_h h) (node_entries t)) (grind arith) (sym (all_left (end_h h) (node_entries t) [] [] all.messages refl all.goes))
 
   pub left_at_controller : (h : ℕ) (s : Site) (r : Running) → site_at last.sites h ≡ Some s → last.controller ≡ Some r
       → AreLeft (end_c h) (node_entries t) s.link.controller.side.got
   left_at_controller h s r here runs =
       let all : Waiting (node_entries t) last false h = all_wait.waiting false h in
       let power : ByPower (is_some last.controller) all.messages s.link.controller.side.got = subst (NearWaits last.controller all.messages) here all.waits in
-      let is : all.messages ≡ s.link.controller.side.got = grind arith in
-      subst (AreLeft (end_c h) (node_entries t)) is (sym (all_left (end_c h) (node_entries t) [] [] all.messages refl all.goes))
+      subst (AreLeft (end_c h) (node_entries t)) (grind arith) (sym (all_left (end_c h) (node_entries t) [] [] all.messages refl all.goes))

@@ -1,17 +1,17 @@
 -- Which deeds set REC_ERROR of an end and which leave it, so that what is read of it stays what the node keeps.
 use Rattle.node_laws.proofs.Words.{About, AllByRecursion, AllByRecursion-append, Answer, Ask, Asks, Book, Bool, Broken, Command, Commit, Commits, Controller}
-use Rattle.node_laws.proofs.Words.{Core, Cut, Decision, Deed, Desk, Drops, End, Ends, Entry, Err, ErrorCount, Give, GoesOn, HciTables, Hears, Hold, Host}
-use Rattle.node_laws.proofs.Words.{InitFailed, InitMade, InitSame, IsAnswered, IsResponse, LinkView, List, Lost, Message, MessageFault, MessageKind, None}
-use Rattle.node_laws.proofs.Words.{Noted, OfDecision, OfHost, Ok, Option, Orders, Plain, Port, Release, Releases, Removed, Result, SaysOk, Sends, Sent}
-use Rattle.node_laws.proofs.Words.{SetAside, SetsErrors, Some, Tells, Turn, Up, Waits, Work, Write, [], after_turn, all_done, all_of_controller, all_of_host}
-use Rattle.node_laws.proofs.Words.{all_so, and-true, answer_of, answers, anyone, ap, apply, arith, asks_for, body_in, body_of, book_after, by_cut, by_test}
-use Rattle.node_laws.proofs.Words.{cases_Bool, changed_if, changed_same, command_deeds, commit, commit_writes, cond, cond_both, controller_deeds, count_of}
-use Rattle.node_laws.proofs.Words.{decided, decision_deeds, deeds_by_relay, done, end_of, end_of_node, end_view, entries_for, entry_of, eqb, eqb-true}
-use Rattle.node_laws.proofs.Words.{errors_after, errors_set_by, fails_within, false, far_end, fold, fold-append, goes_through, has, has_link, header_of}
-use Rattle.node_laws.proofs.Words.{holds_back, host_deeds, hosts_of_ends, hosts_where, inl, inr, is_held, is_opened, is_up, kind_deeds, length, lets_go}
-use Rattle.node_laws.proofs.Words.{link_deeds, link_served, map, node_of, not, noted_of, notified, noting, option_map_or, ordered_deeds, own_deeds, own_gate}
-use Rattle.node_laws.proofs.Words.{own_side, own_view, port_at, refl, relayed_to, same_end, served_at, subst, sym, true, true≢false, turn_at, unless_asking}
-use Rattle.node_laws.proofs.Words.{unless_cut, view_for, view_of, with_command, with_desk, with_port, ℕ, ◌&&◌, ◌++◌, ◌||◌, ◌∙◌, ◌∷◌, ◌≡◌, ◌⊎◌}
+use Rattle.node_laws.proofs.Words.{Core, Cut, Decision, Deed, Desk, Drops, End, Ends, Entry, Err, ErrorCount, Give, GoesOn, Hears, Hold, Host, InitFailed}
+use Rattle.node_laws.proofs.Words.{InitMade, InitSame, IsAnswered, IsResponse, LinkView, List, Lost, Message, MessageFault, MessageKind, None, Noted}
+use Rattle.node_laws.proofs.Words.{OfDecision, OfHost, Ok, Option, Orders, Plain, Port, Release, Releases, Removed, Result, SaysOk, Sends, Sent, SetAside}
+use Rattle.node_laws.proofs.Words.{SetsErrors, Some, Tells, Turn, Up, Waits, Work, Write, [], after_turn, all_done, all_of_controller, all_of_host, all_so}
+use Rattle.node_laws.proofs.Words.{and-true, answer_of, answers, anyone, ap, apply, arith, asks_for, body_in, body_of, book_after, by_cut, by_test, cases_Bool}
+use Rattle.node_laws.proofs.Words.{changed_if, changed_same, command_deeds, commit, commit_writes, cond, cond_both, controller_deeds, count_of, decided}
+use Rattle.node_laws.proofs.Words.{decision_deeds, deeds_by_relay, done, end_of_node, end_view, entries_for, entry_of, eqb, eqb-true, errors_after}
+use Rattle.node_laws.proofs.Words.{errors_set_by, fails_within, false, far_end, fold, fold-append, goes_through, has, has_link, header_of, holds_back}
+use Rattle.node_laws.proofs.Words.{host_deeds, hosts_of_ends, hosts_where, inl, inr, is_held, is_opened, is_up, kind_deeds, length, lets_go, link_deeds}
+use Rattle.node_laws.proofs.Words.{link_served, map, node_of, not, noted_of, notified, noting, option_map_or, ordered_deeds, own_deeds, own_gate, own_side}
+use Rattle.node_laws.proofs.Words.{own_view, port_at, refl, relayed_to, same_end, served_at, subst, sym, true, true≢false, turn_at, unless_asking, unless_cut}
+use Rattle.node_laws.proofs.Words.{view_for, view_of, with_command, with_desk, with_port, ℕ, ◌&&◌, ◌++◌, ◌||◌, ◌∙◌, ◌∷◌, ◌≡◌, ◌⊎◌}
 use Rattle.hcp_packet.specs.declared.MessageKind.TheVariants.{Command as IsCommand, Event as IsEvent}
 use Rattle.link_laws.specs.entries.Entries.{End as Side}
 use Rattle.node_laws.proofs.kept.Doing.{hosts_map}
@@ -73,12 +73,9 @@ IsUndamaged _ = Unit {0}
 pub plainly : (e : End) (x : ErrorCount) (n : ℕ) → IsRead x n → IsRead (record x { sets = None }) n
 plainly e x n r = record { sets = refl; is = r.is }
 
-pub note_still : (e : End) (h : ℕ) (x : Noted) → IsUndamaged x → AllByRecursion (IsStill e) (entry_of h x)
-note_still e h x un = grind arith
-
 pub notes_still : (e : End) (h : ℕ) (xs : List Noted) → AllByRecursion IsUndamaged xs → AllByRecursion (IsStill e) (entries_for h xs)
 notes_still e h [] all = tt
-notes_still e h (x ∷ xs) all = AllByRecursion-append (IsStill e) (entry_of h x) (entries_for h xs) (note_still e h x all.0) (notes_still e h xs all.1)
+notes_still e h (x ∷ xs) all = AllByRecursion-append (IsStill e) (entry_of h x) (entries_for h xs) (grind arith) (notes_still e h xs all.1)
 
 -- what a node notes beside its links leaves it
 pub beside_leaves : (e : End) (k : ℕ) (y : Entry) → IsBeside k y → Leaves e y
@@ -86,13 +83,10 @@ beside_leaves e k y b = grind arith
 
 -- ### What is read of the controller
 
-book_of : (e : End) (x : ErrorCount) (y : Entry) → (errors_after e x y).book ≡ book_after 0 x.book y
-book_of e x y = grind arith
-
 -- it is what is read of it without REC_ERROR
 pub book_reads : (e : End) (es : List Entry) (x : ErrorCount) → (reads e es x).book ≡ fold (book_after 0) x.book es
 book_reads e [] x = refl
-book_reads e (y ∷ es) x = book_reads e es (errors_after e x y) ∙ ap (λ b. fold (book_after 0) b es) (book_of e x y)
+book_reads e (y ∷ es) x = book_reads e es (errors_after e x y) ∙ ap (λ b. fold (book_after 0) b es) (grind arith)
 
 -- ## Which deeds of a message set REC_ERROR
 -- Those of a command that sets it, at its turn on a pipe to the link management gate, which is answered by ANY_OK next. Where such a
@@ -137,11 +131,6 @@ is_link_gate gate = option_map_or (λ g. eqb g 6) gate false
 abbrev pub SetsNone : Bool → Option ℕ → Type 0
 SetsNone here sets = cond here sets None ≡ None
 
--- a command that sets nothing doesn't set this value
-sets_nothing : (errors n value : ℕ) (m : Message) → header_of m.1 ≡ Ok (IsCommand, n) → errors_set_by m.1 ≡ None
-    → (link_served errors n (body_in m.1)).1 ≡ Some value → ⊥
-sets_nothing errors n value m command none is = grind arith
-
 -- ### Other messages
 
 plain : Plain IsUnset
@@ -165,7 +154,7 @@ controller_unset core ports h m none =
 pub host_unset : (core : Core) (p : Port) (m : Message) → SetsNone (eqb m.0 0) (errors_set_by m.1) → AreUnset (host_deeds (own_view core) (end_view p) m)
 host_unset core p m none =
     all_of_host IsUnset core plain (own core) p m
-    (λ n value command zero is. sets_nothing p.desk.errors n value m command (subst (λ b. SetsNone b (errors_set_by m.1)) zero none) is)
+    (λ n value command zero is. grind arith)
 
 -- ### Commands that set it
 
@@ -198,35 +187,21 @@ pub data SetDeeds (ports : List Port) (h pid v : ℕ) (deeds : List Deed) : Type
 link_up : (ports : List Port) (h : ℕ) → has_link ports h ≡ true → IsUpAt ports h
 link_up ports h up = grind arith
 
-set_deeds : (h pid errors instruction v : ℕ) (body : List ℕ) → (link_served 0 instruction body).1 ≡ Some v
-    → link_deeds h pid (link_served errors instruction body) ≡ SetsErrors v ∷ Sends h (pid, answer_of response.Ok []) ∷ []
-set_deeds h pid errors instruction v body sets = ap (link_deeds h pid) (set_is errors instruction body v sets).0
-
 abbrev both_of : ℕ → ℕ → Option (ℕ × ℕ)
 both_of host gate = Some (host, gate)
-
--- the gate that a pipe leads to, by its far end
-gate_far : (t : HciTables) (h pid : ℕ) → is_link_gate (own_gate t h pid) ≡ true → far_end t h pid ≡ both_of 0 6
-gate_far t h pid is = grind arith
 
 pub controller_sets : (core : Core) (ports : List Port) (h : ℕ) (m : Message) (v : ℕ) → is_link_gate (own_gate core.tables h m.0) ≡ true
     → errors_set_by m.1 ≡ Some v → SetDeeds ports h m.0 v (controller_deeds (view_of core ports) h m)
 controller_sets core ports h m v leads sets =
-    subst (SetDeeds ports h m.0 v) (sym not_relayed) (by_link (has_link ports h) refl) where
+    subst (SetDeeds ports h m.0 v) (sym (ap (deeds_by_relay (view_of core ports) h m) relayed_none)) (by_link (has_link ports h) refl) where
       s : SetsBy m.1 v
       s = sets_by m.1 v sets
 
       far : far_end core.tables h m.0 ≡ both_of 0 6
-      far = gate_far core.tables h m.0 leads
-
-      gate_is : own_gate core.tables h m.0 ≡ Some 6
-      gate_is = rw far refl
+      far = grind arith
 
       relayed_none : relayed_to core.tables h m ≡ None
       relayed_none = rw far (cond_both _ None None (λ o. o ≡ None) (λ _. refl) (λ _. refl))
-
-      not_relayed : controller_deeds (view_of core ports) h m ≡ own_deeds (view_of core ports) h m (has_link ports h)
-      not_relayed = ap (deeds_by_relay (view_of core ports) h m) relayed_none
 
       other_pipe : eqb m.0 1 ≡ false
       other_pipe = grind arith
@@ -249,14 +224,14 @@ controller_sets core ports h m v leads sets =
           ≡ served_at (own_view core) view h m.0 s.instruction (body_in m.1) (cond b (Some 6) None)
       command_is b q =
           ap (λ c. served_at (own_view core) view h m.0 s.instruction (body_in m.1) (cond c (own_gate core.tables h m.0) None)) (through_is ∙ q)
-          ∙ ap (λ o. served_at (own_view core) view h m.0 s.instruction (body_in m.1) (cond b o None)) gate_is
+          ∙ ap (λ o. served_at (own_view core) view h m.0 s.instruction (body_in m.1) (cond b o None)) (rw far refl)
 
       refused : is_opened core.tables h m.0 ≡ false → decided core.tables view h m.0 s.instruction (body_in m.1) ≡ answers response.PipeNotOpened []
       refused q = ap (λ n. decided core.tables view h m.0 n (body_in m.1)) one_is ∙ rw (far, q) refl
 
       by_opened : (b : Bool) → is_opened core.tables h m.0 ≡ b → IsUpAt ports h
           → SetDeeds ports h m.0 v (command_deeds (view_of core ports) h m.0 s.instruction (body_in m.1))
-      by_opened true q up = IsSet up (command_is true q ∙ set_deeds h m.0 view.errors s.instruction v (body_in m.1) s.sets)
+      by_opened true q up = IsSet up (command_is true q ∙ (ap (link_deeds h m.0) (set_is view.errors s.instruction (body_in m.1) v s.sets).0))
       by_opened false q up = IsRefused up (command_is false q ∙ ap (decision_deeds (own_view core) h m.0) (refused q))
 
       by_link : (b : Bool) → has_link ports h ≡ b → SetDeeds ports h m.0 v (own_deeds (view_of core ports) h m b)
@@ -269,7 +244,7 @@ host_sets core ports p m v here zero sets = by_test (is_up p.side.shdlc.phase)
     (λ q. let shown : host_deeds (own_view core) (end_view p) m
     ≡ ordered_deeds (own_view core) p.desk.errors m.0 s.instruction (body_in m.1) = rw (q, s.header) refl in
     IsSet (record { port = p; here = here; up = up_is p.side.shdlc.phase q })
-    (shown ∙ (ordered_is ∙ set_deeds core.node m.0 p.desk.errors s.instruction v (body_in m.1) s.sets)))
+    (shown ∙ (ordered_is ∙ (ap (link_deeds core.node m.0) (set_is p.desk.errors s.instruction (body_in m.1) v s.sets).0))))
     (λ q. IsDropped (rw q refl)) where
       s : SetsBy m.1 v
       s = sets_by m.1 v sets
@@ -287,9 +262,6 @@ host_sets core ports p m v here zero sets = by_test (is_up p.side.shdlc.phase)
 abbrev pub side_of : End → Side
 side_of e = cond e.at_host Host Controller
 
-pub own_is : (e : End) (h : ℕ) → same_end (end_of h (side_of e)) e ≡ eqb h e.link
-own_is e h = by_test e.at_host (λ q. rw q (and-true (eqb h e.link))) (λ q. rw q (and-true (eqb h e.link)))
-
 -- the end itself, where it is this one, has had so many errors
 abbrev pub HasErrors : End → ℕ → Port → Type 0
 HasErrors e n p = eqb p.desk.host e.link ≡ true → p.desk.errors ≡ n
@@ -298,12 +270,6 @@ pub map_has : (e : End) (n : ℕ) (f : Port → Port) → ((p : Port) → HasErr
     → AllByRecursion (HasErrors e n) ports → AllByRecursion (HasErrors e n) (map f ports)
 map_has e n f one [] all = tt
 map_has e n f one (p ∷ ports) all = (one p all.0, map_has e n f one ports all.1)
-
-turn_still : (e : End) (core : Core) (t : Turn) (o : Option Port) → AllByRecursion (IsStill e) (option_map_or (noted_of core t) o [])
-turn_still e core t o = grind arith
-
-init_still : (e : End) (x : Entry) → IsInitEnd x → IsStill e x
-init_still e x i = grind arith
 
 module _ (e : End) (hosts : List ℕ) (x0 : ErrorCount) where
   -- The node of the end is in a step: what is read of REC_ERROR is what it keeps, and the controller's tables are those that are read
@@ -354,7 +320,7 @@ module _ (e : End) (hosts : List ℕ) (x0 : ErrorCount) where
   pub turns : (k : ℕ) (t : Turn) (w : Work) → Right w → Right (turn_at k t w)
   turns k t w r =
       note (option_map_or (noted_of w.core t) (port_at w.ports k) []) (record w { ports = with_port k (after_turn t) w.ports })
-      (turn_still e w.core t (port_at w.ports k)) (with_ends k (after_turn t) w (λ p. refl) (λ p. refl) r)
+      (grind arith) (with_ends k (after_turn t) w (λ p. refl) (λ p. refl) r)
 
   tells : (k : ℕ) (about : About) (message : List ℕ) (w : Work) → Right w → Right (notified k about message w)
   tells k about message w r =
@@ -419,9 +385,7 @@ module _ (e : End) (hosts : List ℕ) (x0 : ErrorCount) where
 
   pub unset_fine : (k : ℕ) (deeds : List Deed) → AreUnset deeds → AllByRecursion (IsFine k) deeds
   unset_fine k [] all = tt
-  unset_fine k (d ∷ deeds) all = (one d all.0, unset_fine k deeds all.1) where
-    one : (d : Deed) → IsUnset d → IsFine k d
-    one d u = grind arith
+  unset_fine k (d ∷ deeds) all = (grind arith, unset_fine k deeds all.1)
 
   -- it is set at another end
   sets_other : (k v : ℕ) (w : Work) → eqb k e.link ≡ false → Right w → Right (done k (SetsErrors v) w)
@@ -432,14 +396,11 @@ module _ (e : End) (hosts : List ℕ) (x0 : ErrorCount) where
         (λ p. changed_same (λ (q : Port). q.desk.host) (eqb p.desk.host k) set p (λ q. refl)) w.ports ∙ r.hosts_are;
     errors = r.errors;
     read = r.read;
-    ends = map_has e r.errors (λ p. changed_if (eqb p.desk.host k) set p) (λ p has. by p has (eqb p.desk.host k) refl) w.ports r.ends;
+    ends = map_has e r.errors (λ p. changed_if (eqb p.desk.host k) set p) (λ p has. grind arith) w.ports r.ends;
     tables = r.tables;
   } where
     set : Port → Port
     set p = record p { desk = record p.desk { errors = v } }
-
-    by : (p : Port) → HasErrors e r.errors p → (b : Bool) → eqb p.desk.host k ≡ b → HasErrors e r.errors (changed_if b set p)
-    by p has b q = grind arith
 
   does : (k : ℕ) (d : Deed) (w : Work) → IsFine k d → Right w → Right (done k d w)
   does k (Commits c) w q r = commits c w r
@@ -453,12 +414,11 @@ module _ (e : End) (hosts : List ℕ) (x0 : ErrorCount) where
   does k IsAnswered w q r = desks k (λ d. record d { notice = None }) w (λ d. refl) (λ d. refl) r
   does k (Drops pid) w q r = note (entry.Dropped (end_of_node w.core k) pid ∷ []) w ((λ x n i. (plainly e x n i, refl)), tt) r
   does k (SetsErrors errors) w q r = sets_other k errors w q r
-  does k (Orders message) w q r =
-      turns k (Give (1, message)) (record w { core = record w.core { command = Some message } }) (grind arith)
+  does k (Orders message) w q r = turns k (Give (1, message)) (record w { core = record w.core { command = Some message } }) (grind arith)
   does k Hears w q r = with_core w (record w.core { command = None }) refl refl r
   does k (GoesOn i) w q r = with_core w (record w.core { init = Some i }) refl refl r
   does k (Ends y) w q r =
-      note (y ∷ []) (record w { core = record w.core { init = None } }) (init_still e y q, tt) (with_core w (record w.core { init = None }) refl refl r)
+      note (y ∷ []) (record w { core = record w.core { init = None } }) (grind arith, tt) (with_core w (record w.core { init = None }) refl refl r)
 
   pub unless : (f : Work → Work) (w : Work) → (w.cut ≡ false → Right w → Right (f w)) → Right w → Right (unless_cut f w)
   unless f w one r = by_cut Right f w (λ q. r) (λ q. one q r)

@@ -17,8 +17,8 @@ use Rattle.node_laws.proofs.telling.Events.{site_host, site_is}
 use Rattle.node_laws.proofs.telling.WorldTicks.{tick_host}
 use Rattle.node_laws.proofs.turns.Nodes.{sites_is}
 use Rattle.node_laws.proofs.views.Doing.{AreUnset, IsStill, Leaves, reads, reads_append, still_all, still_leaves}
-use Rattle.node_laws.proofs.views.Nodes.{IfKeeps, IsOther, KeepsErrors, aged_still, arrival_still, frames_still, keeps_sets, leaves_kept, others_begin}
-use Rattle.node_laws.proofs.views.Nodes.{others_step, own_begins, own_steps}
+use Rattle.node_laws.proofs.views.Nodes.{IfKeeps, IsOther, KeepsErrors, aged_still, arrival_still, frames_still, leaves_kept, others_begin, others_step}
+use Rattle.node_laws.proofs.views.Nodes.{own_begins, own_steps}
 use Rattle.trace_model.specs.declared.entry.Entry.TheVariants as entry
 
 -- ## What happens to a world: a node that runs keeps what is read of REC_ERROR of its end
@@ -402,15 +402,12 @@ module _ (e : End) (real : e.at_host ≡ true → eqb e.link 0 ≡ false) where
       → IfKeeps e (far_node (site_at (hosts_tick sites).0 e.link)) (reads e (hosts_tick sites).1 x)
   ticks_own [] x fine far k = k
   ticks_own (s ∷ sites) x fine far k =
-      by_host (cases_Bool (eqb s.host e.link)) (ticks_own sites (reads e (host_ticks s).1 x) ((grind arith)) far) where
+      by_host (cases_Bool (eqb s.host e.link)) (ticks_own sites (reads e (host_ticks s).1 x) (grind arith) far) where
         first : Site × List Entry
         first = host_ticks s
 
         later : List Site × List Entry
         later = hosts_tick sites
-
-        rest : AreFine sites
-        rest = record { different = fine.different.1; hosts = fine.hosts.1; nodes = fine.nodes.1 }
 
         found : (b : Bool) → eqb s.host e.link ≡ b → site_at (first.0 ∷ later.0) e.link ≡ cond b (Some first.0) (site_at later.0 e.link)
         found b q = ap (λ b. cond b (Some first.0) (site_at later.0 e.link)) (ap (λ n. eqb n e.link) (tick_host s) ∙ q)
@@ -428,7 +425,7 @@ module _ (e : End) (real : e.at_host ≡ true → eqb e.link 0 ≡ false) where
             tick_own s x fine.nodes.0 far here (subst (λ o. IfKeeps e (far_node o) x) (was true is) k) in
             subst (λ o. IfKeeps e (far_node o) (reads e (first.1 ++ later.1) x)) (sym (found true is))
             (subst (IfKeeps e first.0.node) (sym (reads_append e first.1 later.1 x))
-            (leaves_kept e first.0.node (reads e first.1 x) later.1 (ticks_leave sites rest
+            (leaves_kept e first.0.node (reads e first.1 x) later.1 (ticks_leave sites (grind arith)
             (λ f. subst (λ n. AllByRecursion (λ k. eqb k n ≡ false) (hosts_in sites)) here fine.different.0)) mine))
         by_host (inr off) next =
             let there : IfKeeps e (far_node (site_at sites e.link)) (reads e first.1 x) =
@@ -455,12 +452,11 @@ module _ (e : End) (real : e.at_host ≡ true → eqb e.link 0 ≡ false) where
       let x1 : ErrorCount = reads e old.1 x in
       let x2 : ErrorCount = reads e near.1 x1 in
       let book : x1.book ≡ x.book =
-      (still_all e old.1 x x.errors (aged_entries_still w) (record { sets = keeps_sets e (own_node e real w) x k; is = refl })).1 in
+      (still_all e old.1 x x.errors (aged_entries_still w) (record { sets = grind arith; is = refl })).1 in
       let fine : AreFine old.0.sites = map_fine grow (λ s. refl) (λ s. refl) w.sites (orderly_fine w orderly) in
       let runs : IfItRuns 0 (hosts_in old.0.sites) old.0.controller =
       subst (λ hs. IfItRuns 0 hs w.controller) (sym (hosts_same grow (λ s. refl) w.sites)) orderly.controller in
-      let one : So old.0 x1 = aged_kept w x k in
-      let two : So near.0 x2 = near_ticks old.0 x1 runs (λ n r q. known n r q ∙ sym (ap (λ (b : Book). b.tables) book)) one in
+      let two : So near.0 x2 = near_ticks old.0 x1 runs (λ n r q. known n r q ∙ sym (ap (λ (b : Book). b.tables) book)) (aged_kept w x k) in
       let three : So (record near.0 { sites = far.0 }) (reads e far.1 x2) = far_ticks near.0 x2 (near_ticks_fine old.0 fine) two in
       subst (So (record near.0 { sites = far.0 })) (sym (reads_append e old.1 (near.1 ++ far.1) x ∙ reads_append e near.1 far.1 x1)) three
 
@@ -517,10 +513,6 @@ module _ (e : End) (real : e.at_host ≡ true → eqb e.link 0 ≡ false) where
   pub memory_kept : (w : NodeWorld) (n : ℕ) (m : Memory) (x : ErrorCount) → So w x → So (with_memory n m w) x
   memory_kept w n m x k = subst (λ o. IfKeeps e o x) (sym (memory_node w n m)) k
 
-  -- what is read as a node boots
-  booted_other : (n c : ℕ) → eqb n (node_of e) ≡ false → Leaves e (entry.Booted n c)
-  booted_other n c off = λ x k r. record { sets = refl; is = ap (λ b. cond b 0 x.errors) off ∙ r.is }
-
   new_desks : (hosts : List ℕ) (n : ℕ) → n ≡ 0 → AllByRecursion (λ (d : Desk). eqb d.host e.link ≡ true → d.errors ≡ n) (map new_desk hosts)
   new_desks [] n is = tt
   new_desks (h ∷ hosts) n is = ((λ here. sym is), new_desks hosts n is)
@@ -548,11 +540,8 @@ module _ (e : End) (real : e.at_host ≡ true → eqb e.link 0 ≡ false) where
     abbrev noted : Entry
     noted = entry.Booted n (count_of runs.core.journal)
 
-    written_kept : So written x
-    written_kept = memory_kept w n after_it x k
-
     stays : (v : NodeWorld) → own_node e real v ≡ own_node e real written → eqb n (node_of e) ≡ false → So v (reads e (noted ∷ []) x)
-    stays v same off = left e real written v (noted ∷ []) x same (booted_other n (count_of runs.core.journal) off, tt) written_kept
+    stays v same off = left e real written v (noted ∷ []) x same (grind arith, tt) (memory_kept w n after_it x k)
 
     starts : (v : NodeWorld) → own_node e real v ≡ Some runs → eqb n (node_of e) ≡ true → So v (reads e (noted ∷ []) x)
     starts v node is =
@@ -574,24 +563,20 @@ module _ (e : End) (real : e.at_host ≡ true → eqb e.link 0 ≡ false) where
         starts far_v (host_node e real far_v far ∙ (ap (λ m. far_node (site_at far_v.sites m)) link ∙ with_own n (λ (s : Site). record s { node = Some runs })
         (λ s. refl) written.sites s (sym (ap (site_at written.sites) link) ∙ here))) (eq-eqb n (node_of e) (sym link ∙ rw far refl))
 
-    far_zero : e.at_host ≡ true → eqb n 0 ≡ true → eqb n (node_of e) ≡ false
-    far_zero far z = ne_eqb n (node_of e) (λ same. true≢false (sym (eq-eqb e.link 0 (sym (same ∙ host_link e real far) ∙ eqb-true n 0 z)) ∙ real far))
-
     near_kept : eqb n 0 ≡ true → (e.at_host ≡ true) ⊎ (e.at_host ≡ false) → So (record written { controller = Some runs }) (reads e (noted ∷ []) x)
     near_kept z (inl far) =
         stays (record written { controller = Some runs })
-        (host_node e real (record written { controller = Some runs }) far ∙ sym (host_node e real written far)) (far_zero far z)
+        (host_node e real (record written { controller = Some runs }) far ∙ sym (host_node e real written far)) (grind arith)
     near_kept z (inr near) =
         starts (record written { controller = Some runs }) (near_node e real (record written { controller = Some runs }) near)
         (eq-eqb n (node_of e) (eqb-true n 0 z ∙ sym (near_zero e real near)))
 
     far_kept : eqb n 0 ≡ false → (e.at_host ≡ true) ⊎ (e.at_host ≡ false) → So far_v (reads e (noted ∷ []) x)
     far_kept z (inl far) = at_site far (site_at written.sites e.link) refl (cases_Bool (eqb e.link n))
-    far_kept z (inr near) =
-        stays far_v (near_node e real far_v near ∙ sym (near_node e real written near)) (ap (eqb n) (near_zero e real near) ∙ z)
+    far_kept z (inr near) = stays far_v (near_node e real far_v near ∙ sym (near_node e real written near)) (ap (eqb n) (near_zero e real near) ∙ z)
 
     pub boots_kept : Then (boots w n) x
     boots_kept =
-        by_boot (λ p. Then p x) w n (cut_kept written n x written_kept)
+        by_boot (λ p. Then p x) w n (cut_kept written n x (memory_kept w n after_it x k))
         (by_running (λ v. So v (reads e (noted ∷ []) x)) n written runs (λ z. near_kept z (cases_Bool e.at_host))
         (λ z. far_kept z (cases_Bool e.at_host)))

@@ -6,7 +6,7 @@ use Rattle.node_laws.proofs.Words.{Ok, Option, Orders, Plain, Plan, Port, Releas
 use Rattle.node_laws.proofs.Words.{Tells, Turn, Up, Work, Write, [], after_input, after_sessions, all_done, all_synced_hold, ap, append-nil, arith, beginning}
 use Rattle.node_laws.proofs.Words.{begins_with, body_in, body_of, by_cut, by_option, by_test, cases_Bool, comes_to_pass, commit, commit_writes, cond, cond-true}
 use Rattle.node_laws.proofs.Words.{cond_both, count_of, deeds_of, done, end_h, end_of, end_of_node, end_view, ended_by, entries_for, entry_of, eq-eqb, eqb}
-use Rattle.node_laws.proofs.Words.{eqb-true, fails_within, false, flat_map, fold, fold-append, goes_through_ends, handles, has, has_come, have_turns, header_of}
+use Rattle.node_laws.proofs.Words.{fails_within, false, flat_map, fold, fold-append, goes_through_ends, handles, has, has_come, have_turns, header_of}
 use Rattle.node_laws.proofs.Words.{holds_back, host_deeds, init_after, init_deeds, init_of, inl, input_at, inr, is_held, is_response, is_some, is_up, keeps}
 use Rattle.node_laws.proofs.Words.{lack, learned, learned_holds, length, lets_go, loses_power, map, needs, noted_of, noting, option_map, option_map_or}
 use Rattle.node_laws.proofs.Words.{option_to_list, ordered_deeds, own_side, own_view, passes, port_at, refl, report, response_deeds, same_end, sending, steps}
@@ -95,11 +95,6 @@ module _ (h : ℕ) (now : LinkState) where
     ended : (y : Option Init) (command : Option (List ℕ)) → y ≡ None → MayGo y command None []
     ended y command is = (is, λ some. absurd (true≢false (sym some)))
 
-    -- a response came to a command of an init, and one more is read as answered
-    init_go : (code : ℕ) (value : List ℕ) (init : Option Init) → now ≡ Up
-        → MayGo (option_map with_response init) None init (init_deeds (own_view core) code value init)
-    init_go code value init up = grind arith
-
     none_of : (o : Option Init) → (is_some o ≡ true → ⊥) → o ≡ None
     none_of o e = grind arith
 
@@ -110,7 +105,7 @@ module _ (h : ℕ) (now : LinkState) where
         (λ order q. rw q (neutral_go (option_map with_response core.init) None core.init (cond (eqb code 0) (learned (own_view core) order value) [])
         (init_deeds (own_view core) code value core.init)
         (cond_both (eqb code 0) (learned (own_view core) order value) [] AreNeutral (λ _. learned_neutral core order value) (λ _. tt))
-        (init_go code value core.init up))) where
+        (grind arith))) where
           none_is : core.command ≡ None → core.init ≡ None
           none_is q = none_of core.init (λ some. true≢false (sym (waits some) ∙ ap is_some q))
 
@@ -123,9 +118,6 @@ module _ (h : ℕ) (now : LinkState) where
         → MayGo y core.command core.init deeds
     neutral_all y deeds is waits all = subst (MayGo y core.command core.init) (append-nil deeds) (neutral_go y core.command core.init deeds [] all (is, waits))
 
-    not_answered : (m : Message) (y : Option Init) → is_response m.1 ≡ false → answered_by m y ≡ y
-    not_answered m y other = grind arith
-
     -- what a host does with a message
     host_go : (p : Port) (m : Message) → p.side.shdlc.phase ≡ now → (is_some core.init ≡ true → (is_some core.command ≡ true) × (now ≡ Up))
         → MayGo (answered_by m core.init) core.command core.init (host_deeds (own_view core) (end_view p) m)
@@ -133,26 +125,17 @@ module _ (h : ℕ) (now : LinkState) where
       Fine : List Deed → Type 0
       Fine deeds = MayGo (answered_by m core.init) core.command core.init deeds
 
-      up_of : (s : LinkState) → is_up s ≡ true → s ≡ Up
-      up_of s e = grind arith
-
       up_is : (s : LinkState) → s ≡ Up → is_up s ≡ true
       up_is s e = rw e refl
 
-      none_there : is_up p.side.shdlc.phase ≡ false → core.init ≡ None
-      none_there q = none_of core.init (λ some. true≢false (sym (up_is p.side.shdlc.phase (phase ∙ (waits some).1)) ∙ q))
-
-      same_none : (i : Option Init) → i ≡ None → answered_by m i ≡ i
-      same_none i e = grind arith
-
       go : (b : Bool) (x : Result (MessageKind × ℕ) MessageFault) → is_up p.side.shdlc.phase ≡ b → header_of m.1 ≡ x
           → Fine (host_deeds (own_view core) (end_view p) m)
-      go false x q z = rw q (neutral_all (answered_by m core.init) (Drops m.0 ∷ []) (same_none core.init (none_there q)) waits (tt, tt))
+      go false x q z = rw q (neutral_all (answered_by m core.init) (Drops m.0 ∷ []) (grind arith) waits (tt, tt))
       go true (Ok (IsCommand, n)) q z =
           let other : is_response m.1 ≡ false = rw z refl in
           let shown : host_deeds (own_view core) (end_view p) m ≡ ordered_deeds (own_view core) p.desk.errors m.0 n (body_in m.1) = rw (q, z) refl in
           subst Fine (sym shown)
-          (neutral_all (answered_by m core.init) (ordered_deeds (own_view core) p.desk.errors m.0 n (body_in m.1)) (not_answered m core.init other) waits
+          (neutral_all (answered_by m core.init) (ordered_deeds (own_view core) p.desk.errors m.0 n (body_in m.1)) (grind arith) waits
           (ordered_neutral core p.desk.errors m.0 n (body_in m.1)))
       go true (Ok (IsEvent, n)) q z = grind arith
       go true (Err fault) q z = grind arith
@@ -164,7 +147,7 @@ module _ (h : ℕ) (now : LinkState) where
         by_pipe (inl one) =
             subst (λ b. MayGo (cond (b && is_response m.1) (option_map with_response core.init) core.init) core.command core.init (cond b
             (response_deeds (own_view core) n (body_in m.1)) [])) (sym one)
-            (rw z (response_go n (body_in m.1) (sym phase ∙ up_of p.side.shdlc.phase q) (λ some. (waits some).0)))
+            (rw z (response_go n (body_in m.1) (sym phase ∙ (grind arith)) (λ some. (waits some).0)))
         by_pipe (inr off) =
             subst (λ b. MayGo (cond (b && is_response m.1) (option_map with_response core.init) core.init) core.command core.init (cond b
             (response_deeds (own_view core) n (body_in m.1)) [])) (sym off) (neutral_all core.init [] refl waits tt)
@@ -185,14 +168,11 @@ told_init h core p i y side at = rw side (go (ended_by p.side i)) where
   rest : List Noted
   rest = told_rest Host p.session (whole_acked (after_input p.side i)) (report p.side i)
 
-  quiet : AllByRecursion IsQuiet rest
-  quiet = rest_quiet Host p.session (whole_acked (after_input p.side i)) (report p.side i)
-
   go : (o : Option Cause) → reads_init h (entries_for p.desk.host (map (IsDown Host) (option_to_list o) ++ rest)) y ≡ cond (is_some o) None y
-  go None = quiet_init h p.desk.host rest y quiet
+  go None = quiet_init h p.desk.host rest y (rest_quiet Host p.session (whole_acked (after_input p.side i)) (report p.side i))
   go (Some cause) =
       ap (λ b. reads_init h (entries_for p.desk.host rest) (cond b None y)) (ap (λ k. same_end (end_h k) (end_h h)) at ∙ same_own h)
-      ∙ quiet_init h p.desk.host rest None quiet
+      ∙ quiet_init h p.desk.host rest None (rest_quiet Host p.session (whole_acked (after_input p.side i)) (report p.side i))
 
 turn_init : (h : ℕ) (core : Core) (t : Turn) (o : Option Port) (y : Option Init) → reads_init h (option_map_or (noted_of core t) o []) y ≡ y
 turn_init h core t o y = grind arith
@@ -388,8 +368,7 @@ module _ (h : ℕ) (host : IsHost h) (i0 : Option Init) where
           by : (eqb s.base.port.desk.host k ≡ true) ⊎ (eqb s.base.port.desk.host k ≡ false)
               → Stands now (have_turns k (option_map_or (λ (p : Port). p.side.got) (port_at w.ports k) []) w)
           by (inl q) =
-              let same : h ≡ k = sym s.base.at ∙ eqb-true s.base.port.desk.host k q in
-              subst (λ n. Stands now (have_turns n (option_map_or (λ (p : Port). p.side.got) (port_at w.ports n) []) w)) same
+              subst (λ n. Stands now (have_turns n (option_map_or (λ (p : Port). p.side.got) (port_at w.ports n) []) w)) (grind arith)
               (have (option_map_or (λ (p : Port). p.side.got) (port_at w.ports h) []) w on s)
           by (inr q) = subst (λ ms. Stands now (have_turns k ms w)) (sym (none_is q)) (lets k w s)
 
@@ -509,9 +488,8 @@ pub steps_keep : (h : ℕ) (begun : Option Init) (input : NodeInput) (w : Work) 
     → AllByRecursion IsFresh w.ports → KeepsInit h begun (steps input w)
 steps_keep h begun input w host out k on fresh =
     let s : Stands h host begun k.port.side.shdlc.phase w = keeps_stand h host begun w on k in
-    let all : AllByRecursion IsFresh (s.base.port ∷ []) = subst (AllByRecursion IsFresh) s.base.is fresh in
     stands_keep h host begun (has_come s.base.port (input_at input s.base.port)).side.shdlc.phase (steps input w)
-    (steps_stand h host begun k.port.side.shdlc.phase input w out on s all.0)
+    (steps_stand h host begun k.port.side.shdlc.phase input w out on s (subst (AllByRecursion IsFresh) s.base.is fresh).0)
 
 pub sends_keep : (h : ℕ) (begun : Option Init) (m : Message) (w : Work) → IsHost h → KeepsInit h begun w → w.cut ≡ false
     → KeepsInit h begun (begins_with h (sending h m) w)
@@ -527,7 +505,7 @@ begins_keep h begun identity pipes w host k on none up =
     let i : Option Init = Some (init_of identity pipes) in
     let now : LinkState = k.port.side.shdlc.phase in
     stands_keep h host i now (begins_with h (beginning identity pipes) w)
-    (all_go h host i now h (beginning identity pipes) w i on ((grind arith)) (ap (λ es. reads_init h es i) none) (refl, λ some. (refl, up)))
+    (all_go h host i now h (beginning identity pipes) w i on (grind arith) (ap (λ es. reads_init h es i) none) (refl, λ some. (refl, up)))
 
 -- ## What other nodes note tells nothing of the init that runs at a host
 
@@ -535,9 +513,6 @@ begins_keep h begun identity pipes w host k on none up =
 
 off_cond : (b : Bool) (x y : Option Init) → b ≡ false → cond b x y ≡ y
 off_cond b x y e = rw e refl
-
-off_both : (a b : Bool) (x y : Option Init) → a ≡ false → cond (a && b) x y ≡ y
-off_both a b x y e = rw e refl
 
 pub quiet_leaves : (h k : ℕ) (notes : List Noted) → AllByRecursion IsQuiet notes → AllByRecursion (LeavesInit h) (entries_for k notes)
 quiet_leaves h k [] all = tt
@@ -558,7 +533,7 @@ module _ (h n : ℕ) (other : eqb n h ≡ false) (who : Side) (is_side : cond (e
   note_leaves k x off own = grind arith
 
   turned_leaves : (k pid : ℕ) (message : List ℕ) → IsOff k → LeavesInit h (entry.Turn (end_of k who) pid message)
-  turned_leaves k pid message off = λ y. off_both (same_end (end_of k who) (end_h h)) _ (option_map with_response y) y off
+  turned_leaves k pid message off = λ y. (rw off refl)
 
   beside_leaves : (x : Entry) → IsBeside n x → LeavesInit h x
   beside_leaves x b = grind arith

@@ -49,7 +49,7 @@ done_keeps s host i now k l link memory phase st = by_test k.cut
     (λ e. record { read = read ∙ (st.off e ∙ sym (rw e refl)); runs = rw e tt })
     (λ e. record {
       read = read ∙ ((st.on e).0 ∙ sym (rw e refl));
-      runs = rw e ((grind arith));
+      runs = rw e (grind arith);
     }) where
       read : reads_init s.host (k.entries ++ frames_noted Host s.host l k) i ≡ reads_init s.host k.entries i
       read = init_append s.host k.entries (frames_noted Host s.host l k) i ∙ frames_init s.host Host s.host l k (reads_init s.host k.entries i)
@@ -186,13 +186,6 @@ abbrev pub AtSite : Option Init → Option Site → Type 0
 AtSite i None = i ≡ None
 AtSite i (Some s) = SiteKeepsInit i s
 
--- the node of a host
-pub absent : (w : NodeWorld) (n : ℕ) → eqb n 0 ≡ false → site_at w.sites n ≡ None → node_at w n ≡ None
-absent w n off z = rw (off, z) refl
-
-pub present : (w : NodeWorld) (n : ℕ) → eqb n 0 ≡ false → (s : Site) → site_at w.sites n ≡ Some s → node_at w n ≡ s.node
-present w n off s z = rw (off, z) refl
-
 -- a node whose init begins runs, and the host's end of its link is up
 pub record MayInit (w : NodeWorld) (e : End) : Type 0 where
   pub node : Running
@@ -244,9 +237,6 @@ module _ (h : ℕ) (host : IsHost h) where
       (λ p q. rw q (quiet_leaves h k (Rattle.link_laws.specs.entries.Entries.ending_entries who l p.side (ending_of w))
       (ending_quiet who l p.side (ending_of w))))
 
-  arrival_leave : (who : Side) (k : ℕ) (l : Link) (comes : Comes) → AllByRecursion (LeavesInit h) (entries_for k (arrival who l comes))
-  arrival_leave who k l comes = quiet_leaves h k (arrival who l comes) (arrival_quiet who l comes)
-
   near_off : (hosts : List ℕ) → AllByRecursion (λ k. same_end (end_of k Controller) (end_h h) ≡ false) hosts
   near_off [] = tt
   near_off (k ∷ hosts) = (and-false (eqb k h), near_off hosts)
@@ -266,7 +256,7 @@ module _ (h : ℕ) (host : IsHost h) where
       (AllByRecursion-append (LeavesInit h) c.entries frames
       (others_step h 0 zero_off Controller refl (hosts_in w.sites) r w.memory.plan (λ n. near_end_in (link_to w.sites n) (comes_to k comes n))
       (entries_for k (arrival Controller (link_to w.sites k) comes)) (AtEnd k input) (subst (IfItRuns 0 (hosts_in w.sites)) q orderly.controller)
-      (near_off (hosts_in w.sites)) (arrival_leave Controller k (link_to w.sites k) comes))
+      (near_off (hosts_in w.sites)) (grind arith))
       (all_flat (LeavesInit h) (λ (s : Site). frames_noted Controller s.host (wires_for s.link (comes_to k comes s.host)) c)
       (λ s. frames_leave Controller s.host (wires_for s.link (comes_to k comes s.host)) c) w.sites))
       (map_keeps (link_after_controller k comes c) (λ s. refl) (λ s. refl)
@@ -346,7 +336,7 @@ module _ (h : ℕ) (host : IsHost h) where
       (λ z. other_acts w k comes (steps (AtEnd k input)) i z
       (λ s r here q. let has = own_ends w.sites k s r (orderly_fine w orderly) here q in
       host_steps s r (λ n. near_end_in (exchanged s.link) comes) (entries_for s.host (arrival Host (exchanged s.link) comes)) (AtEnd k input) has.0 has.1
-      (other_host w.sites k s here z) (arrival_leave Host s.host (exchanged s.link) comes)) keeps)
+      (other_host w.sites k s here z) (grind arith)) keeps)
 
   -- ### Something comes
 
@@ -398,18 +388,13 @@ module _ (h : ℕ) (host : IsHost h) where
         begins : (s : Site) → site_at w.sites h ≡ Some s → s.node ≡ Some may.node → e.link ≡ h
             → Then (host_does w e.link NoInput (begins_with e.link (beginning identity pipes))) (Some (init_of identity pipes))
         begins s here runs same =
-            let up : s.link.host.side.shdlc.phase ≡ Up = grind arith in
             subst (λ n. Then (host_does w n NoInput (begins_with n (beginning identity pipes))) (Some (init_of identity pipes))) (sym same)
             (own_runs w NoInput (λ n. begins_with n (beginning identity pipes)) (Some (init_of identity pipes)) s may.node here runs
-            (begins_keeps s (real_host w.sites s here) i may.node runs (subst (AtSite i) here keeps) identity pipes up))
+            (begins_keeps s (real_host w.sites s here) i may.node runs (subst (AtSite i) here keeps) identity pipes (grind arith)))
 
 -- ## A tick of a world, losses and power: a host keeps the init that is read of it
 
 -- ### A frame that was refused leaves the init of a node
-
-lost_keeps : (k : ℕ) (why : Loss) (i : Option Init) (s : Site) → SiteKeepsInit i s
-    → SiteKeepsInit i (record s { link = happens s.link (AtHost (Lose why)); node = counts why k s.node })
-lost_keeps k why i s keeps = grind arith
 
 -- a node that boots doesn't run, and one whose init begins does, with its end up
 abbrev pub MayKeep : NodeWorld → Happening → Type 0
@@ -505,8 +490,7 @@ module _ (h : ℕ) (host : IsHost h) where
       let fine : AreFine old.0.sites = map_fine grow (λ s. refl) (λ s. refl) w.sites (orderly_fine w orderly) in
       let runs : IfItRuns 0 (hosts_in old.0.sites) old.0.controller =
       subst (λ hs. IfItRuns 0 hs w.controller) (sym (hosts_same grow (λ s. refl) w.sites)) orderly.controller in
-      let one : Has old.0 (reads_init h old.1 i) = aged_keep w i keeps in
-      let two : Has near.0 (reads_init h near.1 (reads_init h old.1 i)) = near_ticks old.0 (reads_init h old.1 i) runs one in
+      let two : Has near.0 (reads_init h near.1 (reads_init h old.1 i)) = near_ticks old.0 (reads_init h old.1 i) runs (aged_keep w i keeps) in
       subst (λ y. AtSite y (site_at far.0 h)) (sym (init_append h old.1 (near.1 ++ far.1) i ∙ init_append h near.1 far.1 (reads_init h old.1 i)))
       (ticks_all near.0.sites (reads_init h near.1 (reads_init h old.1 i)) (near_ticks_fine old.0 fine) two)
 
@@ -517,15 +501,13 @@ module _ (h : ℕ) (host : IsHost h) where
   with_keeps k f same i one sites keeps =
       sites_is (λ s. changed_if (eqb s.host k) f s) (λ s. changed_same (λ (x : Site). x.host) (eqb s.host k) f s same) sites h (AtSite i)
       (λ z. subst (AtSite i) z keeps)
-      (λ s z. by (eqb s.host k) s (subst (AtSite i) z keeps)) where
-        by : (b : Bool) (s : Site) → SiteKeepsInit i s → SiteKeepsInit i (changed_if b f s)
-        by b s k = grind arith
+      (λ s z. grind arith)
 
   lost_keep : (w : NodeWorld) (i : Option Init) (e : End) (why : Loss) → Has w i → So (frame_lost w e why) i
   lost_keep w i e why keeps = by_test e.at_host
       (λ q. rw q (left h host (record w { sites = with_site e.link far w.sites }) (entries_for e.link (first_lost Host why (link_to w.sites e.link).to_host)) i
       (quiet_leaves h e.link (first_lost Host why (link_to w.sites e.link).to_host) (lost_quiet Host why (link_to w.sites e.link).to_host))
-      (with_keeps e.link far (λ s. refl) i (λ s k. lost_keeps e.link why i s k) w.sites keeps)))
+      (with_keeps e.link far (λ s. refl) i (λ s k. grind arith) w.sites keeps)))
       (λ q. rw q (left h host (record w { controller = counts why e.link w.controller; sites = with_site e.link near w.sites })
       (entries_for e.link (first_lost Controller why (link_to w.sites e.link).to_controller)) i
       (grind arith)
@@ -581,7 +563,7 @@ module _ (h : ℕ) (host : IsHost h) where
   -- ### Boots
 
   node_is : (w : NodeWorld) → node_at w h ≡ far_node (site_at w.sites h)
-  node_is w = by_option (site_at w.sites h) (λ z. absent w h (zero h host) z ∙ sym (ap far_node z)) (λ s z. present w h (zero h host) s z ∙ sym (ap far_node z))
+  node_is w = by_option (site_at w.sites h) (λ z. (grind arith) ∙ sym (ap far_node z)) (λ s z. (rw ((zero h host), z) refl) ∙ sym (ap far_node z))
 
   module _ (w : NodeWorld) (n : ℕ) (i : Option Init) (keeps : Has w i) (may : node_at w n ≡ None) where
     abbrev before : Memory
@@ -626,11 +608,10 @@ module _ (h : ℕ) (host : IsHost h) where
               (AtSite i) (λ z. subst (AtSite i) here written_keeps) (λ s z. let none : None ≡ Some s = sym here ∙ z in absurd (cc none))
     own_boots q same (Some s) here =
         let at : s.host ≡ h = site_host written.sites h s here in
-        let starts : SiteKeepsInit i (record s { node = Some (found s.host (s.host ∷ []) before.content) }) = grind arith in
         let node : found s.host (s.host ∷ []) before.content ≡ runs = grind arith in
         subst (λ m. AtSite i (site_at (with_site m (λ (s : Site). record s { node = Some runs }) written.sites) h)) (sym same)
         (own_keeps h host (λ (s : Site). record s { node = Some runs }) (λ s. refl) written.sites s i here
-        (subst (λ r. SiteKeepsInit i (record s { node = Some r })) node starts))
+        (subst (λ r. SiteKeepsInit i (record s { node = Some r })) node (grind arith)))
 
     far_keep : eqb n 0 ≡ false → (eqb n h ≡ true) ⊎ (eqb n h ≡ false) → So (far_v, noted ∷ []) i
     far_keep q (inl is) = own_boots q (eqb-true n h is) (site_at written.sites h) refl

@@ -4,21 +4,20 @@ use Rattle.node_laws.proofs.Words.{Activates, AllByRecursion, AllKeep, AreHosts,
 use Rattle.node_laws.proofs.Words.{Controller, Desk, End, Entry, ErrorCount, ErrorsAreRead, FollowsNodes, Gives, Happening, HasEnds, HciTables, Header, Host}
 use Rattle.node_laws.proofs.Words.{IfItRuns, IfKnowsAsRead, IfRuns, Init, Inits, IsBegunByHost, IsCut, IsFew, IsHost, IsKeptNotice, IsOrderly, IsSameView}
 use Rattle.node_laws.proofs.Words.{IsSentByHost, IsTrue, KeepsNotices, Line, Link, LinkEnd, LinkView, List, Lose, Loses, Loss, MayBoot, MayHappen, Message}
-use Rattle.node_laws.proofs.Words.{NextFrame, NodeHistory, NodeWorld, None, NoticesAreRead, NumberedEnd, Occurrence, OnDemand, OnWire, Option, Orders, Port}
-use Rattle.node_laws.proofs.Words.{Resets, Running, Sends, Site, Some, Takes, Ticks, TooMany, TooOld, Unread, Up, [], and-false, ap, append-nil, ap₂, arith}
-use Rattle.node_laws.proofs.Words.{asked_pipes, asking_in, beginning, by_option, by_test, cases_Bool, changed_if, cond, cond_both, counts, decided, end_c}
-use Rattle.node_laws.proofs.Words.{end_of, ends_between, entries_for, entries_in, eq-eqb, eqb, eqb-false, eqb-true, errors_after, errors_in, errors_of, false}
-use Rattle.node_laws.proofs.Words.{filter, find, first_lost, first_verdict, fold, frame_lost, frames_at, give_refusal, happenings, happens, happens_by}
-use Rattle.node_laws.proofs.Words.{hosts_in, if_not_sent, if_off, if_waiting, init_begun, init_behind, init_in, init_of_running, inl, inr, is_asked_at}
-use Rattle.node_laws.proofs.Words.{is_asked_pipe, is_command_message, is_connected_at, is_connected_in, is_of_creation, is_one_of, is_opened, is_some, is_up}
-use Rattle.node_laws.proofs.Words.{link_to, list_any, lost_as, lpdu_of, machine_in, map, mask_of, memory_at, min, ne_eqb, new_world, no_errors, node_at}
-use Rattle.node_laws.proofs.Words.{node_entries, node_of, notice_at, notice_in, notice_of_running, occurrences_in, option_and_then, option_map, option_map_or}
-use Rattle.node_laws.proofs.Words.{port_at, port_for, range_with_len, refl, refusal_in, same_end, sending, session_at, session_now, site_at, slice_index}
-use Rattle.node_laws.proofs.Words.{steps_from, subst, sym, tables_in, taken_of, true, true≢false, unwrap_or, view_at, view_for, waiting_pipes, was_refused}
-use Rattle.node_laws.proofs.Words.{with_error, with_site, world_after, world_behind, world_step, ℕ, ◌&&◌, ◌++◌, ◌+◌, ◌||◌, ◌∙◌, ◌∷◌, ◌≡◌, ◌⊎◌}
+use Rattle.node_laws.proofs.Words.{NextFrame, NodeHistory, NodeWorld, None, NoticesAreRead, NumberedEnd, Occurrence, OnDemand, OnWire, Option, Port, Resets}
+use Rattle.node_laws.proofs.Words.{Running, Site, Some, Takes, Ticks, TooMany, TooOld, Unread, Up, [], and-false, ap, append-nil, ap₂, arith, asked_pipes}
+use Rattle.node_laws.proofs.Words.{asking_in, beginning, by_option, by_test, cases_Bool, changed_if, cond, cond_both, counts, decided, end_c, end_of}
+use Rattle.node_laws.proofs.Words.{ends_between, entries_for, entries_in, eq-eqb, eqb, eqb-false, eqb-true, errors_after, errors_in, errors_of, false, filter}
+use Rattle.node_laws.proofs.Words.{find, first_lost, first_verdict, fold, frame_lost, frames_at, give_refusal, happenings, happens, hosts_in, if_not_sent}
+use Rattle.node_laws.proofs.Words.{if_off, if_waiting, init_begun, init_behind, init_in, init_of_running, inl, inr, is_asked_at, is_asked_pipe, is_connected_at}
+use Rattle.node_laws.proofs.Words.{is_connected_in, is_of_creation, is_one_of, is_some, is_up, link_to, list_any, lost_as, lpdu_of, machine_in, map, mask_of}
+use Rattle.node_laws.proofs.Words.{memory_at, min, ne_eqb, new_world, no_errors, node_at, node_entries, node_of, notice_at, notice_in, notice_of_running}
+use Rattle.node_laws.proofs.Words.{occurrences_in, option_and_then, option_map, option_map_or, port_at, port_for, range_with_len, refl, refusal_in, same_end}
+use Rattle.node_laws.proofs.Words.{sending, session_at, session_now, site_at, slice_index, steps_from, subst, sym, tables_in, taken_of, true, true≢false}
+use Rattle.node_laws.proofs.Words.{unwrap_or, view_at, view_for, waiting_pipes, was_refused, with_error, with_site, world_after, world_behind, world_step, ℕ}
+use Rattle.node_laws.proofs.Words.{◌&&◌, ◌++◌, ◌+◌, ◌||◌, ◌∙◌, ◌∷◌, ◌≡◌, ◌⊎◌}
 use Rattle.gate_admin.specs.View.{hosts_where}
 use Rattle.history.specs.Follows.{if_empty}
-use Rattle.pipe_table.specs.PipeRows.{lowest_free}
 use Rattle.swp_base.specs.declared.link_terms.FrameFault.{FrameFault}
 use Rattle.node_laws.specs.views.Errors.{MayBeCounted}
 use Rattle.node_laws.proofs.creations.Knowing.{given_same, if_known}
@@ -33,7 +32,7 @@ use Rattle.node_laws.proofs.telling.Events.{link_is, sending_mute}
 use Rattle.node_laws.proofs.telling.Lasting.{AllMay, AreCaused, behind_lines, damaged_may, entries_of_steps, events_of_steps, history_holds, lines_caused}
 use Rattle.node_laws.proofs.telling.Lasting.{lines_last, new_orderly, repeated_may, stands_none, step_orderly}
 use Rattle.node_laws.proofs.views.Going.{reads_init}
-use Rattle.node_laws.proofs.views.Doing.{AreUnset, Leaves, book_reads, own_is, reads, reads_append, still_leaves}
+use Rattle.node_laws.proofs.views.Doing.{Leaves, book_reads, reads, reads_append, still_leaves}
 use Rattle.node_laws.proofs.views.Events.{After, Kept, Known, activates_kept, boots_kept, comes_kept, cut_kept, far_begins, far_node, host_node, left}
 use Rattle.node_laws.proofs.views.Events.{memory_kept, near_node, orderly_fine, own_node, own_node_is, ticks_kept, with_kept, with_none, with_other, with_own}
 use Rattle.node_laws.proofs.views.InitWorlds.{AtSite, Keeps, MayInit, MayKeep, event_keeps}
@@ -130,10 +129,8 @@ port_is : (f : Desk → Port) → ((d : Desk) → (f d).desk.host ≡ d.host) �
 port_is f host [] h = refl
 port_is f host (d ∷ desks) h = by_test (eqb d.host h)
     (λ q. grind arith)
-    (λ q. ap (λ b. cond b (Some (f d)) (port_at (map f desks) h)) (same ∙ q)
-    ∙ (port_is f host desks h ∙ sym (ap (λ b. option_map f (cond b (Some d) (find (λ (d : Desk). eqb d.host h) desks))) q))) where
-      same : eqb (f d).desk.host h ≡ eqb d.host h
-      same = ap (λ n. eqb n h) (host d)
+    (λ q. ap (λ b. cond b (Some (f d)) (port_at (map f desks) h)) ((grind arith) ∙ q)
+    ∙ (port_is f host desks h ∙ sym (ap (λ b. option_map f (cond b (Some d) (find (λ (d : Desk). eqb d.host h) desks))) q)))
 
 one_of_is : (desks : List Desk) (h : ℕ) → list_any (λ k. eqb k h) (map (λ (d : Desk). d.host) desks) ≡ is_some (find (λ (d : Desk). eqb d.host h) desks)
 one_of_is [] h = refl
@@ -151,12 +148,9 @@ site_there : (desks : List Desk) (sites : List Site) (h : ℕ) (d : Desk) → ma
 site_there [] sites h d same e = absurd (cc e)
 site_there (x ∷ desks) [] h d same e = absurd (cc same)
 site_there (x ∷ desks) (s ∷ sites) h d same e = by_test (eqb x.host h)
-    (λ q. (s, ap (λ b. cond b (Some s) (site_at sites h)) (ap (λ n. eqb n h) (sym one) ∙ q)))
+    (λ q. (s, ap (λ b. cond b (Some s) (site_at sites h)) (ap (λ n. eqb n h) (sym cc) ∙ q)))
     (λ q. let found = site_there desks sites h d rest (sym (ap (λ b. cond b (Some x) (find (λ (d : Desk). eqb d.host h) desks)) q) ∙ e) in
-    (found.0, ap (λ b. cond b (Some s) (site_at sites h)) (ap (λ n. eqb n h) (sym one) ∙ q) ∙ found.1)) where
-      one : x.host ≡ s.host
-      one = cc
-
+    (found.0, ap (λ b. cond b (Some s) (site_at sites h)) (ap (λ n. eqb n h) (sym cc) ∙ q) ∙ found.1)) where
       rest : map (λ (d : Desk). d.host) desks ≡ hosts_in sites
       rest = cc
 
@@ -228,8 +222,7 @@ module _ (t : List Entry) (w : NodeWorld) (r : Running) (runs : w.controller ≡
             let up : is_up (link_to w.sites d.host).controller.side.shdlc.phase ≡ is_some (session_now t (end_c h) 0) =
             ap (λ (l : Link). is_up l.controller.side.shdlc.phase) link
             ∙ (sym (up_is there.0.link.controller) ∙ ap is_some (sym (sessions h there.0 there.1))) in
-            let open_is : is_opened r.core.tables d.host 1 ≡ is_opened (tables_in t 0) h 1 = ap₂ (λ a n. is_opened a n 1) tables host in
-            ap₂ (λ a b. a && b) up open_is ∙ sym (ap (λ o. is_some o && is_connected_in t h) q)
+            ap₂ (λ a b. a && b) up (grind arith) ∙ sym (ap (λ o. is_some o && is_connected_in t h) q)
 
   noticed : (h : ℕ) → option_map_or (λ (p : Port). is_some p.desk.notice) (port_at (ends_between w.sites r) h) false ≡ is_some (notice_in t h)
   noticed h = tested (λ p. is_some p.desk.notice) h ∙ by_option (desk_of h)
@@ -269,8 +262,7 @@ module _ (t : List Entry) (w : NodeWorld) (r : Running) (runs : w.controller ≡
 pub decided_same : (t : HciTables) (v u : LinkView) (h pipe instruction : ℕ) (body : List ℕ) → IsSameView v u
     → decided t v h pipe instruction body ≡ decided t u h pipe instruction body
 decided_same t v u h pipe instruction body s =
-    let free : lowest_free t.rows v.waiting.items ≡ lowest_free t.rows u.waiting.items = given_same t.rows v.waiting.items u.waiting.items s.waiting in
-    rw (s.hosts, s.connected, s.noticed, s.asked, free) refl
+    rw (s.hosts, s.connected, s.noticed, s.asked, (given_same t.rows v.waiting.items u.waiting.items s.waiting)) refl
 
 -- ## A frame is lost on its way: where it was refused, the node of the end counts one more, which is what is read
 
@@ -285,9 +277,6 @@ IsRefusal _ = Unit {0}
 
 refused_is : (f : FrameFault) → was_refused (lost_as (Broken f)) ≡ true
 refused_is f = grind arith
-
-counts_same : (why : Loss) (h : ℕ) (o : Option Running) → IsRefusal why → counts why h o ≡ o
-counts_same why h o not = grind arith
 
 -- the desks of a node count one more at the end itself, or at another one
 own_errors : (e : End) (h n : ℕ) → eqb h e.link ≡ true → (desks : List Desk) → AllByRecursion (λ (d : Desk). eqb d.host e.link ≡ true → d.errors ≡ n) desks
@@ -337,19 +326,6 @@ counted_other e h why (Some r) x off k = record { sets = k.sets; desks = other_e
 module _ (e : End) (real : e.at_host ≡ true → eqb e.link 0 ≡ false) where
   abbrev far_lost : End → Loss → Site → Site
   far_lost a why s = record s { link = happens s.link (AtHost (Lose why)); node = counts why a.link s.node }
-
-  -- the controller's end, and a host's
-  near_same : (h : ℕ) → e.at_host ≡ false → same_end (end_of h Controller) e ≡ eqb h e.link
-  near_same h near = ap (λ s. same_end (end_of h s) e) (sym (ap (λ b. cond b Host Controller) near)) ∙ own_is e h
-
-  near_off : (h : ℕ) → e.at_host ≡ true → same_end (end_of h Controller) e ≡ false
-  near_off h far = rw far (and-false (eqb h e.link))
-
-  far_same : (h : ℕ) → e.at_host ≡ true → same_end (end_of h Host) e ≡ eqb h e.link
-  far_same h far = ap (λ s. same_end (end_of h s) e) (sym (ap (λ b. cond b Host Controller) far)) ∙ own_is e h
-
-  far_off : (h : ℕ) → e.at_host ≡ false → same_end (end_of h Host) e ≡ false
-  far_off h near = rw near (and-false (eqb h e.link))
 
   module _ (w : NodeWorld) (a : End) (x : ErrorCount) (k : Kept e real w x) where
     abbrev wire_near : List OnWire
@@ -401,16 +377,13 @@ module _ (e : End) (real : e.at_host ≡ true → eqb e.link 0 ≡ false) where
         ∙ (with_other a.link (far_lost a why) (λ s. refl) w.sites e.link (ne_eqb e.link a.link (λ z. eqb-false a.link e.link off (sym z)))
         ∙ sym (host_node e real w far))
 
-    far_controller : (why : Loss) → e.at_host ≡ false → own_node e real (far_v why) ≡ own_node e real w
-    far_controller why near = near_node e real (far_v why) near ∙ sym (near_node e real w near)
-
     -- a loss that doesn't count
     near_plain : (why : Loss) → IsRefusal why → After e real (near_v why, entries_for a.link (first_lost Controller why wire_near)) x
     near_plain why not = left e real w (near_v why) (entries_for a.link (first_lost Controller why wire_near)) x (by e.at_host refl)
         (still_leaves e (entries_for a.link (first_lost Controller why wire_near)) (grind arith)) k where
           by : (b : Bool) → e.at_host ≡ b → own_node e real (near_v why) ≡ own_node e real w
           by true q = near_hosts why q
-          by false q = near_controller why q ∙ (counts_same why a.link w.controller not ∙ sym (near_node e real w q))
+          by false q = near_controller why q ∙ ((grind arith) ∙ sym (near_node e real w q))
 
     far_plain : (why : Loss) → IsRefusal why → After e real (far_v why, entries_for a.link (first_lost Host why wire_far)) x
     far_plain why not =
@@ -418,8 +391,8 @@ module _ (e : End) (real : e.at_host ≡ true → eqb e.link 0 ≡ false) where
         (still_leaves e (entries_for a.link (first_lost Host why wire_far)) (grind arith)) k where
           by : (e.at_host ≡ true) ⊎ (e.at_host ≡ false) → (eqb a.link e.link ≡ true) ⊎ (eqb a.link e.link ≡ false)
               → own_node e real (far_v why) ≡ own_node e real w
-          by (inr near) b = far_controller why near
-          by (inl far) (inl is) = far_hosts why far is ∙ counts_same why a.link (own_node e real w) not
+          by (inr near) b = (near_node e real (far_v why) near ∙ sym (near_node e real w near))
+          by (inl far) (inl is) = far_hosts why far is ∙ (grind arith)
           by (inl far) (inr off) = far_others why far off
 
     -- one that does
@@ -433,14 +406,14 @@ module _ (e : End) (real : e.at_host ≡ true → eqb e.link 0 ≡ false) where
       by : (e.at_host ≡ true) ⊎ (e.at_host ≡ false) → (eqb a.link e.link ≡ true) ⊎ (eqb a.link e.link ≡ false)
           → After e real (near_v (Broken f), noted ∷ []) x
       by (inl far) b = left e real w (near_v (Broken f)) (noted ∷ []) x (near_hosts (Broken f) far)
-          (lost_leaves e (end_of a.link Controller) (lpdu_of y.frame) f (near_off a.link far), tt) k
+          (lost_leaves e (end_of a.link Controller) (lpdu_of y.frame) f (rw far (and-false (eqb a.link e.link))), tt) k
       by (inr near) (inl is) = subst (λ o. IfKeeps e o (errors_after e x noted)) (sym (near_controller (Broken f) near))
-          (counted_own e a.link (end_of a.link Controller) (lpdu_of y.frame) f w.controller x is (near_same a.link near ∙ is) (grind arith))
+          (counted_own e a.link (end_of a.link Controller) (lpdu_of y.frame) f w.controller x is ((grind arith) ∙ is) (grind arith))
       by (inr near) (inr off) =
           let stays : IfKeeps e (own_node e real (near_v (Broken f))) x = subst (λ o. IfKeeps e o x) (sym (near_controller (Broken f) near))
           (counted_other e a.link f w.controller x off (subst (λ o. IfKeeps e o x) (near_node e real w near) k)) in
           left e real (near_v (Broken f)) (near_v (Broken f)) (noted ∷ []) x refl
-          (lost_leaves e (end_of a.link Controller) (lpdu_of y.frame) f (near_same a.link near ∙ off), tt) stays
+          (lost_leaves e (end_of a.link Controller) (lpdu_of y.frame) f ((grind arith) ∙ off), tt) stays
 
     far_counted : (f : FrameFault) (wire : List OnWire) → wire_far ≡ wire → (wire ≡ [] → ⊥)
         → After e real (far_v (Broken f), entries_for a.link (first_lost Host (Broken f) wire)) x
@@ -451,23 +424,17 @@ module _ (e : End) (real : e.at_host ≡ true → eqb e.link 0 ≡ false) where
 
       by : (e.at_host ≡ true) ⊎ (e.at_host ≡ false) → (eqb a.link e.link ≡ true) ⊎ (eqb a.link e.link ≡ false)
           → After e real (far_v (Broken f), noted ∷ []) x
-      by (inr near) b = left e real w (far_v (Broken f)) (noted ∷ []) x (far_controller (Broken f) near)
-          (lost_leaves e (end_of a.link Host) (lpdu_of y.frame) f (far_off a.link near), tt) k
+      by (inr near) b = left e real w (far_v (Broken f)) (noted ∷ []) x (near_node e real (far_v (Broken f)) near ∙ sym (near_node e real w near))
+          (lost_leaves e (end_of a.link Host) (lpdu_of y.frame) f (rw near (and-false (eqb a.link e.link))), tt) k
       by (inl far) (inl is) = subst (λ o. IfKeeps e o (errors_after e x noted)) (sym (far_hosts (Broken f) far is))
-          (counted_own e a.link (end_of a.link Host) (lpdu_of y.frame) f (own_node e real w) x is (far_same a.link far ∙ is) k)
+          (counted_own e a.link (end_of a.link Host) (lpdu_of y.frame) f (own_node e real w) x is ((grind arith) ∙ is) k)
       by (inl far) (inr off) = left e real w (far_v (Broken f)) (noted ∷ []) x (far_others (Broken f) far off)
-          (lost_leaves e (end_of a.link Host) (lpdu_of y.frame) f (far_same a.link far ∙ off), tt) k
+          (lost_leaves e (end_of a.link Host) (lpdu_of y.frame) f ((grind arith) ∙ off), tt) k
 
     lost_kept : (why : Loss) → (frames_at w a ≡ [] → ⊥) → After e real (frame_lost w a why) x
     lost_kept why some = by_test a.at_host
-        (λ q. rw q (far_why why (λ none. some (far_wire q ∙ none))))
-        (λ q. rw q (near_why why (λ none. some (near_wire q ∙ none)))) where
-          near_wire : a.at_host ≡ false → frames_at w a ≡ wire_near
-          near_wire q = rw q refl
-
-          far_wire : a.at_host ≡ true → frames_at w a ≡ wire_far
-          far_wire q = rw q refl
-
+        (λ q. rw q (far_why why (λ none. some ((rw q refl) ∙ none))))
+        (λ q. rw q (near_why why (λ none. some ((rw q refl) ∙ none)))) where
           near_why : (why : Loss) → (wire_near ≡ [] → ⊥) → After e real (near_v why, entries_for a.link (first_lost Controller why wire_near)) x
           near_why OnDemand there = near_plain OnDemand tt
           near_why (Broken f) there = near_counted f wire_near refl there
@@ -491,15 +458,12 @@ real_of e host far = ne_eqb e.link 0 (λ z. omega (arith, z, host.0))
 -- ### Events
 
 module _ (e : End) (real : e.at_host ≡ true → eqb e.link 0 ≡ false) where
-  sending_unset : (h : ℕ) (m : Message) → AreUnset (sending h m)
-  sending_unset h m = cond_both (eqb m.0 1 && is_command_message m.1) (Orders m.1 ∷ []) (Sends h m ∷ []) AreUnset (λ _. (tt, tt)) (λ _. (tt, tt))
-
   event_kept : (w : NodeWorld) (c : Happening) (x : ErrorCount) → IsOrderly w → Known e real w x → MayBeCounted w c → Kept e real w x
       → After e real (world_step w c) x
   event_kept w (Boots n) x orderly known may k = boots_kept e real w n x k
   event_kept w (IsCut n) x orderly known may k = cut_kept e real w n x k
   event_kept w (Gives a m) x orderly known may k =
-      far_begins e real w x a.link (sending a.link m) (orderly_fine w orderly) (sending_unset a.link m) (sending_mute a.link m) k
+      far_begins e real w x a.link (sending a.link m) (orderly_fine w orderly) (grind arith) (sending_mute a.link m) k
   event_kept w (Inits a identity pipes) x orderly known may k =
       far_begins e real w x a.link (beginning identity pipes) (orderly_fine w orderly) (tt, (tt, tt)) (tt, (tt, tt)) k
   event_kept w (Takes a) x orderly known may k = comes_kept e real w x a NextFrame orderly known k
@@ -569,16 +533,12 @@ event_so hosts are t w c so may few =
 not_empty : (wire : List OnWire) → if_empty wire ≡ None → wire ≡ [] → ⊥
 not_empty wire none e = grind arith
 
-damage_may : (w : NodeWorld) (e : End) (places : List ℕ) (wire : List OnWire) → frames_at w e ≡ wire → AllMay May w (happens_by e (first_verdict wire places))
-damage_may w e places wire here = grind arith
-
 line_may : (w : NodeWorld) (l : Line) → IsSentByHost l → refusal_in w l ≡ None → AllMay May w (happenings w l)
 line_may w (line.Send e pid message) side none =
     ((send_may w e pid message side (first_none (if_off w (node_of e)) (if_not_sent w e (pid, message)) none).1, tt, tt), tt)
 line_may w (line.Deliver e count) side none = repeated_may May (Takes e) (λ v. (tt, tt, tt)) (taken_of count (frames_at w e)) w
-line_may w (line.Lose e) side none =
-    ((tt, not_empty (frames_at w e) (first_none (if_off w (node_of e)) (if_empty (frames_at w e)) none).1, tt), tt)
-line_may w (line.Damage e places) side none = damage_may w e places.items (frames_at w e) refl
+line_may w (line.Lose e) side none = ((tt, not_empty (frames_at w e) (first_none (if_off w (node_of e)) (if_empty (frames_at w e)) none).1, tt), tt)
+line_may w (line.Damage e places) side none = grind arith
 line_may w (line.Tick times) side none = repeated_may May Ticks (λ v. (tt, tt, tt)) (unwrap_or times 1) w
 line_may w (line.Busy e) side none = tt
 line_may w (line.Ready e) side none = tt

@@ -3,19 +3,18 @@ use Rattle.node_laws.proofs.Words.{AllByRecursion, AllByRecursion-append, AtEnd,
 use Rattle.node_laws.proofs.Words.{ErrorCount, GoesOut, HasEnds, Host, Link, LinkEnd, LinkInput, List, Message, NodeInput, None, Noted, NumberedEnd, OnWire}
 use Rattle.node_laws.proofs.Words.{Option, Plan, Port, Running, Some, TimePasses, Work, [], after_input, after_sessions, aged_entries, all_come, all_done}
 use Rattle.node_laws.proofs.Words.{all_flat, all_owed, all_owed_hold, all_so, all_synced_hold, ap, arith, arrival, begins_with, by_option, by_test, cond}
-use Rattle.node_laws.proofs.Words.{cond_both, end_of, ending_entries, ending_of, entries_for, entry_of, eqb, false, far, flat_map, forgets, forgotten}
-use Rattle.node_laws.proofs.Words.{forgotten_hold, frames_noted, frames_out, has_come, input_at, map, nat_lt, node_of, own_side, passes, port_at, pushed_out}
-use Rattle.node_laws.proofs.Words.{put, put_entries, puts_entries, refl, report, reset_late, runs_on, same_end, steps, subst, sym, synced, times_out, told}
-use Rattle.node_laws.proofs.Words.{told_at, told_late, true, unless_cut, whole_acked, wire_with, with_older, without_notice, work_of, ℕ, ◌++◌, ◌∙◌, ◌∷◌, ◌≡◌}
+use Rattle.node_laws.proofs.Words.{cond_both, end_of, ending_entries, ending_of, entries_for, entry_of, eqb, false, flat_map, forgets, forgotten}
+use Rattle.node_laws.proofs.Words.{forgotten_hold, frames_noted, frames_out, has_come, input_at, map, nat_lt, node_of, own_side, passes, port_at, put}
+use Rattle.node_laws.proofs.Words.{put_entries, puts_entries, refl, report, reset_late, runs_on, same_end, steps, subst, sym, synced, times_out, told, told_at}
+use Rattle.node_laws.proofs.Words.{told_late, true, unless_cut, whole_acked, with_older, without_notice, work_of, ℕ, ◌++◌, ◌∙◌, ◌∷◌, ◌≡◌}
 use Rattle.link_laws.specs.entries.Entries.{End as Side}
 use Rattle.node_laws.proofs.notices.Steps.{sessions_tables}
 use Rattle.node_laws.proofs.readings.Noting.{IsOwnNote, Notes, NotesSo, all_do as notes_do, all_notes, steps_note}
 use Rattle.node_laws.proofs.steps.StepWalks.{come_host, forgets_host, late_host, sessions_node, without_host}
-use Rattle.node_laws.proofs.telling.Accounts.{AreMute, IsMute, deeds_mute}
+use Rattle.node_laws.proofs.telling.Accounts.{AreMute, deeds_mute}
 use Rattle.node_laws.proofs.telling.Events.{hosts_same_of_nodes as hosts_same, ports_for}
 use Rattle.node_laws.proofs.views.Doing.{AreUnset, HasErrors, IsStill, IsUndamaged, IsUnset, Leaves, Right, all_do, beside_leaves, leaves_all, maps, note}
-use Rattle.node_laws.proofs.views.Doing.{note_still, notes_still, reads, reads_append, side_of, still_all, still_leaves, turn_leaves, unless, unset_fine}
-use Rattle.node_laws.proofs.views.Doing.{with_core}
+use Rattle.node_laws.proofs.views.Doing.{notes_still, reads, reads_append, side_of, still_all, still_leaves, turn_leaves, unless, unset_fine, with_core}
 use Rattle.node_laws.proofs.views.Turning.{passes_right}
 use Rattle.trace_model.specs.declared.entry.Entry.TheVariants as entry
 
@@ -37,12 +36,7 @@ come_still e core p (Some i) =
 late_still : (e : End) (core : Core) (p : Port) → AllByRecursion (IsStill e) (told_late core p)
 late_still e core p = grind arith
 
--- ### What is owed
-
 -- ### Steps
-
-come_errors : (p : Port) (o : Option LinkInput) → (has_come p o).desk.errors ≡ p.desk.errors
-come_errors p o = grind arith
 
 late_errors : (p : Port) → (reset_late p).desk.errors ≡ p.desk.errors
 late_errors p = grind arith
@@ -61,7 +55,7 @@ module _ (e : End) (hosts : List ℕ) (x0 : ErrorCount) (single : e.at_host ≡ 
   came_right input w r =
       note e hosts x0 (flat_map (λ p. told_at w.core p (input_at input p)) w.ports) (record w { ports = map (λ p. has_come p (input_at input p)) w.ports })
       (all_flat (IsStill e) (λ p. told_at w.core p (input_at input p)) (λ p. come_still e w.core p (input_at input p)) w.ports)
-      (maps e hosts x0 (λ p. has_come p (input_at input p)) w (λ p. come_host p (input_at input p)) (λ p. come_errors p (input_at input p)) r)
+      (maps e hosts x0 (λ p. has_come p (input_at input p)) w (λ p. come_host p (input_at input p)) (λ p. grind arith) r)
 
   pub timed_right : (input : NodeInput) (w : Work) → So w → So (times_out input w)
   timed_right (AtEnd h i) w r = r
@@ -74,45 +68,37 @@ module _ (e : End) (hosts : List ℕ) (x0 : ErrorCount) (single : e.at_host ≡ 
   steps_right : (input : NodeInput) (w : Work) → So w → So (steps input w)
   steps_right input w r =
       let came : Work = times_out input (all_come input w) in
-      let s : So came = timed_right input (all_come input w) (came_right input w r) in
       let left : List Port = map (forgets came.ports) came.ports in
       let begun : Work = record came { core = after_sessions came.core came.ports; ports = map without_notice left } in
       let first : So begun =
       with_core e hosts x0 (record came { ports = map without_notice left }) (after_sessions came.core came.ports) (sessions_node came.core came.ports)
       (sessions_tables came.core came.ports)
       (maps e hosts x0 without_notice (record came { ports = left }) without_host without_errors (maps e hosts x0 (forgets came.ports) came
-      (forgets_host came.ports) (forgets_errors came.ports) s)) in
+      (forgets_host came.ports) (forgets_errors came.ports) (timed_right input (all_come input w) (came_right input w r)))) in
       let freed : List Deed = forgotten came.ports in
       let syncs : List Deed = flat_map (synced w.core input) w.ports in
       let owing : List Deed = all_owed left in
       let one : So (all_done 0 syncs (all_done 0 freed begun)) =
       all_do e hosts x0 0 syncs (all_done 0 freed begun) (unset_fine e hosts x0 0 syncs (all_synced_hold IsUnset (λ host id. tt) w.core input w.ports))
       (all_do e hosts x0 0 freed begun (unset_fine e hosts x0 0 freed (forgotten_hold IsUnset (λ asker. tt) came.ports)) first) in
-      let owed_all : AreUnset owing = all_owed_hold IsUnset (λ asker. tt) (λ to r. tt) left in
       unless e hosts x0 passes (unless_cut (all_done 0 owing) (all_done 0 syncs (all_done 0 freed begun)))
       (λ on z. passes_right e hosts x0 single (unless_cut (all_done 0 owing) (all_done 0 syncs (all_done 0 freed begun))) on z)
       (unless e hosts x0 (all_done 0 owing) (all_done 0 syncs (all_done 0 freed begun)) (λ on z. all_do e hosts x0 0 owing (all_done 0 syncs
-      (all_done 0 freed begun)) (unset_fine e hosts x0 0 owing owed_all) z) one)
+      (all_done 0 freed begun)) (unset_fine e hosts x0 0 owing (all_owed_hold IsUnset (λ asker. tt) (λ to r. tt) left)) z) one)
 
 -- ## A node of a world does something: REC_ERROR of its ends stays what is read, and that of others is left
 
 -- ### Frames
 
-pushed_undamaged : (who : Side) (wire : List OnWire) → AllByRecursion IsUndamaged (pushed_out who wire)
-pushed_undamaged who wire = grind arith
-
 puts_undamaged : (who : Side) (l : Link) (cs : List Control) → AllByRecursion IsUndamaged (puts_entries who l cs)
 puts_undamaged who l [] = tt
 puts_undamaged who l (c ∷ cs) =
-    AllByRecursion-append IsUndamaged (put_entries who l c) (puts_entries who (put l c) cs) (tt, pushed_undamaged (far who) (wire_with l c))
+    AllByRecursion-append IsUndamaged (put_entries who l c) (puts_entries who (put l c) cs) (tt, grind arith)
     (puts_undamaged who (put l c) cs)
 
 ending_undamaged : (who : Side) (l : Link) (e : LinkEnd) (ending : Ending) → AllByRecursion IsUndamaged (ending_entries who l e ending)
 ending_undamaged who l e GoesOut = puts_undamaged who l (frames_out e)
 ending_undamaged who l e CutOff = (tt, tt)
-
-arrival_undamaged : (who : Side) (l : Link) (comes : Comes) → AllByRecursion IsUndamaged (arrival who l comes)
-arrival_undamaged who l comes = grind arith
 
 aged_undamaged : (who : Side) (xs : List OnWire) → AllByRecursion IsUndamaged (aged_entries who xs)
 aged_undamaged who [] = tt
@@ -124,7 +110,7 @@ frames_still e who h l k = by_option (port_at k.ports h)
     (λ p q. rw q (notes_still e h (ending_entries who l p.side (ending_of k)) (ending_undamaged who l p.side (ending_of k))))
 
 pub arrival_still : (e : End) (who : Side) (h : ℕ) (l : Link) (comes : Comes) → AllByRecursion (IsStill e) (entries_for h (arrival who l comes))
-arrival_still e who h l comes = notes_still e h (arrival who l comes) (arrival_undamaged who l comes)
+arrival_still e who h l comes = notes_still e h (arrival who l comes) (grind arith)
 
 pub aged_still : (e : End) (h : ℕ) (l : Link)
     → AllByRecursion (IsStill e) (entries_for h (aged_entries Controller l.to_controller ++ aged_entries Host l.to_host))
@@ -143,9 +129,6 @@ pub record KeepsErrors (e : End) (r : Running) (x : ErrorCount) : Type 0 where
 abbrev pub IfKeeps : End → Option Running → ErrorCount → Type 0
 IfKeeps e None x = x.sets ≡ None
 IfKeeps e (Some r) x = KeepsErrors e r x
-
-pub keeps_sets : (e : End) (o : Option Running) (x : ErrorCount) → IfKeeps e o x → x.sets ≡ None
-keeps_sets e o x k = grind arith
 
 same_desks : (e : End) (n m : ℕ) (desks : List Desk) → n ≡ m → AllByRecursion (λ (d : Desk). eqb d.host e.link ≡ true → d.errors ≡ n) desks
     → AllByRecursion (λ (d : Desk). eqb d.host e.link ≡ true → d.errors ≡ m) desks
@@ -222,9 +205,7 @@ module _ (e : End) (real : e.at_host ≡ true → eqb e.link 0 ≡ false) (hosts
 
 mute_leaves : (e : End) (deeds : List Deed) → AreMute deeds → AllByRecursion (NotesSo (Leaves e)) deeds
 mute_leaves e [] all = tt
-mute_leaves e (d ∷ deeds) all = (one d all.0, mute_leaves e deeds all.1) where
-  one : (d : Deed) → IsMute d → NotesSo (Leaves e) d
-  one d i = grind arith
+mute_leaves e (d ∷ deeds) all = (grind arith, mute_leaves e deeds all.1)
 
 -- the node isn't that of the end
 abbrev pub IsOther : End → Side → ℕ → Type 0
@@ -232,7 +213,7 @@ IsOther e who h = same_end (end_of h who) e ≡ false
 
 module _ (e : End) (n : ℕ) (who : Side) where
   note_leaves : (h : ℕ) (x : Noted) → IsOther e who h → IsOwnNote who x → AllByRecursion (Leaves e) (entry_of h x)
-  note_leaves h x at own = still_leaves e (entry_of h x) (note_still e h x (all_undamaged who (x ∷ []) (own, tt)).0)
+  note_leaves h x at own = still_leaves e (entry_of h x) (grind arith)
 
   turned_leaves : (h pid : ℕ) (message : List ℕ) → IsOther e who h → Leaves e (entry.Turn (end_of h who) pid message)
   turned_leaves h pid message at = λ x k r. (turn_leaves e (end_of h who) pid message at x k r).0

@@ -1,20 +1,18 @@
 -- A node has its turns, in which REC_ERROR of its end may be set: what is read of it stays what the node keeps.
-use Rattle.node_laws.proofs.Words.{AllByRecursion, Book, Bool, Core, Deed, Drops, End, Entry, ErrorCount, FetchMessage, Give, List, Message, None, Option, Port}
-use Rattle.node_laws.proofs.Words.{Sends, SetsErrors, Some, Work, [], after_turn, answer_of, ap, append-nil, arith, by_option, by_test, cases_Bool, changed_if}
-use Rattle.node_laws.proofs.Words.{changed_same, cond, controller_deeds, deeds_of, end_of, end_of_node, end_view, entries_for, eq-eqb, eqb, eqb-true}
-use Rattle.node_laws.proofs.Words.{errors_after, errors_set_by, false, give_refusal, goes_through_ends, handles, have_turns, host_deeds, hosts_of_ends, inl}
-use Rattle.node_laws.proofs.Words.{inr, is_any_ok, lack, leads_to_link_gate, length, map, nat_lt, need, needs, noted_of, noting, option_map_or, own_gate}
-use Rattle.node_laws.proofs.Words.{own_side, own_view, passes, port_at, refl, sent_unless, spare, subst, sym, true, turn_at, view_of, with_desk, with_port, ℕ}
-use Rattle.node_laws.proofs.Words.{◌&&◌, ◌++◌, ◌∙◌, ◌∷◌, ◌≡◌, ◌⊎◌}
+use Rattle.node_laws.proofs.Words.{AllByRecursion, Book, Bool, Core, Deed, End, Entry, ErrorCount, FetchMessage, Give, List, Message, None, Option, Port, Sends}
+use Rattle.node_laws.proofs.Words.{Some, Work, [], after_turn, answer_of, ap, append-nil, arith, by_option, by_test, cases_Bool, changed_if, changed_same, cond}
+use Rattle.node_laws.proofs.Words.{controller_deeds, deeds_of, end_of, end_of_node, end_view, entries_for, eq-eqb, eqb, eqb-true, errors_after, errors_set_by}
+use Rattle.node_laws.proofs.Words.{false, give_refusal, goes_through_ends, handles, have_turns, host_deeds, hosts_of_ends, inl, inr, lack, leads_to_link_gate}
+use Rattle.node_laws.proofs.Words.{map, needs, noted_of, noting, option_map_or, own_gate, own_side, own_view, passes, port_at, refl, sent_unless, subst, sym}
+use Rattle.node_laws.proofs.Words.{true, turn_at, view_of, with_desk, with_port, ℕ, ◌&&◌, ◌++◌, ◌∙◌, ◌∷◌, ◌≡◌, ◌⊎◌}
 use Rattle.trace_model.specs.declared.entry.Entry.TheVariants as entry
 use Rattle.gate_answers.specs.declared.response.Response.TheVariants as response
 use Rattle.node_laws.proofs.telling.Steps.{at_map}
 use Rattle.node_laws.proofs.links.Noticing.{at_host}
-use Rattle.node_laws.proofs.readings.Turning.{lack_parts}
-use Rattle.node_laws.proofs.views.Doing.{HasErrors, IsFine, IsRead, IsUpAt, Right, SetDeeds, all_do, controller_sets, controller_unset, desks, holds, host_sets}
+use Rattle.node_laws.proofs.views.Doing.{HasErrors, IsFine, IsRead, Right, SetDeeds, all_do, controller_sets, controller_unset, desks, holds, host_sets}
 use Rattle.node_laws.proofs.views.Doing.{host_unset, is_link_gate, lets, map_has, reads, reads_append, side_of, turns, unless, unset_fine}
 use Rattle.node_laws.proofs.views.Doing.SetDeeds.{IsDropped, IsRefused, IsSet}
-use Rattle.node_laws.proofs.kept.Doing.{fetch_none, hosts_map}
+use Rattle.node_laws.proofs.kept.Doing.{hosts_map}
 
 -- ## Messages that are sent
 
@@ -31,11 +29,6 @@ takes_with ports h m k f host same t = record {
   here = at_map (λ p. changed_if (eqb p.desk.host k) f p) (λ p. changed_same (λ (q : Port). q.desk.host) (eqb p.desk.host k) f p host) ports h t.port t.here;
   takes = changed_same (λ (q : Port). give_refusal q.side m) (eqb t.port.desk.host k) f t.port same ∙ t.takes;
 }
-
--- an end that is up takes an answer that finds room
-up_takes : (ports : List Port) (h : ℕ) (m : Message) → IsUpAt ports h → nat_lt 4096 (length m.1) ≡ false
-    → nat_lt (option_map_or (λ (p : Port). spare p.side) (port_at ports h) 0) (need m.1) ≡ false → Takes ports h m
-up_takes ports h m up short room = grind arith
 
 -- which is noted
 sent_noted : (w : Work) (h : ℕ) (m : Message) (t : Takes w.ports h m)
@@ -57,17 +50,12 @@ with_has e n k f host errors ports all = map_has e n (λ p. changed_if (eqb p.de
 set_has : (e : End) (h v : ℕ) → eqb h e.link ≡ true → (ports : List Port)
     → AllByRecursion (HasErrors e v) (with_port h (λ (p : Port). record p { desk = record p.desk { errors = v } }) ports)
 set_has e h v here [] = tt
-set_has e h v here (p ∷ ports) = (by (eqb p.desk.host h) refl, set_has e h v here ports) where
-  by : (b : Bool) → eqb p.desk.host h ≡ b → HasErrors e v (changed_if b (λ (p : Port). record p { desk = record p.desk { errors = v } }) p)
-  by b q = grind arith
+set_has e h v here (p ∷ ports) = (grind arith, set_has e h v here ports)
 
 -- ## A message is handled
 
 both_so : (a b : Bool) (x : Option ℕ) → a ≡ true → cond (a && b) x None ≡ cond b x None
 both_so a b x q = rw q refl
-
-not_so : (a b : Bool) (x : Option ℕ) → a ≡ false → cond (a && b) x None ≡ None
-not_so a b x q = rw q refl
 
 some_so : (b : Bool) (x : Option ℕ) (v : ℕ) → cond b x None ≡ Some v → (b ≡ true) × (x ≡ Some v)
 some_so b x v q = grind arith
@@ -135,7 +123,7 @@ module _ (e : End) (hosts : List ℕ) (x0 : ErrorCount) (single : e.at_host ≡ 
         ∙ (ap (λ x. errors_after e x y) (reads_append e w.entries (turn_of w h m ∷ []) x0 ∙ turn_reads w h m on r)))
 
   fetched_entries : (h : ℕ) (m : Message) (w : Work) → (fetched h m w).entries ≡ w.entries ++ turn_of w h m ∷ []
-  fetched_entries h m w = ap (λ es. (w.entries ++ turn_of w h m ∷ []) ++ es) (fetch_none w.core (port_at w.ports h))
+  fetched_entries h m w = ap (λ es. (w.entries ++ turn_of w h m ∷ []) ++ es) (grind arith)
       ∙ append-nil (w.entries ++ turn_of w h m ∷ [])
 
   fetched_hosts : (h : ℕ) (m : Message) (w : Work) → hosts_of_ends (fetched h m w).ports ≡ hosts_of_ends w.ports
@@ -153,16 +141,10 @@ module _ (e : End) (hosts : List ℕ) (x0 : ErrorCount) (single : e.at_host ≡ 
       with_has e n h (λ p. record p { desk = record p.desk { holds = false } }) (λ p. refl) (λ p. refl) (with_port h (after_turn FetchMessage) w.ports)
       (with_has e n h (after_turn FetchMessage) (λ p. refl) (λ p. refl) w.ports all)
 
-  sent_read : (w : Work) (h : ℕ) (m : Message) (v k : ℕ) (a : Message) (n : ℕ) (ok : Bool) → So w → eqb h e.link ≡ true → sets_now w h m ≡ Some v
-      → is_any_ok a.1 ≡ ok
-      → cond ok v (seen w).errors ≡ n
-      → IsRead (errors_after e (record (seen w) { sets = sets_now w h m }) (entry.Sent (end_of_node w.core h) k a.0 a.1)) n
-  sent_read w h m v k a n ok r here sets is value = grind arith
-
   -- a command that sets it at the end itself
   set_handled : (h : ℕ) (m : Message) (deeds : List Deed) (v : ℕ) (w : Work) → w.cut ≡ false → eqb h e.link ≡ true → sets_now w h m ≡ Some v
       → lack w.ports (needs h deeds) ≡ None → SetDeeds w.ports h m.0 v deeds → So w → So (handles h m deeds w)
-  set_handled h m deeds v w on here sets room (IsSet up is) r = subst (λ d. So (handles h m d w)) (sym is) (subst So (sym done_is) right) where
+  set_handled h m deeds v w on here sets room (IsSet up is) r = subst (λ d. So (handles h m d w)) (sym is) (subst So (sym (rw on refl)) right) where
     answer : Message
     answer = (m.0, answer_of response.Ok [])
 
@@ -172,15 +154,9 @@ module _ (e : End) (hosts : List ℕ) (x0 : ErrorCount) (single : e.at_host ≡ 
     finished : Work
     finished = turn_at h (Give answer) set
 
-    done_is : handles h m (SetsErrors v ∷ Sends h answer ∷ []) w ≡ finished
-    done_is = rw on refl
-
-    found : Takes w.ports h answer
-    found = up_takes w.ports h answer up refl (lack_parts w.ports h (need answer.1) [] (ap (λ d. lack w.ports (needs h d)) (sym is) ∙ room)).0
-
     takes : Takes set.ports h answer
     takes = takes_with (fetched h m w).ports h answer h (λ p. record p { desk = record p.desk { errors = v } }) (λ p. refl) (λ p. refl)
-        (fetched_takes h m w answer found)
+        (fetched_takes h m w answer (grind arith))
 
     right : So finished
     right = closing h m w finished (entry.Sent (end_of_node w.core h) takes.port.session answer.0 answer.1) v on r refl
@@ -188,7 +164,7 @@ module _ (e : End) (hosts : List ℕ) (x0 : ErrorCount) (single : e.at_host ≡ 
         ∙ (with_hosts h (λ p. record p { desk = record p.desk { errors = v } }) (λ p. refl) (fetched h m w).ports ∙ fetched_hosts h m w))
         (sent_noted set h answer takes ∙ ap (λ es. es ++ entry.Sent (end_of_node w.core h) takes.port.session answer.0 answer.1 ∷ []) (fetched_entries h m w))
         (with_has e v h (after_turn (Give answer)) (λ p. refl) (λ p. refl) set.ports (set_has e h v here (fetched h m w).ports))
-        (sent_read w h m v takes.port.session answer v true r here sets refl refl) refl
+        (grind arith) refl
   set_handled h m deeds v w on here sets room (IsRefused up is) r = subst (λ d. So (handles h m d w)) (sym is) (subst So (sym done_is) right) where
     answer : Message
     answer = (m.0, answer_of response.PipeNotOpened [])
@@ -199,11 +175,8 @@ module _ (e : End) (hosts : List ℕ) (x0 : ErrorCount) (single : e.at_host ≡ 
     done_is : handles h m (Sends h answer ∷ []) w ≡ finished
     done_is = rw on refl
 
-    found : Takes w.ports h answer
-    found = up_takes w.ports h answer up refl (lack_parts w.ports h (need answer.1) [] (ap (λ d. lack w.ports (needs h d)) (sym is) ∙ room)).0
-
     takes : Takes (fetched h m w).ports h answer
-    takes = fetched_takes h m w answer found
+    takes = fetched_takes h m w answer (grind arith)
 
     right : So finished
     right = closing h m w finished (entry.Sent (end_of_node w.core h) takes.port.session answer.0 answer.1) r.errors on r refl
@@ -211,13 +184,10 @@ module _ (e : End) (hosts : List ℕ) (x0 : ErrorCount) (single : e.at_host ≡ 
         (sent_noted (fetched h m w) h answer takes
         ∙ ap (λ es. es ++ entry.Sent (end_of_node w.core h) takes.port.session answer.0 answer.1 ∷ []) (fetched_entries h m w))
         (with_has e r.errors h (after_turn (Give answer)) (λ p. refl) (λ p. refl) (fetched h m w).ports (fetched_has h m w r.errors r.ends))
-        (sent_read w h m v takes.port.session answer r.errors false r here sets refl r.read.is) refl
-  set_handled h m deeds v w on here sets room (IsDropped is) r = subst (λ d. So (handles h m d w)) (sym is) (subst So (sym done_is) right) where
+        (grind arith) refl
+  set_handled h m deeds v w on here sets room (IsDropped is) r = subst (λ d. So (handles h m d w)) (sym is) (subst So (sym (rw on refl)) right) where
     finished : Work
     finished = noting (entry.Dropped (end_of_node w.core h) m.0 ∷ []) (fetched h m w)
-
-    done_is : handles h m (Drops m.0 ∷ []) w ≡ finished
-    done_is = rw on refl
 
     right : So finished
     right = closing h m w finished (entry.Dropped (end_of_node w.core h) m.0) r.errors on r refl (fetched_hosts h m w)
@@ -275,7 +245,7 @@ module _ (e : End) (hosts : List ℕ) (x0 : ErrorCount) (single : e.at_host ≡ 
             ∙ ap (λ l. cond (is_link_gate (own_gate w.core.tables l m.0)) (errors_set_by m.1) None) (sym (eqb-true h e.link z)))
 
         away_is : eqb h e.link ≡ false → sets_now w h m ≡ None
-        away_is z = not_so (eqb h e.link) (leads_to_link_gate w.core.tables e m.0) (errors_set_by m.1) z
+        away_is z = (rw z refl)
 
         by_set : (o : Option ℕ) → cond (is_link_gate (own_gate w.core.tables h m.0)) (errors_set_by m.1) None ≡ o
             → Fine (controller_deeds (view_of w.core w.ports) h m)
@@ -312,12 +282,9 @@ module _ (e : End) (hosts : List ℕ) (x0 : ErrorCount) (single : e.at_host ≡ 
   is_there [] qs h p same e = absurd (cc e)
   is_there (x ∷ ports) [] h p same e = absurd (cc same)
   is_there (x ∷ ports) (y ∷ qs) h p same e = by_test (eqb x.desk.host h)
-      (λ z. (y, ap (λ b. cond b (Some y) (port_at qs h)) (ap (λ n. eqb n h) (sym one) ∙ z)))
+      (λ z. (y, ap (λ b. cond b (Some y) (port_at qs h)) (ap (λ n. eqb n h) (sym cc) ∙ z)))
       (λ z. let found = is_there ports qs h p rest (sym (ap (λ b. cond b (Some x) (port_at ports h)) z) ∙ e) in
-      (found.0, ap (λ b. cond b (Some y) (port_at qs h)) (ap (λ n. eqb n h) (sym one) ∙ z) ∙ found.1)) where
-        one : x.desk.host ≡ y.desk.host
-        one = cc
-
+      (found.0, ap (λ b. cond b (Some y) (port_at qs h)) (ap (λ n. eqb n h) (sym cc) ∙ z) ∙ found.1)) where
         rest : hosts_of_ends ports ≡ hosts_of_ends qs
         rest = cc
 

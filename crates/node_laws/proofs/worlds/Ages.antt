@@ -3,14 +3,14 @@ use Rattle.node_laws.proofs.Words.{About, AllByRecursion, Asks, AtEnd, Bool, Com
 use Rattle.node_laws.proofs.Words.{FetchMessage, Give, GoesToFree, Hold, IsAnswered, IsHost, IsKeptNotice, LastsOverTurns, LinkEnd, LinkInput, List, Message}
 use Rattle.node_laws.proofs.Words.{NodeInput, None, Noted, Notice, Option, Orders, Port, Refused, Release, Releases, Report, Reset, SaysOk, Sends, SetAside}
 use Rattle.node_laws.proofs.Words.{SetsErrors, Some, Take, Tells, Tick, TimePasses, Turn, Work, [], after_input, after_sessions, after_turn, all_come, all_done}
-use Rattle.node_laws.proofs.Words.{all_owed_hold, all_synced_hold, ap, ap₂, arith, asked_at, awaited_after, by_option, by_test, changed_if, comes_to_pass, cond}
-use Rattle.node_laws.proofs.Words.{controller_deeds, deeds_of, done, end_c, end_of_node, ended_by, entries_for, eq-eqb, eqb, eqb-true, false, flat_map, forgets}
-use Rattle.node_laws.proofs.Words.{forgotten, forgotten_hold, give_refusal, goes_in, handles, has_come, has_come_so, has_freed, has_notice, has_synced}
-use Rattle.node_laws.proofs.Words.{holds_back, hosts_of_ends, input_at, is_late, is_notice, is_over, is_own_reset, is_some, is_up, list_any, map, nat_le, not}
-use Rattle.node_laws.proofs.Words.{noted_by_deed, noted_of, notice_in, noting, option_and_then, option_map, option_map_or, or-false, or-true, or_parts}
-use Rattle.node_laws.proofs.Words.{owed_in_step, own_side, passes, port_at, refl, report, reset_late, reset_refusal, sent_unless, steps, subst, sym, synced}
-use Rattle.node_laws.proofs.Words.{syncs_in, takes_up, told, told_at, told_late, told_of_coming, told_of_late, true, true≢false, turn_at, unless_cut, view_of}
-use Rattle.node_laws.proofs.Words.{waiting_at, whole_acked, with_desk, with_older, with_port, without_notice, ℕ, ◌&&◌, ◌++◌, ◌+◌, ◌||◌, ◌∙◌, ◌∷◌, ◌≡◌, ◌≤◌}
+use Rattle.node_laws.proofs.Words.{all_owed_hold, all_synced_hold, ap, ap₂, arith, asked_at, by_option, by_test, changed_if, comes_to_pass, cond}
+use Rattle.node_laws.proofs.Words.{controller_deeds, done, end_of_node, ended_by, entries_for, eqb, eqb-true, false, flat_map, forgets, forgotten}
+use Rattle.node_laws.proofs.Words.{forgotten_hold, give_refusal, goes_in, handles, has_come, has_come_so, has_freed, has_notice, has_synced, holds_back}
+use Rattle.node_laws.proofs.Words.{hosts_of_ends, input_at, is_late, is_notice, is_over, is_own_reset, is_up, list_any, map, nat_le, not, noted_by_deed}
+use Rattle.node_laws.proofs.Words.{noted_of, notice_in, noting, option_and_then, option_map, option_map_or, or-false, or-true, or_parts, owed_in_step, own_side}
+use Rattle.node_laws.proofs.Words.{passes, port_at, refl, report, reset_late, reset_refusal, sent_unless, steps, subst, sym, synced, syncs_in, takes_up, told}
+use Rattle.node_laws.proofs.Words.{told_at, told_late, told_of_coming, told_of_late, true, true≢false, turn_at, unless_cut, view_of, waiting_at, whole_acked}
+use Rattle.node_laws.proofs.Words.{with_desk, with_older, with_port, without_notice, ℕ, ◌&&◌, ◌++◌, ◌+◌, ◌||◌, ◌∙◌, ◌∷◌, ◌≡◌, ◌≤◌}
 use Rattle.link_laws.specs.entries.Entries.{End as Side}
 use Rattle.node_laws.specs.answers.Unasked.{notifies}
 use Rattle.node_laws.proofs.links.Noticing.{at_all, at_host}
@@ -47,10 +47,6 @@ ticked_asked s = grind arith
 pub reset_asked : (s : LinkEnd) (window : Option ℕ) → reset_refusal s ≡ None → asked (ended_by s (Reset window)) ≡ is_up s.shdlc.phase
 reset_asked s window free = grind arith
 
--- a reset ends it for no other cause
-pub reset_only : (s : LinkEnd) (window : Option ℕ) → asked (ended_by s (Reset window)) ≡ is_some (ended_by s (Reset window))
-reset_only s window = grind arith
-
 -- ## As a controller handles messages the ages of its notices are the ticks since they were sent
 
 module _ (x : ℕ) where
@@ -75,22 +71,15 @@ module _ (x : ℕ) where
   abbrev nothing : Option (List ℕ)
   nothing = None
 
-  one_reads : (e : Entry) → notifies x e ≡ false → awaited_after is_notice (end_c x) 0 None e ≡ None
-  one_reads e q = grind arith
-
   none_reads : (es : List Entry) → notified es ≡ false → reads x es None ≡ None
   none_reads [] q = refl
   none_reads (e ∷ es) q =
-      let parts = or_parts (notifies x e) (notified es) q in ap (reads x es) (one_reads e parts.0) ∙ none_reads es parts.1
+      let parts = or_parts (notifies x e) (notified es) q in ap (reads x es) (grind arith) ∙ none_reads es parts.1
 
   -- ### What deeds note
 
   sent_else : (h n : ℕ) (m : Message) (side : Side) (o : Option Refused) → eqb h x ≡ false → notified (entries_for h (sent_unless o side n m)) ≡ false
   sent_else h n m side o q = grind arith
-
-  gives_other : (core : Core) (m : Message) (o : Option Port) → (eqb m.0 1 && is_notice m.1) ≡ false
-      → notified (option_map_or (noted_of core (Give m)) o []) ≡ false
-  gives_other core m o q = grind arith
 
   gives_else : (core : Core) (m : Message) (ports : List Port) (to : ℕ) → eqb to x ≡ false
       → notified (option_map_or (noted_of core (Give m)) (port_at ports to) []) ≡ false
@@ -109,7 +98,7 @@ module _ (x : ℕ) where
 
   else_notes : (h : ℕ) (d : Deed) (w : Work) → IsElse d → notified (noted_by_deed h d w) ≡ false
   else_notes h (Commits c) w a = by_test (goes_in c w) (λ q. rw q refl) (λ q. rw q refl)
-  else_notes h (Sends to m) w a = gives_other w.core m (port_at w.ports to) a
+  else_notes h (Sends to m) w a = grind arith
   else_notes h (Asks to message c) w a = gives_else w.core (1, message) (turn_at c.asker SetAside w).ports to a
   else_notes h (Tells to message) w a = gives_else w.core (1, message) w.ports to a
   else_notes h (Orders message) w a = absurd a
@@ -255,9 +244,6 @@ module _ (x : ℕ) where
             ap notified (deed_notes h d w) ∙ still_notified w.entries (noted_by_deed h d w) (else_notes h d w may) in
             subst (λ b. Each (AgeIs base b) (done h d w)) (sym same) (else_done (AgeIs base (notified w.entries)) h d w may a)
 
-  has_of : (ports : List Port) (n : Notice) → noticed ports x ≡ Some n → has_notice ports x ≡ true
-  has_of ports n q = grind arith
-
   module _ (t : List Entry) (base k : ℕ) (m : Message) (w : Work) (host : IsHost k) (a : IsOn x t w) (old : AgesIn base w) where
     abbrev deeds : List Deed
     deeds = controller_deeds (view_of w.core w.ports) k m
@@ -290,10 +276,10 @@ module _ (x : ℕ) where
           free = controller_free w.core w.ports k m
 
           by : (ds : List Deed) → AllByRecursion (GoesToFree w.ports) ds → Outcome x k w.ports m ds → AllByRecursion IsElse ds
-          by ds free (Leaves none may) = free_else _ w.ports ds (has_of w.ports n q) may free
+          by ds free (Leaves none may) = free_else _ w.ports ds (grind arith) may free
           by ds free (IsHeard rest e is may) =
               let f : AllByRecursion (GoesToFree w.ports) (IsAnswered ∷ rest) = subst (AllByRecursion (GoesToFree w.ports)) e free in
-              subst (AllByRecursion IsElse) (sym e) (tt, free_else _ w.ports rest (has_of w.ports n q) may f.1)
+              subst (AllByRecursion IsElse) (sym e) (tt, free_else _ w.ports rest (grind arith) may f.1)
 
     -- where there was none, one that is there is new
     none_ages : IsOn x t after → noticed w.ports x ≡ None → AgesIn base after
@@ -364,8 +350,7 @@ module _ (x : ℕ) (t : List Entry) (base : ℕ) where
     handled = λ w h m messages a on waits room still.
         let host : IsHost h = waiting_host w.ports h m messages a.0.hosts waits in
         let deeds : List Deed = controller_deeds (view_of w.core w.ports) h m in
-        let are : deeds_of w.core w.ports h m ≡ deeds = (let zero : eqb w.core.node 0 ≡ true = eq-eqb w.core.node 0 a.0.node in rw zero refl) in
-        subst (λ ds. (handles h m ds w).cut ≡ false → G (handles h m ds w)) (sym are)
+        subst (λ ds. (handles h m ds w).cut ≡ false → G (handles h m ds w)) (sym (grind arith))
         (λ on.
         let b : IsOn x t (handles h m deeds w) = on_of (handles h m deeds w) (handled_stand x t h m w host a.0 (grind arith)) on in
         (b, handled_ages x t base h m w host a.0 a.1 b)) still;
@@ -495,24 +480,20 @@ module _ (x : ℕ) where
     stands : Stands x t (comes_to_pass input w)
     stands =
         let come : Work = has_come_so input w in
-        let left : List Port = map (forgets come.ports) come.ports in
         then x t (all_done 0 (owed_in_step input w)) (has_synced input w)
         (all_stand x t 0 (λ n. ⊥) (syncs_in input w) (has_freed input w) (λ n f. absurd f) (no_notices_may x (λ n. ⊥) (syncs_in input w) syncs_none)
         (frees x t w a (Rattle.std.specs.List.filter (λ (c : Creation). Rattle.node_machine.specs.Node.is_over_at come.ports c.asker)
         (Rattle.std.specs.List.filter_map asked_at come.ports)) (u input w age0 quiet old) (begun x t w a come c)))
         (λ d. all_stand x t 0 (λ n. ⊥) (owed_in_step input w) (has_synced input w) (λ n f. absurd f)
-        (no_notices_may x (λ n. ⊥) (owed_in_step input w) (owed_all x t w a left)) d)
+        (no_notices_may x (λ n. ⊥) (owed_in_step input w) (owed_all x t w a (map (forgets come.ports) come.ports))) d)
 
     -- behind a step in which it keeps its power
     pub step_ages : (steps input w).cut ≡ false → AgesIn x (grown input age0) (steps input w)
     step_ages on = subst (AgesIn x (grown input age0)) (sym (steps_are input w)) (by_test (comes_to_pass input w).cut
-        (λ z. let is : unless_cut passes k ≡ k = rw z refl in subst (AgesIn x (grown input age0)) (sym is) before)
+        (λ z. let is : unless_cut passes k ≡ k = rw z refl in subst (AgesIn x (grown input age0)) (sym is) (before_ages input w age0 quiet old))
         (λ z. let is : unless_cut passes k ≡ passes k = rw z refl in
         subst (AgesIn x (grown input age0)) (sym is)
-        (pass_ages x t (grown input age0) k z (on_of x t (grown input age0) k stands z) before
+        (pass_ages x t (grown input age0) k z (on_of x t (grown input age0) k stands z) (before_ages input w age0 quiet old)
         (ap (λ (y : Work). y.cut) (sym is) ∙ (ap (λ (z : Work). z.cut) (sym (steps_are input w)) ∙ on))))) where
           k : Work
           k = comes_to_pass input w
-
-          before : AgesIn x (grown input age0) k
-          before = before_ages input w age0 quiet old

@@ -4,15 +4,14 @@ use Rattle.node_laws.proofs.Words.{AsksReset, AtEachEntry, AtEachOccurrence, AtE
 use Rattle.node_laws.proofs.Words.{Happening, HasEnds, Header, Host, IfItRuns, Inits, IsCut, IsFew, IsHeldFor, IsNoAnswer, IsNoTurn, IsOrderly, IsReplied}
 use Rattle.node_laws.proofs.Words.{IsSentByHost, Line, Link, LinkInput, List, Loses, MayBoot, Moment, NextFrame, NodeHistory, NodeInput, NodeWorld, None}
 use Rattle.node_laws.proofs.Words.{NumberedEnd, Occurrence, Resets, Running, Site, Some, Starts, Takes, Ticks, TimePasses, Work, [], after_planned, aged}
-use Rattle.node_laws.proofs.Words.{aged_entries, all_aged, all_append, all_flat, ap, append-nil, append_assoc, arrival, as_it_ticks, beginning, boots}
+use Rattle.node_laws.proofs.Words.{aged_entries, all_aged, all_append, all_flat, ap, append-nil, append_assoc, arith, arrival, as_it_ticks, beginning, boots}
 use Rattle.node_laws.proofs.Words.{by_coming, by_controller, by_controller_tick, by_host, by_host_tick, by_test, comes_at, comes_to, comes_to_pass}
-use Rattle.node_laws.proofs.Words.{commands_by_events, cond, controller_begins, controller_does, controller_ticks, controller_work, end_c, end_h, ending_of}
-use Rattle.node_laws.proofs.Words.{ends_in, entries_for, entries_in, eq-eqb, eqb, eqb-true, exchanged, false, flat_map, flat_map-append, frame_lost}
-use Rattle.node_laws.proofs.Words.{frames_noted, host_tick, host_ticks, hosts_in, hosts_of_ends, hosts_tick, input_of, is_answer_of, is_cut_of, is_done}
-use Rattle.node_laws.proofs.Words.{is_of_node, length, link_to, memory_at, near_tick, new_world, node_entries, node_of, noted_before_pass, occurrences_in}
-use Rattle.node_laws.proofs.Words.{passes, refl, runs_on, sending, site_at, site_ticked, site_unticked, steps, subst, sym, through, ticks_at_controller}
-use Rattle.node_laws.proofs.Words.{ticks_host, true, true≢false, turn_link, turns_at, until, wires_for, world_behind, world_step, world_ticks, ℕ, ◌++◌, ◌==◌}
-use Rattle.node_laws.proofs.Words.{◌∙◌, ◌∷◌, ◌≡◌, ◌≤◌}
+use Rattle.node_laws.proofs.Words.{commands_by_events, controller_begins, controller_does, controller_ticks, controller_work, end_c, end_h, ending_of, ends_in}
+use Rattle.node_laws.proofs.Words.{entries_for, entries_in, eqb, eqb-true, exchanged, false, flat_map, flat_map-append, frame_lost, frames_noted, host_tick}
+use Rattle.node_laws.proofs.Words.{host_ticks, hosts_in, hosts_of_ends, hosts_tick, input_of, is_answer_of, is_cut_of, is_done, is_of_node, length, link_to}
+use Rattle.node_laws.proofs.Words.{memory_at, near_tick, new_world, node_entries, node_of, noted_before_pass, occurrences_in, passes, refl, runs_on, sending}
+use Rattle.node_laws.proofs.Words.{site_at, site_ticked, site_unticked, steps, subst, sym, through, ticks_at_controller, ticks_host, true, true≢false}
+use Rattle.node_laws.proofs.Words.{turn_link, turns_at, until, wires_for, world_behind, world_step, world_ticks, ℕ, ◌++◌, ◌==◌, ◌∙◌, ◌∷◌, ◌≡◌, ◌≤◌}
 use Rattle.node_laws.specs.passes.Passing.ComesTo.{Begins}
 use Rattle.node_laws.proofs.kept.Events.{hosts_same as sites_same}
 use Rattle.node_laws.proofs.order.Upheld.{AreDone as AskedDone, done_back, history_done}
@@ -31,7 +30,7 @@ use Rattle.node_laws.proofs.telling.Accounts.{AreUncut, IsUncut}
 use Rattle.node_laws.proofs.telling.WorldTicks.{aged_orderly, ticked_orderly}
 use Rattle.node_laws.proofs.turns.Passing.{Goes, goes-append, still_goes}
 use Rattle.node_laws.proofs.turns.Nodes.{aged_none, sites_is}
-use Rattle.node_laws.proofs.worlds.FramesLast.{aged_turnless, begun_turnless, boots_turnless, frames_turnless, lost_turnless, other_turns, turnless_there}
+use Rattle.node_laws.proofs.worlds.FramesLast.{aged_turnless, begun_turnless, frames_turnless, other_turns, turnless_there}
 use Rattle.node_laws.proofs.worlds.Resting.{AreIdle, SiteRests, SiteWaits, far_site, flat_idle, frames_idle, idle_done, idle_still, near_rests, others_idle}
 use Rattle.node_laws.proofs.worlds.Resting.{site_on}
 use Rattle.node_laws.proofs.worlds.Events.{AllAtRest, AllWaiting, after_near, all_rests, boot_rests, cut_rests, each_done, far_begins, far_coming, far_idle}
@@ -59,13 +58,10 @@ module _ (hosts : List ℕ) (m : Moment) (x : Entry) (behind : List Entry) (near
       (λ q. near e.link (subst (λ n. turn_link n x ≡ Some e.link) (eqb-true (node_of e) 0 q) turn))
       (λ q. far (node_of e) e.link q turn)
 
-own_link : (e : End) → cond (eqb (node_of e) (node_of e)) (Some e.link) None ≡ Some e.link
-own_link e = ap (λ b. cond b (Some e.link) None) (eq-eqb (node_of e) (node_of e) refl)
-
 pub everywhere : (hosts : List ℕ) (m : Moment) (x : Entry) (behind : List Entry) → IsAnsweredNear hosts m x behind → IsAnsweredFar hosts m x behind
     → IsAnswered hosts m x behind
-everywhere hosts m (entry.Turn e pid message) behind near far = at_end hosts m (entry.Turn e pid message) behind near far e (own_link e)
-everywhere hosts m (entry.Held e need spare) behind near far = at_end hosts m (entry.Held e need spare) behind near far e (own_link e)
+everywhere hosts m (entry.Turn e pid message) behind near far = at_end hosts m (entry.Turn e pid message) behind near far e (grind arith)
+everywhere hosts m (entry.Held e need spare) behind near far = at_end hosts m (entry.Held e need spare) behind near far e (grind arith)
 everywhere hosts m _ behind near far = (tt, tt)
 
 -- ## In each event each message that has its turn at the controller, or is noted as held there, is one of a pass that replies as is read
@@ -88,10 +84,8 @@ skips k (y ∷ a) l [] x behind none turn is =
     let same : y ≡ x = cc in
     let no : None ≡ Some k = sym none.0 ∙ (ap (turn_link 0) same ∙ turn) in absurd (cc no)
 skips k (y ∷ a) l (z ∷ front) x behind none turn is =
-    let same : y ≡ z = cc in
-    let more : a ++ l ≡ front ++ (x ∷ behind) = cc in
-    let s : StandsBehind a l front x behind = skips k a l front x behind none.1 turn more in
-    record { later = s.later; before = ap (λ u. u ∷ front) (sym same) ∙ ap (λ u. y ∷ u) s.before; rest = s.rest }
+    let s : StandsBehind a l front x behind = skips k a l front x behind none.1 turn cc in
+    record { later = s.later; before = ap (λ u. u ∷ front) (sym cc) ∙ ap (λ u. y ∷ u) s.before; rest = s.rest }
 
 -- an entry before entries that aren't it stands in what precedes them
 record StandsBefore (more rest front : List Entry) (x : Entry) (behind : List Entry) : Type 0 where
@@ -107,10 +101,7 @@ within : (k : ℕ) (more rest front : List Entry) (x : Entry) (behind : List Ent
     → more ++ rest ≡ front ++ (x ∷ behind) → StandsBefore more rest front x behind
 within k [] rest front x behind none turn is =
     let no : None ≡ Some k = sym (suffix front x behind (subst NoneThere is none)) ∙ turn in absurd (cc no)
-within k (y ∷ more) rest [] x behind none turn is =
-    let same : y ≡ x = cc in
-    let tail : more ++ rest ≡ behind = cc in
-    record { back = more; is = ap (λ u. u ∷ more) same; behind_is = sym tail }
+within k (y ∷ more) rest [] x behind none turn is = record { back = more; is = ap (λ u. u ∷ more) cc; behind_is = sym cc }
 within k (y ∷ more) rest (z ∷ front) x behind none turn is =
     let same : y ≡ z = cc in
     let tail : more ++ rest ≡ front ++ (x ∷ behind) = cc in
@@ -146,11 +137,10 @@ pass_so hosts t lead rest w on none own after quiet replied front behind x m k i
     let s : StandsBehind (lead ++ w.entries) (p.more ++ rest) front x behind =
     skips k (lead ++ w.entries) (p.more ++ rest) front x behind (all_append _ lead w.entries none own) turn (sym shape ∙ is) in
     let b : StandsBefore p.more rest s.later x behind = within k p.more rest s.later x behind after turn s.rest in
-    let all : (passes w).entries ≡ w.entries ++ (s.later ++ (x ∷ b.back)) = p.entries ∙ ap (λ l. w.entries ++ l) b.is in
     let moment : until m ≡ ((t ++ lead) ++ w.entries) ++ s.later =
     at ∙ (ap (λ l. t ++ l) s.before ∙ (ap (λ l. t ++ l) (append_assoc lead w.entries s.later) ∙ (sym (append_assoc t lead (w.entries ++ s.later))
     ∙ sym (append_assoc (t ++ lead) w.entries s.later)))) in
-    subst (λ l. IsReplied hosts m x l × IsHeldFor hosts m x l) (sym b.behind_is) (replied s.later b.back rest x m all moment quiet)
+    subst (λ l. IsReplied hosts m x l × IsHeldFor hosts m x l) (sym b.behind_is) (replied s.later b.back rest x m (grind arith) moment quiet)
 
 -- a step of the controller
 step_so : (hosts : List ℕ) (t lead rest : List Entry) (input : NodeInput) (w : Work) → NoneThere lead → AreNoTurns w.entries → NoneThere rest
@@ -268,19 +258,16 @@ module _ (hosts : List ℕ) (t : List Entry) (w : NodeWorld) (a : IsOrderly w)
   turnless_so : (es : List Entry) → AreNoTurns es → PassesSo hosts t es
   turnless_so es none = none_so hosts t es (turnless_there 0 es none)
 
-  alone_so : (e : End) (comes : Comes) → PassesSo hosts t (comes_at w e comes).1
-  alone_so e comes = subst (PassesSo hosts t) (append-nil (comes_at w e comes).1) (coming_so e comes [] tt)
-
   event_so : (c : Happening) → PassesSo hosts t (world_step w c).1
-  event_so (Boots k) = turnless_so (boots w k).1 (boots_turnless w k)
+  event_so (Boots k) = turnless_so (boots w k).1 (grind arith)
   event_so (IsCut k) = turnless_so (world_step w (IsCut k)).1 (refl, tt)
   event_so (Gives e m) = turnless_so (world_step w (Gives e m)).1 (begun_turnless w e.link (sending e.link m) (sending_turnless e.link m))
   event_so (Inits e identity pipes) =
       turnless_so (world_step w (Inits e identity pipes)).1 (begun_turnless w e.link (beginning identity pipes) (beginning_turnless identity pipes))
-  event_so (Takes e) = alone_so e NextFrame
-  event_so (Loses e why) = turnless_so (frame_lost w e why).1 (lost_turnless w e why)
+  event_so (Takes e) = (subst (PassesSo hosts t) (append-nil (comes_at w e NextFrame).1) (coming_so e NextFrame [] tt))
+  event_so (Loses e why) = turnless_so (frame_lost w e why).1 (grind arith)
   event_so Ticks = ticking_so
-  event_so (Resets e window) = alone_so e (AsksReset window)
+  event_so (Resets e window) = (subst (PassesSo hosts t) (append-nil (comes_at w e (AsksReset window)).1) (coming_so e (AsksReset window) [] tt))
   event_so (Activates h sync power) =
       let near : NodeWorld × List Entry = comes_at w (end_c h) (Starts power) in
       coming_so (end_c h) (Starts power) (comes_at near.0 (end_h h) (Starts sync)).1
@@ -349,9 +336,6 @@ module _ (t : List Entry) (w : NodeWorld) (reads : WaitsRead t w) (before : AllW
       (goes-append (end_c k) t (all_aged w).1 [] x.link.controller.side.got x.link.controller.side.got (near_goes t w reads.all r runs k x z)
       (still_goes (end_c k) (all_aged w).1 x.link.controller.side.got (idle_still (end_c k) (all_aged w).1 (aged_idle (end_c k) w))))) here
 
-  near_part : IsPart 0 (controller_ticks old).1
-  near_part = near_ticks_part old (aged_orderly w a)
-
   near_waiting : AllWaiting (since ++ (controller_ticks old).1) (controller_ticks old).0.sites
   near_waiting =
       by_controller_tick (λ p. IsPart 0 p.1 → AllWaiting (since ++ p.1) p.0.sites) old
@@ -369,7 +353,7 @@ module _ (t : List Entry) (w : NodeWorld) (reads : WaitsRead t w) (before : AllW
       (near_rests since old.sites w.memory.plan r has (aged_orderly w a).different (λ h. (link_to old.sites h).controller) [] (λ k. refl) (old_goes r q)
       (λ k. aged_leave w t k ∙ reads.holds r q k) tt tt tt tt (λ k. tt) TimePasses tt))
       old_waiting)
-      near_part
+      (near_ticks_part old (aged_orderly w a))
 
 -- ### The ticks of hosts
 
@@ -489,8 +473,7 @@ rest_lasts t w c a may = record { reads = reads_last t w c a.reads may; rests = 
 
 new_rests : (hosts : List ℕ) → AllAtRest [] (new_world hosts).sites
 new_rests [] = tt
-new_rests (h ∷ hosts) =
-    (record { near = refl; holds = λ r q. let no : None ≡ Some r = q in absurd (cc no); far = refl }, new_rests hosts)
+new_rests (h ∷ hosts) = (record { near = refl; holds = λ r q. let no : None ≡ Some r = q in absurd (cc no); far = refl }, new_rests hosts)
 
 pub history_rests : (header : Header) (lines : List Line) (t : NodeHistory) → FollowsNodes header lines t → AreHosts header.hosts.items
     → (front back : List Occurrence) → occurrences_in t ≡ front ++ back → IsAtRest (entries_in front) (world_behind (new_world header.hosts.items) front)
@@ -506,17 +489,14 @@ pub histories_done : (header : Header) (lines : List Line) (t : NodeHistory) →
     → ArePlayable lines → AtEachOccurrence t (AreDone t.header.hosts.items)
 histories_done header lines t follows are playable past back o parts =
     let so : IsSo header.hosts.items (past ++ o ∷ []) (world_behind (new_world header.hosts.items) (past ++ o ∷ [])) =
-    history_so header lines t follows are playable (past ++ o ∷ []) back split in
+    history_so header lines t follows are playable (past ++ o ∷ []) back (parts ∙ sym (append_assoc past (o ∷ []) back)) in
     let rests : IsAtRest (entries_in (past ++ o ∷ [])) (world_behind (new_world header.hosts.items) (past ++ o ∷ [])) =
-    history_rests header lines t follows are (past ++ o ∷ []) back split in
+    history_rests header lines t follows are (past ++ o ∷ []) back (parts ∙ sym (append_assoc past (o ∷ []) back)) in
     let D : List ℕ → List Entry → Type 0 = λ hs l. AllByRecursion (λ e. is_done l e ≡ true) (ends_in hs) in
     subst (λ (h : Header). D h.hosts.items (through past o)) (sym follows.header_is)
     (subst (D header.hosts.items) entries
     (subst (λ hs. D hs (entries_in (past ++ o ∷ []))) so.hosts_are (done_of (entries_in (past ++ o ∷ [])) _ rests.rests)))
   where
-    split : occurrences_in t ≡ (past ++ o ∷ []) ++ back
-    split = parts ∙ sym (append_assoc past (o ∷ []) back)
-
     entries : entries_in (past ++ o ∷ []) ≡ through past o
     entries =
         flat_map-append (λ (x : Occurrence). x.entries) past (o ∷ []) ∙ ap (λ l. entries_in past ++ l) (append-nil o.entries)

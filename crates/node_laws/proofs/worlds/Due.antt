@@ -4,18 +4,17 @@ use Rattle.node_laws.proofs.Words.{AsksReset, AtEachOccurrence, AtEnd, Bool, Boo
 use Rattle.node_laws.proofs.Words.{GoesOut, Happening, HasEnds, Header, Host, Init, Inits, IsBegunByHost, IsCut, IsDueAt, IsFew, IsGoodSite, IsHost}
 use Rattle.node_laws.proofs.Words.{IsNodeHeader, IsNodeLineOf, IsOrderly, IsReplyNoted, IsSentByHost, IsTrue, KeepsNotices, Line, Link, LinkEnd, LinkInput}
 use Rattle.node_laws.proofs.Words.{LinkState, List, Loses, MayBoot, Message, NextFrame, NoInput, NodeHistory, NodeWorld, None, NumberedEnd, Occurrence, OnWire}
-use Rattle.node_laws.proofs.Words.{Option, Orders, Port, Resets, Running, Sends, Site, SiteKeepsInit, Some, Take, Takes, TakesMessage, Ticks, Turn, Up, Work}
-use Rattle.node_laws.proofs.Words.{[], after_input, all_done, all_so, and_parts, ap, append-nil, arith, before_turn, beginning, begins_with, begun_at}
-use Rattle.node_laws.proofs.Words.{by_coming, by_controller, by_test, cond, controller_does, controller_work, count_of, due, end_c, end_h, end_of_number}
-use Rattle.node_laws.proofs.Words.{ended_by, ending_of, ends_in, entries_in, entries_of_reply, eq-eqb, eqb, eqb-false, eqb-true, exchanged, false, filter}
-use Rattle.node_laws.proofs.Words.{first_cause, first_verdict, flat_map-append, fold, frames_at, frames_noted, frames_out, give_refusal, happenings, happens_by}
-use Rattle.node_laws.proofs.Words.{has_taken, host_does, host_work, hosts_in, if_not_sent, if_off, if_waiting, init_behind, is_answer_of, is_command_message}
-use Rattle.node_laws.proofs.Words.{is_cut_of, is_down, is_reset_down, is_reset_due, is_rset, is_some, is_turn_of, is_up, length, link_after_controller, link_to}
-use Rattle.node_laws.proofs.Words.{list_any, map, near_end_in, new_world, node_at, node_entries, node_of, noted_by_deeds, noted_of_deeds, number_now, number_of}
-use Rattle.node_laws.proofs.Words.{occurrences_in, option_and_then, option_map_or, put, put_all, refl, refusal_in, replicate, runs_on, same_number, sending}
-use Rattle.node_laws.proofs.Words.{sent_in_session, session_now, session_of_port, site_at, steps, steps_at_controller, steps_from, subst, suc, sym, taken_of}
-use Rattle.node_laws.proofs.Words.{to_command, true, true≢false, turned, turns_at, unwrap_or, wires_for, with_ended, world_behind, world_step, zero, ℕ, ◌&&◌}
-use Rattle.node_laws.proofs.Words.{◌++◌, ◌==◌, ◌∙◌, ◌∷◌, ◌≡◌, ◌≤◌}
+use Rattle.node_laws.proofs.Words.{Option, Orders, Port, Resets, Running, Sends, Site, Some, Take, Takes, TakesMessage, Ticks, Turn, Up, Work, [], after_input}
+use Rattle.node_laws.proofs.Words.{all_done, all_so, and_parts, ap, append-nil, arith, before_turn, beginning, begins_with, begun_at, by_coming, by_controller}
+use Rattle.node_laws.proofs.Words.{by_test, cond, controller_does, controller_work, count_of, due, end_c, end_h, end_of_number, ended_by, ending_of, ends_in}
+use Rattle.node_laws.proofs.Words.{entries_in, entries_of_reply, eq-eqb, eqb, eqb-false, eqb-true, exchanged, false, filter, first_cause, first_verdict}
+use Rattle.node_laws.proofs.Words.{flat_map-append, fold, frames_at, frames_noted, frames_out, give_refusal, happenings, has_taken, host_does, host_work}
+use Rattle.node_laws.proofs.Words.{hosts_in, if_not_sent, if_off, if_waiting, init_behind, is_answer_of, is_command_message, is_cut_of, is_down, is_reset_down}
+use Rattle.node_laws.proofs.Words.{is_reset_due, is_some, is_turn_of, is_up, length, link_after_controller, link_to, list_any, map, near_end_in, new_world}
+use Rattle.node_laws.proofs.Words.{node_at, node_entries, node_of, noted_by_deeds, noted_of_deeds, number_now, number_of, occurrences_in, option_and_then}
+use Rattle.node_laws.proofs.Words.{option_map_or, put, put_all, refl, refusal_in, replicate, runs_on, same_number, sending, sent_in_session, session_now}
+use Rattle.node_laws.proofs.Words.{session_of_port, site_at, steps, steps_at_controller, subst, suc, sym, taken_of, to_command, true, true≢false, turned}
+use Rattle.node_laws.proofs.Words.{turns_at, unwrap_or, wires_for, with_ended, world_behind, world_step, zero, ℕ, ◌&&◌, ◌++◌, ◌==◌, ◌∙◌, ◌∷◌, ◌≡◌, ◌≤◌}
 use Rattle.node_laws.proofs.creations.Events.{history_keeps}
 use Rattle.node_laws.proofs.kept.Ticking.{first_none, off_none}
 use Rattle.node_laws.proofs.links.Worlds.{IsFineSite}
@@ -32,7 +31,7 @@ use Rattle.node_laws.proofs.reply_passes.Ordered.{port_begins}
 use Rattle.node_laws.proofs.telling.Lasting.{AllMay, AnyLine, AreCaused, EachHolds, all_lines, boots_may, damaged_may, events_of_steps, front_each}
 use Rattle.node_laws.proofs.telling.Lasting.{lines_caused, lines_each, new_orderly, occurs, repeated_may}
 use Rattle.node_laws.proofs.telling.Events.{Stands, site_host, site_is, stands}
-use Rattle.node_laws.proofs.views.InitWorlds.{AtSite, Keeps, MayKeep}
+use Rattle.node_laws.proofs.views.InitWorlds.{Keeps, MayKeep}
 use Rattle.node_laws.proofs.views.Lines.{front_keeps, line_may_of_init_lines as line_may, new_keeps, taken_up}
 use Rattle.node_laws.proofs.worlds.Resetting.{AgesAreRead, IsReadBefore, aged_read, far_is, near_is}
 use Rattle.node_laws.proofs.worlds.Ticking.{AreDownless, IfNoNotices, NoNotices, far_node, far_number, frames_downless, host_begins}
@@ -41,12 +40,6 @@ use Rattle.node_laws.proofs.worlds.Late.{AreHostSites, IsHostSite, IsLate, NoAns
 use Rattle.node_laws.proofs.worlds.Late.{others_answer, out_unanswered, ticks_late, unanswered_all}
 use Rattle.trace_model.specs.declared.entry.Entry.TheVariants as entry
 use Rattle.trace_model.specs.declared.line.Line.TheVariants as line
-
--- ## No host has a notice to answer, in each world of a history
-
--- the host of a site that keeps its init has none
-keeps_none : (i : Option Init) (s : Site) → SiteKeepsInit i s → IfNoNotices s.node
-keeps_none i s k = grind arith
 
 -- ## Over histories sessions end by resets exactly where those are due
 
@@ -137,7 +130,7 @@ module _ (header : Header) (lines : List Line) (t : NodeHistory) (follows : Foll
           (new_keeps h host hosts_of_histories)
           (subst (AreCaused MayKeep (new_world hosts_of_histories)) (sym (ap events_of_steps follows.steps_are) ∙ parts)
           (lines_caused MayKeep IsBegunByHost line_may lines (new_world hosts_of_histories) sides)) in
-          keeps_none i s (subst (AtSite i) found keeps)
+          grind arith
 
     module _ (ages : AgesAreRead past w.controller) where
       pub read_before : IsReadBefore past w
@@ -199,12 +192,9 @@ MayStep w _ = Unit {0}
 
 -- ### One frame less
 
-put_near : (l : Link) (c : Control) → (put l c).to_controller ≡ l.to_controller
-put_near l c = by_test (is_rset c) (λ q. rw q refl) (λ q. rw q refl)
-
 puts_near : (l : Link) (cs : List Control) → (put_all l cs).to_controller ≡ l.to_controller
 puts_near l [] = refl
-puts_near l (c ∷ cs) = puts_near (put l c) cs ∙ put_near l c
+puts_near l (c ∷ cs) = puts_near (put l c) cs ∙ (grind arith)
 
 pub ended_near : (l : Link) (b : Bool) → (with_ended l b).to_controller ≡ l.to_controller
 ended_near l b = grind arith
@@ -281,10 +271,6 @@ off_zero header nodes h a = grind arith
 pub taken_most : (count : Option ℕ) (wire : List OnWire) → taken_of count wire ≤ length wire
 taken_most count wire = grind arith
 
-damage_may : (w : NodeWorld) (e : End) → (e.link == 0) ≡ false → (places : List ℕ) (wire : List OnWire) → frames_at w e ≡ wire
-    → AllMay MayStep w (happens_by e (first_verdict wire places))
-damage_may w e off places wire here = grind arith
-
 module _ (header : Header) (nodes : IsNodeHeader header) where
   pub line_steps : (w : NodeWorld) (l : Line) → IsNodeLineOf header l → refusal_in w l ≡ None → AllMay MayStep w (happenings w l)
   line_steps w (line.Deliver e count) is none = by_test e.at_host
@@ -293,7 +279,7 @@ module _ (header : Header) (nodes : IsNodeHeader header) where
       (λ on. let same = ap (λ (xs : List OnWire). length xs) (frames_near w e near) in omega (arith, taken_most count (frames_at w e), same))) where
         off : (e.link == 0) ≡ false
         off = off_zero header nodes e.link is.0
-  line_steps w (line.Damage e places) is none = damage_may w e (off_zero header nodes e.link is.0) places.items (frames_at w e) refl
+  line_steps w (line.Damage e places) is none = grind arith
   line_steps w (line.Tick times) is none = repeated_may MayStep Ticks (λ v. tt) (unwrap_or times 1) w
   line_steps w (line.Reset e window) is none = (off_zero header nodes e.link is.0, tt)
   line_steps w (line.Busy e) is none = tt
@@ -479,8 +465,7 @@ module _ (t : List Entry) (w : NodeWorld) (a : IsOrderly w) (sites : AreHostSite
       (frames_downless Host s.host (wires_for (exchanged s.link) NoInput) (v s.host)) in
       let noted : Begins D e.link ≡ (v e.link).entries ++ frames e.link = begins_noted w e.link s r (D e.link) found.1 found.2 in
       let there : G e.link = subst G is own in
-      let all : AnswersSo e.link (Begins D e.link) (noted_of_deeds (t ++ filter is_down (Begins D e.link)) e.link e.link (D e.link)) = grind arith in
-      subst (λ k. AnswersSo k (Begins D e.link) (noted_of_deeds (t ++ filter is_down (Begins D e.link)) k k (D k))) link all
+      subst (λ k. AnswersSo k (Begins D e.link) (noted_of_deeds (t ++ filter is_down (Begins D e.link)) k k (D k))) link (grind arith)
     where
       takes_message : (s : Site) (r : Running) → give_refusal s.link.host.side m ≡ None → TakesMessage (host_begins s r NoInput).ports s.host m
       takes_message s r free p there z =
@@ -493,16 +478,13 @@ module _ (t : List Entry) (w : NodeWorld) (a : IsOrderly w) (sites : AreHostSite
       let es : List Entry = (host_does w e.link NoInput (begins_with e.link D)).1 in
       late_due n es (late_all n es (others_answer n es (own_not e.link n es other (part_own e.link es (begins_part w e.link D mine a)))))
 
-  node_is_link : (e : End) → IsTrue e.at_host → node_of e ≡ e.link
-  node_is_link e side = rw side refl
-
   gives_due : (e : End) (m : Message) → MayStartAt w e m → IsDue (world_step w (Gives e m)).1 (begun_at n (Gives e m))
   gives_due e m may = go (node_of e == n) refl where
     Goal : Bool → Type 0
     Goal b = IsDue (Begins (λ k. sending k m) e.link) (cond b (sending n m) [])
 
     same : (node_of e == n) ≡ (e.link == n)
-    same = ap (λ k. k == n) (node_is_link e may.side)
+    same = ap (λ k. k == n) (rw may.side refl)
 
     go : (b : Bool) → (node_of e == n) ≡ b → IsDue (world_step w (Gives e m)).1 (begun_at n (Gives e m))
     go false q = subst Goal (sym q) (other_due e (sym same ∙ q) (sending e.link m) (sending_mine e.link m))
@@ -525,14 +507,11 @@ module _ (t : List Entry) (w : NodeWorld) (a : IsOrderly w) (sites : AreHostSite
       → IsDue (world_step w (Inits e identity pipes)).1 (begun_at n (Inits e identity pipes))
   inits_due e identity pipes may = by_test (node_of e == n)
       (λ q. subst Goal (sym q)
-      (own_due e (1, 3 ∷ []) may (sym same ∙ q) (λ k. beginning identity pipes) (λ s r taken. (tt, (taken, tt))) (λ s r. tt) (λ s r. refl)
+      (own_due e (1, 3 ∷ []) may (sym (grind arith) ∙ q) (λ k. beginning identity pipes) (λ s r taken. (tt, (taken, tt))) (λ s r. tt) (λ s r. refl)
       (λ h node named count. refl)))
-      (λ q. subst Goal (sym q) (other_due e (sym same ∙ q) (beginning identity pipes) (tt, (tt, tt)))) where
+      (λ q. subst Goal (sym q) (other_due e (sym (grind arith) ∙ q) (beginning identity pipes) (tt, (tt, tt)))) where
         Goal : Bool → Type 0
         Goal b = IsDue (Begins (λ k. beginning identity pipes) e.link) (cond b (beginning identity pipes) [])
-
-        same : (node_of e == n) ≡ (e.link == n)
-        same = ap (λ k. k == n) (node_is_link e may.side)
 
   event_due : (c : Happening) → MayStart w c → IsDue (world_step w c).1 (begun_at n c)
   event_due (Boots k) may = late_due n (world_step w (Boots k)).1 (boots_late n off w k)
@@ -587,8 +566,7 @@ module _ (header : Header) (lines : List Line) (t : NodeHistory) (follows : Foll
 
         caused : AreCaused MayStart (new_world hosts) (past ++ (o ∷ back))
         caused =
-            let same : events_of_steps (steps_from (new_world hosts) lines) ≡ past ++ (o ∷ back) = sym (ap events_of_steps follows.steps_are) ∙ parts in
-            subst (AreCaused MayStart (new_world hosts)) same
+            subst (AreCaused MayStart (new_world hosts)) (sym (ap events_of_steps follows.steps_are) ∙ parts)
             (lines_caused MayStart IsPlain line_starts lines (new_world hosts) (both_plain lines sent sides))
 
         starts : (o.entries ≡ es) × MayStart w o.cause

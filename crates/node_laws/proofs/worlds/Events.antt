@@ -1,10 +1,10 @@
 -- In each event all messages at the ends of nodes that run have had their turns, or all before one that is held.
 use Rattle.std.proofs.Common.{arith}
 use Rattle.node_laws.proofs.Words.{AllByRecursion, AreDifferent, AreNoTurns, AreNotOf, AtController, AtEnd, Bool, Broken, Comes, Controller, CutOff, Deed, End}
-use Rattle.node_laws.proofs.Words.{Entry, HasEnds, Host, IsOrderly, LinkEnd, LinkInput, List, Loss, Memory, NoInput, NodeWorld, None, Noted, NumberedEnd}
-use Rattle.node_laws.proofs.Words.{Option, Port, Running, Site, Some, Step, Work, [], after_host, after_planned, all_append, all_map, all_so, ap, append-nil}
-use Rattle.node_laws.proofs.Words.{append_assoc, arrival, begins_with, boot_found, boot_writes, boot_written, boots, by_boot, by_coming, by_controller, by_host}
-use Rattle.node_laws.proofs.Words.{by_loss, by_memory, by_power, by_running, by_test, changed_if, comes_at, comes_to, cond, controller_cut, controller_does}
+use Rattle.node_laws.proofs.Words.{Entry, Host, IsOrderly, LinkEnd, LinkInput, List, Loss, Memory, NoInput, NodeWorld, None, Noted, NumberedEnd, Option, Port}
+use Rattle.node_laws.proofs.Words.{Running, Site, Some, Step, Work, [], after_host, after_planned, all_append, all_map, all_so, ap, append-nil, append_assoc}
+use Rattle.node_laws.proofs.Words.{arrival, begins_with, boot_found, boot_writes, boot_written, boots, by_boot, by_coming, by_controller, by_host, by_loss}
+use Rattle.node_laws.proofs.Words.{by_memory, by_power, by_running, by_test, changed_if, comes_at, comes_to, cond, controller_cut, controller_does}
 use Rattle.node_laws.proofs.Words.{controller_work, count_of, counts, end_c, end_h, ending_of, entries_for, eqb, eqb-true, exchanged, false, first_lost}
 use Rattle.node_laws.proofs.Words.{flat_map, fold-append, frame_lost, frames_noted, happens, holds_in, host_cut, host_does, host_work, hosts_in, input_of}
 use Rattle.node_laws.proofs.Words.{is_done, is_held_at, is_some, link_after_controller, link_to, loses_power_at, map, memory_at, near_end_in, node_of}
@@ -12,7 +12,7 @@ use Rattle.node_laws.proofs.Words.{noted_by_deeds, own_side, refl, runs_on, same
 use Rattle.node_laws.proofs.Words.{unhandled_after, unhandled_in, waiting_at, wires_for, with_error, with_memory, with_site, ℕ, ◌++◌, ◌==◌, ◌∙◌, ◌∷◌, ◌≡◌}
 use Rattle.trace_model.specs.declared.entry.Entry.TheVariants as entry
 use Rattle.node_laws.proofs.telling.Accounts.{AreMute}
-use Rattle.node_laws.proofs.telling.Events.{link_is, node_is, site_host}
+use Rattle.node_laws.proofs.telling.Events.{link_is, site_host}
 use Rattle.node_laws.proofs.telling.Shapes.{entries_uncut}
 use Rattle.node_laws.proofs.passes.InSteps.{NotesNoTurn, deeds_note_of_notes as deeds_note, links_none, noted_none}
 use Rattle.node_laws.proofs.links.Sites.{here_host}
@@ -73,8 +73,7 @@ waiting_from t w a rests =
       goes s r q there =
           let all : Waiting t w true s.host = a.waiting true s.host in
           let power : ByPower (is_some s.node) all.messages s.link.host.side.got = subst (FarWaits all.messages) there all.waits in
-          let is : all.messages ≡ s.link.host.side.got = subst (λ (o : Option Running). ByPower (is_some o) all.messages s.link.host.side.got) q power in
-          subst (Goes (end_h s.host) [] t) is all.goes
+          subst (Goes (end_h s.host) [] t) (subst (λ (o : Option Running). ByPower (is_some o) all.messages s.link.host.side.got) q power) all.goes
 
 -- ## Entries of one node
 
@@ -89,15 +88,9 @@ idle_all t es f host node got idle sites a =
     all_map (SiteWaits t) (SiteWaits (t ++ es)) f
     (λ s x. site_on t es s (f s) x (host s) (node s) (got s) (idle_done (end_c s.host) t es (idle (end_c s.host)) x.rests.near) (idle (end_h s.host))) sites a
 
--- entries of the controller alone tell nothing of a host
-near_idle : (es : List Entry) → IsPart 0 es → (s : Site) → (s.host == 0) ≡ false → AreIdle (end_h s.host) es
-near_idle es part s off = others_idle (end_h s.host) es (own_not 0 s.host es (zero_other s off) (part_own 0 es part))
-
 -- those of one host nothing of the controller, and nothing of another host
 pub far_idle : (n : ℕ) (es : List Entry) → IsPart n es → (k : ℕ) → (n == k) ≡ false → (e : End) → node_of e ≡ k → AreIdle e es
-far_idle n es part k off e number =
-    let A : ℕ → Type 0 = λ j. AreNotOf j es in
-    others_idle e es (subst A (sym number) (own_not n k es off (part_own n es part)))
+far_idle n es part k off e number = others_idle e es (subst (λ j. AreNotOf j es) (sym number) (own_not n k es off (part_own n es part)))
 
 -- ## Steps of the controller
 
@@ -112,7 +105,7 @@ after_near t (s ∷ sites) f host node got es frames part idle off done b = (
   site_on t (es ++ frames) s (f s) b.0 (host s) (node s) (got s)
       (subst (λ l. is_done l (end_c s.host) ≡ true) (append_assoc t es frames)
       (idle_done (end_c s.host) (t ++ es) frames (idle (end_c s.host)) done.0))
-      (near_idle (es ++ frames) part s off.0),
+      (others_idle (end_h s.host) (es ++ frames) (own_not 0 s.host (es ++ frames) (zero_other s off.0) (part_own 0 (es ++ frames) part))),
   after_near t sites f host node got es frames part idle off.1 done.1 b.1,
 )
 
@@ -134,7 +127,6 @@ module _ (t : List Entry) (w : NodeWorld) (reads : WaitsRead t w) (before : AllW
       by_controller (λ p. IsPart 0 p.1 → AllWaiting (t ++ p.1) p.0.sites) w h comes (steps (AtEnd h i))
       (λ part. subst (λ l. AllWaiting l w.sites) (sym (append-nil t)) before)
       (λ r q part.
-      let has : HasEnds 0 (hosts_in w.sites) r = node_is 0 (hosts_in w.sites) w.controller r a.controller q in
       let v : Work = controller_work w r h comes (steps (AtEnd h i)) in
       let f : Site → List Entry = λ s. frames_noted Controller s.host (wires_for s.link (comes_to h comes s.host)) v in
       let es : List Entry = entries_for h (arrival Controller (link_to w.sites h) comes) in
@@ -143,7 +135,7 @@ module _ (t : List Entry) (w : NodeWorld) (reads : WaitsRead t w) (before : AllW
       v.entries (flat_map f w.sites) part
       (λ e. flat_idle e f (λ s. frames_idle e Controller s.host (wires_for s.link (comes_to h comes s.host)) v) w.sites) a.hosts
       (each_done t v.entries w.sites a.different
-      (near_rests t w.sites w.memory.plan r has a.different (λ k. near_end_in (link_to w.sites k) (comes_to h comes k)) es
+      (near_rests t w.sites w.memory.plan r (grind arith) a.different (λ k. near_end_in (link_to w.sites k) (comes_to h comes k)) es
       (λ k. near_end_side (link_to w.sites k) (comes_to h comes k)) (near_goes t w reads.all r q) (reads.holds r q)
       (links_none h (arrival Controller (link_to w.sites h) comes)) (notes_unbooted h (arrival Controller (link_to w.sites h) comes))
       (links_own 0 h Controller refl (arrival Controller (link_to w.sites h) comes) (arrival_of_side Controller (link_to w.sites h) comes))
@@ -222,11 +214,10 @@ module _ (t : List Entry) (w : NodeWorld) (a : IsOrderly w) (before : AllWaiting
       (λ part. subst (λ l. AllAtRest l w.sites) (sym (append-nil t)) (all_rests t w.sites before))
       (λ s r here q part.
       let is : s.host ≡ h = site_host w.sites h s here in
-      let fine = site_fine h s r w.sites (orderly_fine w a) here q in
       let from : Work = host_begins s r NoInput in
       let v : Work = host_work s r NoInput (begins_with h deeds) in
       let frames : List Entry = frames_noted Host h (wires_for (exchanged s.link) NoInput) v in
-      let off : (h == 0) ≡ false = subst (λ n. (n == 0) ≡ false) is fine.1 in
+      let off : (h == 0) ≡ false = subst (λ n. (n == 0) ≡ false) is (site_fine h s r w.sites (orderly_fine w a) here q).1 in
       one_rests h s here (v.entries ++ frames) part off (after_host NoInput v)
       (λ b. begun_rests s b r q h deeds mute turnless v frames refl (frames_idle (end_h s.host) Host h (wires_for (exchanged s.link) NoInput) v)
       (own_not h 0 (v.entries ++ frames) off (part_own h (v.entries ++ frames) part))))
@@ -340,7 +331,7 @@ booted_near t k s a off = record {
 module _ (t : List Entry) (w : NodeWorld) (o : IsOrderly w) (a : AllAtRest t w.sites) where
   pub boot_rests : (n : ℕ) → AllAtRest (t ++ (boots w n).1) (boots w n).0.sites
   boot_rests n = by_test (n == 0)
-      (λ z. let same : boot_written w n ≡ record w { memory = m } = rw z refl in
+      (λ z. let same : boot_written w n ≡ record w { memory = (after_planned (boot_writes (memory_at w n).content) (memory_at w n)) } = rw z refl in
       by_boot (λ p. AllAtRest (t ++ p.1) p.0.sites) w n (cut_rests t w a n (boot_written w n) (ap (λ (v : NodeWorld). v.sites) same))
       (by_running (λ u. AllAtRest (t ++ told) u.sites) n (boot_written w n) (boot_found w n)
       (λ q. subst (λ (v : NodeWorld). AllAtRest (t ++ told) v.sites) (sym same)
@@ -356,9 +347,6 @@ module _ (t : List Entry) (w : NodeWorld) (o : IsOrderly w) (a : AllAtRest t w.s
       (λ s found x. booted_rests t n count s (record s { node = Some (boot_found w n) }) x found z refl
       (λ r e. grind arith))
       (λ s other x. rest_on t told s s x refl x.holds (z, tt) (same_sym s.host n other, tt)) (boot_written w n).sites old))) where
-        m : Memory
-        m = after_planned (boot_writes (memory_at w n).content) (memory_at w n)
-
         count : ℕ
         count = count_of (boot_found w n).core.journal
 
@@ -366,7 +354,7 @@ module _ (t : List Entry) (w : NodeWorld) (o : IsOrderly w) (a : AllAtRest t w.s
         told = entry.Booted n count ∷ []
 
         old : AllAtRest t (boot_written w n).sites
-        old = written t w a n m
+        old = written t w a n (after_planned (boot_writes (memory_at w n).content) (memory_at w n))
 
   -- ## Losses
 

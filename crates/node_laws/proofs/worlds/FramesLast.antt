@@ -5,18 +5,18 @@ use Rattle.std.specs.List.Sorted.{IsStrictlySortedBy}
 use Rattle.std.specs.Ordering.{nat_cmp}
 use Rattle.std.specs.declared.cmp.Ordering.TheVariants.{Less}
 use Rattle.node_laws.proofs.Words.{Activates, AllByRecursion, AreAlong, AreDifferent, AreHosts, AreNoTurns, AreNotOf, ArePassed, ArePlayable, Arms, AsksReset}
-use Rattle.node_laws.proofs.Words.{AtEnd, Bool, Boots, Comes, ComesTo, Controller, Cut, Deed, Emit, End, Entry, FollowsNodes, Gives, Happening, HasEnds, Header}
-use Rattle.node_laws.proofs.Words.{Host, IfItRuns, Inits, IsAscending, IsCut, IsNoTurn, IsNodeHeader, IsOrderly, Line, Link, LinkInput, List, Loses, Loss, Lost}
+use Rattle.node_laws.proofs.Words.{AtEnd, Bool, Boots, Comes, ComesTo, Controller, Cut, Deed, Emit, End, Entry, FollowsNodes, Gives, Happening, Header, Host}
+use Rattle.node_laws.proofs.Words.{IfItRuns, Inits, IsAscending, IsCut, IsNoTurn, IsNodeHeader, IsOrderly, Line, Link, LinkInput, List, Loses, Loss, Lost}
 use Rattle.node_laws.proofs.Words.{Message, NextFrame, NoInput, NodeHistory, NodeInput, NodeWorld, None, Noted, OnWire, Option, Resets, Restarted, Site, Some}
 use Rattle.node_laws.proofs.Words.{Starts, Takes, Ticks, TimePasses, TurnsAscend, Work, [], activates, aged_entries, all_aged, all_append, all_done, all_flat}
-use Rattle.node_laws.proofs.Words.{all_so, ap, append-nil, append_assoc, arith, arrival, beginning, begins_with, boots, by_boot, by_coming, by_controller}
+use Rattle.node_laws.proofs.Words.{all_so, ap, append-nil, append_assoc, arith, arrival, beginning, begins_with, by_boot, by_coming, by_controller}
 use Rattle.node_laws.proofs.Words.{by_controller_tick, by_host, by_host_tick, by_loss, by_option, by_test, comes_at, comes_to, comes_to_pass, cond}
 use Rattle.node_laws.proofs.Words.{controller_begins, controller_does, controller_tick_begins, controller_ticks, controller_work, end_c, end_h, ending_entries}
-use Rattle.node_laws.proofs.Words.{ending_of, entries_for, eqb-true, exchanged, false, filter_map, first_lost, flat_map, frame_lost, frames_noted, host_does}
-use Rattle.node_laws.proofs.Words.{host_tick, host_ticks, host_work, hosts_in, hosts_of_ends, hosts_tick, inl, inr, is_of_node, link_of_turn, link_to}
-use Rattle.node_laws.proofs.Words.{links_of_turns, near_end_in, near_tick, new_world, not, noted_before_pass, noted_by_deeds, option_map_or, passes, port_at}
-use Rattle.node_laws.proofs.Words.{refl, sending, steps, subst, sym, told, told_of_coming, true, true≢false, turn_link, unless_cut, wires_for, work_of}
-use Rattle.node_laws.proofs.Words.{world_behind, world_step, world_ticks, ℕ, ◌&&◌, ◌++◌, ◌<◌, ◌==◌, ◌∙◌, ◌∷◌, ◌≡◌, ◌≤◌, ◌⊎◌}
+use Rattle.node_laws.proofs.Words.{ending_of, entries_for, eqb-true, exchanged, false, filter_map, first_lost, flat_map, frames_noted, host_does, host_tick}
+use Rattle.node_laws.proofs.Words.{host_ticks, host_work, hosts_in, hosts_of_ends, hosts_tick, inl, inr, is_of_node, link_of_turn, link_to, links_of_turns}
+use Rattle.node_laws.proofs.Words.{near_end_in, near_tick, new_world, not, noted_before_pass, noted_by_deeds, option_map_or, passes, port_at, refl, sending}
+use Rattle.node_laws.proofs.Words.{steps, subst, sym, told, told_of_coming, true, true≢false, turn_link, unless_cut, wires_for, work_of, world_behind}
+use Rattle.node_laws.proofs.Words.{world_step, world_ticks, ℕ, ◌&&◌, ◌++◌, ◌<◌, ◌==◌, ◌∙◌, ◌∷◌, ◌≡◌, ◌≤◌, ◌⊎◌}
 use Rattle.link_laws.specs.entries.Entries.{End as Side}
 use Rattle.link_laws.specs.entries.Entries.Entry.{Tick}
 use Rattle.node_laws.specs.answers.Order.{NodesEmitLast, emits, emitter}
@@ -192,9 +192,8 @@ module _ (Calm Frame : Entry → Type 0) (May : Deed → Type 0) (Through : List
   host_has s runs =
       by_host_tick (λ p. Q p.1) s (λ q. have.alone [] tt)
       (λ r q.
-      let node : HasEnds s.host (s.host ∷ []) r = subst (IfItRuns s.host (s.host ∷ [])) q runs in
       have.step TimePasses (work_of r s.memory.plan (λ h. s.link.host) []) (frames_noted Host s.host (exchanged s.link) (host_tick s r))
-      (subst Through (sym (hosts_same (λ h. s.link.host) r.desks ∙ node.ends)) (one s.host)) tt
+      (subst Through (sym (hosts_same (λ h. s.link.host) r.desks ∙ (subst (IfItRuns s.host (s.host ∷ [])) q runs).ends)) (one s.host)) tt
       (have.frames Host s.host (exchanged s.link) (host_tick s r)))
 
   near_tick_has : (w : NodeWorld) → IsOrderly w → Through (hosts_in w.sites) → Q (controller_ticks (all_aged w).0).1
@@ -354,12 +353,6 @@ begun_turnless w h deeds may =
     deeds_turnless h deeds (host_begins s r NoInput) _ may (links_none s.host (arrival Host (exchanged s.link) NoInput))
     (frames_turnless Host h (wires_for (exchanged s.link) NoInput) (host_work s r NoInput (begins_with h deeds))))
 
-pub lost_turnless : (w : NodeWorld) (e : End) (why : Loss) → AreNoTurns (frame_lost w e why).1
-lost_turnless w e why = grind arith
-
-pub boots_turnless : (w : NodeWorld) (n : ℕ) → AreNoTurns (boots w n).1
-boots_turnless w n = by_boot (λ p. AreNoTurns p.1) w n (refl, tt) (refl, tt)
-
 -- ### One node's turns
 
 module _ (n : ℕ) where
@@ -462,12 +455,6 @@ AreOut es = AllByRecursion IsOut es
 abbrev NotesInside : Deed → Type 0
 NotesInside d = NotesOnly IsInside d
 
-sending_inside : (h : ℕ) (m : Message) → AllByRecursion NotesInside (sending h m)
-sending_inside = sending_notes IsInside (of_deeds IsInside of_step)
-
-beginning_inside : (identity : List ℕ) (pipes : List (List ℕ)) → AllByRecursion NotesInside (beginning identity pipes)
-beginning_inside = beginning_notes IsInside (of_deeds IsInside of_step)
-
 -- ### What is noted of a link
 
 -- a frame that goes out
@@ -490,8 +477,7 @@ lost_inside : (h : ℕ) (who : Side) (why : Loss) (xs : List OnWire) → AreInsi
 lost_inside h who why xs = notes_inside h (first_lost who why xs) (lost_all IsStaying (λ w c why. tt) who why xs)
 
 aged_inside : (h : ℕ) (one other : Side) (xs ys : List OnWire) → AreInside (entries_for h (aged_entries one xs ++ aged_entries other ys))
-aged_inside h one other xs ys =
-    notes_inside h (aged_entries one xs ++ aged_entries other ys) (wires_all IsStaying (λ w c. tt) one other xs ys)
+aged_inside h one other xs ys = notes_inside h (aged_entries one xs ++ aged_entries other ys) (wires_all IsStaying (λ w c. tt) one other xs ys)
 
 -- ### Frames
 
@@ -576,8 +562,7 @@ module _ (n : ℕ) where
   -- behind a frame that goes out nothing tells of the node but other frames
   frames_behind : (es before behind : List Entry) (x : Entry) → IsFramedFor es → es ≡ before ++ (x ∷ behind) → emits n x ≡ true
       → AllByRecursion FrameAlone behind
-  frames_behind es before behind x p q goes =
-      behind_first NoFrame FrameAlone es before behind x p q (λ none. true≢false (sym goes ∙ none))
+  frames_behind es before behind x p q goes = behind_first NoFrame FrameAlone es before behind x p q (λ none. true≢false (sym goes ∙ none))
 
 -- ## In each event of a world the frames that go out of a node stand behind all else that tells of it
 
@@ -590,8 +575,8 @@ parts = record {
   aged = aged_inside;
   arrives = arrival_inside;
   frames = frames_out_of;
-  sends = sending_inside;
-  begins = beginning_inside;
+  sends = (sending_notes IsInside (of_deeds IsInside of_step));
+  begins = (beginning_notes IsInside (of_deeds IsInside of_step));
   deeds = λ h deeds w frames may inside out. framed (all_done h deeds w) frames (deeds_inside h deeds w may inside) out;
   step = λ input w frames ends inside out. framed (steps input w) frames (step_inside input w inside) out;
 } where

@@ -1,18 +1,17 @@
 -- What comes to a node is noted before what it answers, and a host answers nothing before its first turn but what it begins.
 use Rattle.node_laws.proofs.Words.{AllByRecursion, AreDifferent, AreNotOf, ArePassed, AsksReset, AtEnd, BeginWithTurn, Bool, Comes, ComesTo, Controller, Core}
 use Rattle.node_laws.proofs.Words.{Cut, Deed, Desk, Down, Emit, End, Entry, FollowsNodes, GoesOut, Header, Host, IsOrderly, IsTurnSo, IsUicc, Line, Link}
-use Rattle.node_laws.proofs.Words.{LinkEnd, LinkInput, List, Loss, Lost, Message, NodeHistory, NodeInput, NodeWorld, NodesHearFirst, None, Noted, NumberedEnd}
-use Rattle.node_laws.proofs.Words.{OnWire, Option, Port, Report, Response, Restarted, Sent, Site, Starts, Step, TimePasses, Took, Work, [], aged, aged_entries}
-use Rattle.node_laws.proofs.Words.{all_aged, all_append, all_come, all_done, all_owed, all_so, answerer, ap, append-nil, append_assoc, arith, arrival, asked_at}
-use Rattle.node_laws.proofs.Words.{before_turn, beginning, boots, by_boot, by_coming, by_controller, by_controller_tick, by_host, by_host_tick, by_option}
-use Rattle.node_laws.proofs.Words.{by_test, comes_at, comes_to, comes_to_pass, cond, controller_does, controller_ticks, controller_work, end_c, end_h}
-use Rattle.node_laws.proofs.Words.{ending_entries, ending_of, entries_for, eqb-true, exchanged, false, filter, first_lost, flat_map, forgets, frame_lost}
-use Rattle.node_laws.proofs.Words.{frames_noted, has_come, has_come_so, has_freed, has_synced, hears, host_does, host_tick, host_ticks, host_work, hosts_in}
-use Rattle.node_laws.proofs.Words.{hosts_of_ends, hosts_tick, input_at, is_answer_of, is_late, is_late_at, is_of_node, is_turn_of, is_waiting}
-use Rattle.node_laws.proofs.Words.{link_after_controller, map, near_end_in, near_tick, not, noted_before_pass, noted_by_deeds, option_map_or, owed}
-use Rattle.node_laws.proofs.Words.{owed_in_step, passes, port_at, refl, reset_late, same_number, sending, site_ticked, site_unticked, steps, subst, sym, synced}
-use Rattle.node_laws.proofs.Words.{ticks_host, told, told_of_coming, true, true≢false, turns_at, wires_for, with_older, work_of, world_ticks, ℕ, ◌&&◌, ◌++◌}
-use Rattle.node_laws.proofs.Words.{◌==◌, ◌∙◌, ◌∷◌, ◌≡◌}
+use Rattle.node_laws.proofs.Words.{LinkEnd, LinkInput, List, Loss, Lost, NodeHistory, NodeInput, NodeWorld, NodesHearFirst, None, Noted, NumberedEnd, OnWire}
+use Rattle.node_laws.proofs.Words.{Port, Report, Response, Restarted, Sent, Site, Starts, Step, TimePasses, Took, Work, [], aged, aged_entries, all_aged}
+use Rattle.node_laws.proofs.Words.{all_append, all_come, all_done, all_owed, all_so, answerer, ap, append-nil, append_assoc, arith, arrival, asked_at}
+use Rattle.node_laws.proofs.Words.{before_turn, boots, by_boot, by_coming, by_controller, by_controller_tick, by_host, by_host_tick, by_option, by_test}
+use Rattle.node_laws.proofs.Words.{comes_at, comes_to, comes_to_pass, cond, controller_does, controller_ticks, controller_work, end_c, end_h, ending_entries}
+use Rattle.node_laws.proofs.Words.{ending_of, entries_for, eqb-true, exchanged, false, filter, first_lost, flat_map, forgets, frame_lost, frames_noted}
+use Rattle.node_laws.proofs.Words.{has_come, has_come_so, has_freed, has_synced, hears, host_does, host_tick, host_ticks, host_work, hosts_in, hosts_of_ends}
+use Rattle.node_laws.proofs.Words.{hosts_tick, input_at, is_answer_of, is_late_at, is_of_node, is_turn_of, is_waiting, link_after_controller, map, near_end_in}
+use Rattle.node_laws.proofs.Words.{near_tick, not, noted_before_pass, noted_by_deeds, option_map_or, owed, owed_in_step, passes, port_at, refl, reset_late}
+use Rattle.node_laws.proofs.Words.{same_number, site_ticked, site_unticked, steps, subst, sym, synced, ticks_host, told, told_of_coming, true, true≢false}
+use Rattle.node_laws.proofs.Words.{turns_at, wires_for, with_older, work_of, world_ticks, ℕ, ◌&&◌, ◌++◌, ◌==◌, ◌∙◌, ◌∷◌, ◌≡◌}
 use Rattle.link_laws.specs.entries.Entries.{End as Side}
 use Rattle.link_laws.specs.entries.Entries.Entry.{Tick}
 use Rattle.node_laws.specs.passes.Passing.ComesTo.{Begins}
@@ -24,7 +23,6 @@ use Rattle.node_laws.proofs.power.Events.{AreNodes, controller_part, far_tick, h
 use Rattle.node_laws.proofs.power.Steps.{AreOwn, IsPart, own_not, part_own, steps_fine}
 use Rattle.node_laws.proofs.readings.Turning.{IsQuiet, rest_quiet, told_rest}
 use Rattle.node_laws.proofs.readings.Sites.{near_end_side}
-use Rattle.node_laws.proofs.readings.Noting.{forgets_same}
 use Rattle.node_laws.proofs.telling.Events.{comes_goes, ports_for, site_is}
 use Rattle.node_laws.proofs.telling.Ticks.{ending_all, lost_all, wires_all}
 use Rattle.node_laws.proofs.telling.Lasting.{history_event}
@@ -63,12 +61,6 @@ AreUnanswered es = AllByRecursion IsUnanswered es
 
 abbrev NotesUnheard : Deed → Type 0
 NotesUnheard d = NotesOnly IsUnheard d
-
-sending_unheard : (h : ℕ) (m : Message) → AllByRecursion NotesUnheard (sending h m)
-sending_unheard = sending_notes IsUnheard (of_deeds IsUnheard of_step)
-
-beginning_unheard : (identity : List ℕ) (pipes : List (List ℕ)) → AllByRecursion NotesUnheard (beginning identity pipes)
-beginning_unheard = beginning_notes IsUnheard (of_deeds IsUnheard of_step)
 
 -- ### Links
 
@@ -202,8 +194,7 @@ module _ (n : ℕ) where
   -- behind an answer nothing comes
   pub first_heard : (es before behind : List Entry) (x : Entry) → IsPartedFor es → es ≡ before ++ (x ∷ behind) → is_answer_of n x ≡ true
       → AllByRecursion NoHearing behind
-  first_heard es before behind x p q answers =
-      behind_first NoAnswerOfOrder NoHearing es before behind x p q (λ none. true≢false (sym answers ∙ none))
+  first_heard es before behind x p q answers = behind_first NoAnswerOfOrder NoHearing es before behind x p q (λ none. true≢false (sym answers ∙ none))
 
 -- ## In each event of a world what comes to a node is noted before what it answers
 
@@ -217,8 +208,8 @@ parts = record {
       (frames_unheard h (aged_entries one xs ++ aged_entries other ys) (wires_all IsFrame (λ w c. tt) one other xs ys)).1;
   arrives = arrival_unanswered;
   frames = out_unheard;
-  sends = sending_unheard;
-  begins = beginning_unheard;
+  sends = (sending_notes IsUnheard (of_deeds IsUnheard of_step));
+  begins = (beginning_notes IsUnheard (of_deeds IsUnheard of_step));
   deeds = deeds_parted;
   step = λ input w frames ends quiet out. step_parted input w frames quiet out;
 }
@@ -255,23 +246,14 @@ syncs_none core input (p ∷ ports) a =
 abbrev HasNoNotice : Port → Type 0
 HasNoNotice p = p.desk.notice ≡ None
 
-come_quiet : (p : Port) (o : Option LinkInput) → HasNoNotice p → HasNoNotice (has_come p o)
-come_quiet p o a = grind arith
-
-older_quiet : (p : Port) → HasNoNotice p → HasNoNotice (with_older p)
-older_quiet p a = rw a refl
-
-reset_quiet : (p : Port) → HasNoNotice p → HasNoNotice (reset_late p)
-reset_quiet p a = by_test (is_late p) (λ q. rw q a) (λ q. rw q a)
-
 ports_come : (input : NodeInput) (ports : List Port) → AllByRecursion IsOfHost ports
     → AllByRecursion HasNoNotice (map (λ p. has_come p (input_at input p)) ports)
 ports_come input [] a = tt
-ports_come input (p ∷ ports) a = (come_quiet p (input_at input p) a.0.1, ports_come input ports a.1)
+ports_come input (p ∷ ports) a = (grind arith, ports_come input ports a.1)
 
 ports_older : (ports : List Port) → AllByRecursion HasNoNotice ports → AllByRecursion HasNoNotice (map reset_late (map with_older ports))
 ports_older [] a = tt
-ports_older (p ∷ ports) a = (reset_quiet (with_older p) (older_quiet p a.0), ports_older ports a.1)
+ports_older (p ∷ ports) a = (grind arith, ports_older ports a.1)
 
 came_quiet : (input : NodeInput) (w : Work) → AllByRecursion IsOfHost w.ports → AllByRecursion HasNoNotice (has_come_so input w).ports
 came_quiet (AtEnd h i) w a = ports_come (AtEnd h i) w.ports a
@@ -279,8 +261,7 @@ came_quiet TimePasses w a = ports_older (all_come TimePasses w).ports (ports_com
 
 none_forgets : (all ports : List Port) → AllByRecursion HasNoNotice ports → map (forgets all) ports ≡ ports
 none_forgets all [] a = refl
-none_forgets all (p ∷ ports) a =
-    ap (λ q. q ∷ map (forgets all) ports) (forgets_same all p a.0) ∙ ap (λ l. p ∷ l) (none_forgets all ports a.1)
+none_forgets all (p ∷ ports) a = ap (λ q. q ∷ map (forgets all) ports) (rw a.0 refl) ∙ ap (λ l. p ∷ l) (none_forgets all ports a.1)
 
 none_asked : (p : Port) → HasNoNotice p → asked_at p ≡ None
 none_asked p a = rw a refl
@@ -360,10 +341,6 @@ module _ (n : ℕ) where
   pub before_first : (x : Entry) (es : List Entry) → is_turn_of n x ≡ false → before_turn n (x ∷ es) ≡ x ∷ before_turn n es
   before_first x es turn = grind arith
 
-  rest_is : (x : Entry) (es : List Entry) → is_turn_of n x ≡ false → NoAnswer x
-      → filter (is_answer_of n) (before_turn n (x ∷ es)) ≡ filter (is_answer_of n) (before_turn n es)
-  rest_is x es turn none = ap (filter (is_answer_of n)) (before_first x es turn) ∙ ap (both x es) none
-
   pub answer_is : (x : Entry) (es : List Entry) → is_turn_of n x ≡ false → is_answer_of n x ≡ true
       → filter (is_answer_of n) (before_turn n (x ∷ es)) ≡ x ∷ filter (is_answer_of n) (before_turn n es)
   answer_is x es turn answers = ap (filter (is_answer_of n)) (before_first x es turn) ∙ ap (both x es) answers
@@ -372,7 +349,7 @@ module _ (n : ℕ) where
   late_turn x es q = grind arith
 
   late_one : (x : Entry) (es : List Entry) → NoAnswer x → IsLate es → IsLate (x ∷ es)
-  late_one x es none late = by_test (is_turn_of n x) (λ q. late_turn x es q) (λ q. rest_is x es q none ∙ late)
+  late_one x es none late = by_test (is_turn_of n x) (λ q. late_turn x es q) (λ q. (grind arith) ∙ late)
 
   late_before : (front es : List Entry) → AllByRecursion NoAnswer front → IsLate es → IsLate (front ++ es)
   late_before [] es none late = late
@@ -391,7 +368,7 @@ module _ (n : ℕ) where
         let one : x ∷ filter (is_answer_of n) (before_turn n es) ≡ [] =
         sym (answer_is x es q z) ∙ late in
         absurd (cc one)
-    go false false q z later = late_one x (es ++ back) z (later (sym (rest_is x es q z) ∙ late))
+    go false false q z later = late_one x (es ++ back) z (later (sym (ap (filter (is_answer_of n)) (before_first x es q) ∙ ap (both x es) z) ∙ late))
 
   -- ### Passes
 

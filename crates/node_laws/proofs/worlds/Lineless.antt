@@ -1,9 +1,8 @@
 -- What is noted of an event tells of no frame that a line loses, but where a line loses one.
 use Rattle.node_laws.proofs.Words.{Activates, AllByRecursion, Arms, AsksReset, AtEnd, Boots, Comes, Controller, Cut, Deed, End, Entry, Gives, Happening, Host}
 use Rattle.node_laws.proofs.Words.{Inits, IsCut, Link, LinkInput, List, Loses, Lost, NextFrame, NoInput, NodeInput, NodeWorld, Noted, Report, Resets, Restarted}
-use Rattle.node_laws.proofs.Words.{Site, Starts, Takes, Ticks, TimePasses, TooMany, TooOld, Work, [], activates, aged_entries, all_aged, all_append, all_done}
-use Rattle.node_laws.proofs.Words.{all_flat, arith, arrival, beginning, begins_with, by_boot, by_coming, by_controller, by_controller_tick, by_host}
-use Rattle.node_laws.proofs.Words.{by_host_tick}
+use Rattle.node_laws.proofs.Words.{Site, Starts, Takes, Ticks, TimePasses, TooMany, TooOld, Work, [], activates, aged_entries, all_aged, all_append, all_flat}
+use Rattle.node_laws.proofs.Words.{arith, arrival, beginning, begins_with, by_boot, by_coming, by_controller, by_controller_tick, by_host, by_host_tick}
 use Rattle.node_laws.proofs.Words.{by_option, comes_at, comes_to, controller_begins, controller_does, controller_tick_begins, controller_ticks, controller_work}
 use Rattle.node_laws.proofs.Words.{end_c, end_h, ending_entries, ending_of, entries_for, exchanged, false, flat_map, frames_noted, host_does, host_tick}
 use Rattle.node_laws.proofs.Words.{host_ticks, host_work, hosts_tick, is_lost_by_line, link_to, near_tick, port_at, refl, sending, steps, told, told_of_coming}
@@ -71,10 +70,6 @@ step_lineless : (input : NodeInput) (w : Work) → AreLineless w.entries → Are
 step_lineless input w none =
     step_keeps IsLineless of_step AreLineless grown input w (grown w.entries (told_of_coming input w) (coming_lineless input w) none)
 
-deeds_lineless : (h : ℕ) (deeds : List Deed) (w : Work) → AllByRecursion (NotesOnly IsLineless) deeds → AreLineless w.entries
-    → AreLineless (all_done h deeds w).entries
-deeds_lineless h deeds w may none = deeds_keep IsLineless of_step AreLineless grown h deeds w may none
-
 -- ## Events of a world
 
 near_lineless : (w : NodeWorld) (k : ℕ) (comes : Comes) (i : LinkInput) → AreLineless (controller_does w k comes (steps (AtEnd k i))).1
@@ -107,7 +102,7 @@ begins_lineless w h deeds may =
     (λ s r found q.
     let v : Work = host_work s r NoInput (begins_with h deeds) in
     all_append IsLineless v.entries (frames_noted Host h (wires_for (exchanged s.link) NoInput) v)
-    (deeds_lineless h deeds (host_begins s r NoInput) may (arrival_lineless Host s.host (exchanged s.link) NoInput))
+    (deeds_keep IsLineless of_step AreLineless grown h deeds (host_begins s r NoInput) may (arrival_lineless Host s.host (exchanged s.link) NoInput))
     (frames_lineless Host h (wires_for (exchanged s.link) NoInput) v))
 
 activates_lineless : (w : NodeWorld) (h sync power : ℕ) → AreLineless (activates w h sync power).1

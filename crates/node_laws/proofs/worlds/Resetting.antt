@@ -24,12 +24,10 @@ use Rattle.node_laws.proofs.order.Upheld.{IsAskedIn, none_refused}
 use Rattle.node_laws.proofs.readings.Sites.{comes_outside, lost_quiet, near_end_side}
 use Rattle.node_laws.proofs.telling.Lasting.{occurs}
 use Rattle.node_laws.proofs.telling.Events.{hosts_same_of_nodes as hosts_same, link_is, site_host}
-use Rattle.node_laws.proofs.views.InitWorlds.{present}
 use Rattle.node_laws.proofs.views.Lines.{up_is}
 use Rattle.node_laws.proofs.worlds.Ages.{AgeIs, far_notifies, grown, more_notified, notified, otherwise, step_ages, still_notified}
-use Rattle.node_laws.proofs.worlds.Ticking.{NoNotices, any_append, at, beginning_none, begins_none, comes_none, far_near, far_number, far_other, far_reset}
-use Rattle.node_laws.proofs.worlds.Ticking.{far_tick, kept_notice, near_far, near_other, near_reset, off_tick, other_end_is, p, q, reset_is, sending_none}
-use Rattle.node_laws.proofs.worlds.Ticking.{tells_of_steps as tells}
+use Rattle.node_laws.proofs.worlds.Ticking.{NoNotices, any_append, at, beginning_none, begins_none, comes_none, far_number, far_other, far_reset, far_tick}
+use Rattle.node_laws.proofs.worlds.Ticking.{kept_notice, near_other, near_reset, off_tick, other_end_is, p, q, reset_is, sending_none, tells_of_steps as tells}
 use Rattle.trace_model.specs.declared.entry.Entry.TheVariants as entry
 use Rattle.trace_model.specs.declared.line.Line.TheVariants as line
 
@@ -88,7 +86,7 @@ module _ (past : List Occurrence) (w : NodeWorld) (k : IsReadBefore past w) (x :
       → tells is_own_reset (end_c x) (comes_at w (record { link = f; at_host = far }) (AsksReset window)).1
       ≡ is_reset_due past (occurs w (Resets (record { link = f; at_host = far }) window)) (end_c x)
   near_resets f true window free =
-      far_other is_own_reset (end_c x) w f (AsksReset window) (Reset window) k.orderly (λ h. far_near h x)
+      far_other is_own_reset (end_c x) w f (AsksReset window) (Reset window) k.orderly (λ h. (and-false (eqb h x)))
       ∙ sym (ap (λ b. b && is_some (session_now t (end_c x) 0)) (and-false (eqb f x)))
   near_resets f false window free =
       let parts = first_none (if_off w 0) (as_noted (reset_refusal (machine_in w (end_c f)))) free in
@@ -101,7 +99,7 @@ module _ (past : List Occurrence) (w : NodeWorld) (k : IsReadBefore past w) (x :
       → tells is_own_reset (end_h x) (comes_at w (record { link = f; at_host = far }) (AsksReset window)).1
       ≡ is_reset_due past (occurs w (Resets (record { link = f; at_host = far }) window)) (end_h x)
   far_resets f false window free =
-      near_other is_own_reset (end_h x) w f (AsksReset window) (Reset window) k.orderly (λ h. near_far h x)
+      near_other is_own_reset (end_h x) w f (AsksReset window) (Reset window) k.orderly (λ h. (and-false (eqb h x)))
       ∙ sym (ap (λ b. b && is_some (session_now t (end_h x) x)) (and-false (eqb f x)))
   far_resets f true window free = go (eqb f x) refl where
     M : NodeWorld × List Entry
@@ -128,7 +126,7 @@ module _ (past : List Occurrence) (w : NodeWorld) (k : IsReadBefore past w) (x :
         let there : site_at w.sites f ≡ Some s = ap (site_at w.sites) (eqb-true f x z) ∙ found in
         let zero : eqb f 0 ≡ false = ap (λ n. eqb n 0) (sym (site_host w.sites f s there)) ∙ far_number w f s k.orderly there in
         let runs : (r : Running) × (node_at w f ≡ Some r) = off_none (node_at w f) parts.0 in
-        far_reset w k.orderly f window x s found s runs.0 there (sym (present w f zero s there) ∙ runs.1)
+        far_reset w k.orderly f window x s found s runs.0 there (sym (rw (zero, there) refl) ∙ runs.1)
         (λ z. ap (λ (l : Link). reset_refusal l.host.side) (sym (linked f z)) ∙ none_refused (reset_refusal (machine_in w (end_h f))) parts.1)
         ∙ ap₂ (λ a b. a && b) (sym (and-true (eqb f x))) (sym (ap is_some (k.sessions x s found).host ∙ up_is s.link.host))
 
@@ -173,8 +171,7 @@ module _ (past : List Occurrence) (w : NodeWorld) (k : IsReadBefore past w) (x :
   near_is (Boots n) may = boots_none w (end_c x) n
   near_is (IsCut n) may = refl
   near_is (Gives e m) may = begins_none is_own_reset (end_c x) w e.link e.link (sending e.link m) (sending_none e.link m)
-  near_is (Inits e identity pipes) may =
-      begins_none is_own_reset (end_c x) w e.link e.link (beginning identity pipes) (beginning_none identity pipes)
+  near_is (Inits e identity pipes) may = begins_none is_own_reset (end_c x) w e.link e.link (beginning identity pipes) (beginning_none identity pipes)
   near_is (Takes e) may = comes_none is_own_reset (end_c x) w e NextFrame frames_none
   near_is (Loses e why) may = lost_none w (end_c x) e why
   near_is Ticks may = near_ticks
@@ -186,11 +183,10 @@ module _ (past : List Occurrence) (w : NodeWorld) (k : IsReadBefore past w) (x :
   far_is (Boots n) may = boots_none w (end_h x) n
   far_is (IsCut n) may = refl
   far_is (Gives e m) may = begins_none is_own_reset (end_h x) w e.link e.link (sending e.link m) (sending_none e.link m)
-  far_is (Inits e identity pipes) may =
-      begins_none is_own_reset (end_h x) w e.link e.link (beginning identity pipes) (beginning_none identity pipes)
+  far_is (Inits e identity pipes) may = begins_none is_own_reset (end_h x) w e.link e.link (beginning identity pipes) (beginning_none identity pipes)
   far_is (Takes e) may = comes_none is_own_reset (end_h x) w e NextFrame frames_none
   far_is (Loses e why) may = lost_none w (end_h x) e why
-  far_is Ticks may = far_tick w k.orderly (end_h x) (λ h. near_far h x) k.quiet
+  far_is Ticks may = far_tick w k.orderly (end_h x) (λ h. (and-false (eqb h x))) k.quiet
   far_is (Resets e window) may = far_resets e.link e.at_host window may
   far_is (Activates h sync power) may = activates_none w (end_h x) h sync power
   far_is (Arms n plan) may = refl
@@ -359,13 +355,10 @@ module _ (age : ℕ → ℕ) where
 
   boots_aged : (w : NodeWorld) (n : ℕ) → AreOld age w.controller → AreAged age (boots w n).1 (boots w n).0.controller
   boots_aged w n old =
-      by_boot (λ p. AreAged age p.1 p.0.controller) w n (cut_aged (boot_written w n) n still)
+      by_boot (λ p. AreAged age p.1 p.0.controller) w n (cut_aged (boot_written w n) n (memory_old w n _ old))
       (by_running (λ v. AreAged age (entry.Booted n (count_of (boot_found w n).core.journal) ∷ []) v.controller) n (boot_written w n) (boot_found w n)
       (λ z x m q. let none : None ≡ Some m = sym (none_noticed (Rattle.node_machine.specs.world.World.links_of w n) x) ∙ q in absurd (cc none))
-      (λ z. far_aged age (entry.Booted n (count_of (boot_found w n).core.journal) ∷ []) (boot_written w n).controller (z, tt) still))
-    where
-      still : AreOld age (boot_written w n).controller
-      still = memory_old w n _ old
+      (λ z. far_aged age (entry.Booted n (count_of (boot_found w n).core.journal) ∷ []) (boot_written w n).controller (z, tt) (memory_old w n _ old)))
 
 -- ### Ticks
 

@@ -1,11 +1,11 @@
 -- Behind steps, whatever happens, all messages at the ends of nodes that run have had their turns, or all before one that is held.
-use Rattle.node_laws.proofs.Words.{AllByRecursion, AreDifferent, AreNoTurns, AreNotOf, Bool, ComesTo, Controller, End, Entry, HasEnds, Host, IsBehind, IsNoTurn}
+use Rattle.node_laws.proofs.Words.{AllByRecursion, AreDifferent, AreNoTurns, AreNotOf, Bool, ComesTo, Controller, End, Entry, HasEnds, Host, IsBehind}
 use Rattle.node_laws.proofs.Words.{IsOutside, Link, LinkEnd, List, Message, NodeInput, NumberedEnd, Option, Plan, Port, Running, Site, Some, Stays, Work, []}
 use Rattle.node_laws.proofs.Words.{all_append, ap, append-nil, append_assoc, arith, by_list, by_option, by_test, comes_to_pass, cond, end_c, end_h}
 use Rattle.node_laws.proofs.Words.{ending_entries, ending_of, eqb, eqb-true, false, flat_map, fold-append, frames_noted, goes_through_ends, holds_in, hosts_in}
-use Rattle.node_laws.proofs.Words.{hosts_of_ends, inl, inr, is_done, is_held_at, is_none, is_of_node, link_to, map, node_of, not, oldest, or-true, own_side}
-use Rattle.node_laws.proofs.Words.{passes, port_at, refl, runs_in, runs_on, same_end, same_number, site_at, steps, subst, sym, true, true≢false}
-use Rattle.node_laws.proofs.Words.{unhandled_after, unhandled_in, waiting_at, work_of, ℕ, ◌++◌, ◌==◌, ◌||◌, ◌∙◌, ◌∷◌, ◌≡◌}
+use Rattle.node_laws.proofs.Words.{hosts_of_ends, inl, inr, is_done, is_held_at, is_none, link_to, map, node_of, not, oldest, or-true, own_side, passes}
+use Rattle.node_laws.proofs.Words.{port_at, refl, runs_in, runs_on, same_end, same_number, site_at, steps, subst, sym, true, true≢false, unhandled_after}
+use Rattle.node_laws.proofs.Words.{unhandled_in, waiting_at, work_of, ℕ, ◌++◌, ◌==◌, ◌||◌, ◌∙◌, ◌∷◌, ◌≡◌}
 use Rattle.link_laws.specs.entries.Entries.{End as Side}
 use Rattle.node_laws.specs.passes.Passing.ComesTo.{Begins}
 use Rattle.node_laws.proofs.passes.InSteps.{before_hosts, steps_are}
@@ -13,12 +13,10 @@ use Rattle.node_laws.proofs.passes.Passing.{comes_lasts, leaves_behind, through}
 use Rattle.node_laws.proofs.power.Steps.{AreOwn, Fine, Runs, steps_fine}
 use Rattle.node_laws.proofs.power.Events.{far_runs, near_runs}
 use Rattle.node_laws.proofs.reply_passes.Ordered.{begun_at, goes_read, mine, ms, port_begins, runs_comes, there_still}
-use Rattle.node_laws.proofs.reply_passes.Held.{AreNoBoots, IsNoBoot, begun_side, desks_held, ended_read_at, host_side, is_held_among, is_host_side}
-use Rattle.node_laws.proofs.reply_passes.Held.{notes_unbooted, ports_held}
+use Rattle.node_laws.proofs.reply_passes.Held.{AreNoBoots, begun_side, desks_held, ended_read_at, is_held_among, is_host_side, notes_unbooted, ports_held}
 use Rattle.node_laws.proofs.telling.Events.{hosts_same_of_nodes as hosts_same}
 use Rattle.node_laws.proofs.telling.Accounts.{AreUncut}
-use Rattle.node_laws.proofs.turns.Passing.{AreStill, Goes, Known, doing, goes-append, still_goes}
-use Rattle.node_laws.proofs.turns.Passing.Doing.{Nothing}
+use Rattle.node_laws.proofs.turns.Passing.{AreStill, Goes, Known, goes-append, still_goes}
 use Rattle.node_laws.proofs.turns.Nodes.{frames_still}
 use Rattle.node_laws.proofs.worlds.FramesLast.{frames_turnless}
 use Rattle.trace_model.specs.declared.entry.Entry.TheVariants as entry
@@ -54,19 +52,13 @@ module _ (e : End) where
   pub other_end : (f : End) → (node_of f == node_of e) ≡ false → same_end f e ≡ false
   other_end f off = grind arith
 
-  idle_other : (x : Entry) → is_of_node (node_of e) x ≡ false → IsIdle e x
-  idle_other x off = grind arith
-
   pub others_idle : (es : List Entry) → AreNotOf (node_of e) es → AreIdle e es
   others_idle [] a = tt
-  others_idle (x ∷ es) a = (idle_other x a.0, others_idle es a.1)
-
-  idle_quiet : (x : Entry) → doing e x ≡ Nothing → IsNoTurn x → IsNoBoot x → IsIdle e x
-  idle_quiet x still turn boot = grind arith
+  others_idle (x ∷ es) a = (grind arith, others_idle es a.1)
 
   pub quiet_idle : (es : List Entry) → AreStill e es → AreNoTurns es → AreNoBoots es → AreIdle e es
   quiet_idle [] a b c = tt
-  quiet_idle (x ∷ es) a b c = (idle_quiet x a.0 b.0 c.0, quiet_idle es a.1 b.1 c.1)
+  quiet_idle (x ∷ es) a b c = (grind arith, quiet_idle es a.1 b.1 c.1)
 
   pub idle_unhandled : (s : List Entry) (x : Entry) → IsIdle e x → unhandled_in (s ++ x ∷ []) e ≡ unhandled_in s e
   idle_unhandled s (entry.Got f n pid message) idle =
@@ -80,12 +72,9 @@ module _ (e : End) where
   idle_unhandled s x idle = fold-append (unhandled_after e) [] s (x ∷ [])
 
   idle_holds : (s : List Entry) (x : Entry) → IsIdle e x → holds_in (s ++ x ∷ []) e ≡ holds_in s e
-  idle_holds s (entry.Held f need spare) idle =
-      fold-append _ false s (entry.Held f need spare ∷ []) ∙ ap (λ b. cond b true (holds_in s e)) idle
-  idle_holds s (entry.Turn f pid message) idle =
-      fold-append _ false s (entry.Turn f pid message ∷ []) ∙ ap (λ b. cond b false (holds_in s e)) idle
-  idle_holds s (entry.Booted n k) idle =
-      fold-append _ false s (entry.Booted n k ∷ []) ∙ ap (λ b. cond b false (holds_in s e)) idle
+  idle_holds s (entry.Held f need spare) idle = fold-append _ false s (entry.Held f need spare ∷ []) ∙ ap (λ b. cond b true (holds_in s e)) idle
+  idle_holds s (entry.Turn f pid message) idle = fold-append _ false s (entry.Turn f pid message ∷ []) ∙ ap (λ b. cond b false (holds_in s e)) idle
+  idle_holds s (entry.Booted n k) idle = fold-append _ false s (entry.Booted n k ∷ []) ∙ ap (λ b. cond b false (holds_in s e)) idle
   idle_holds s x idle = fold-append _ false s (x ∷ [])
 
   -- an end that runs behind it ran before
@@ -111,8 +100,7 @@ module _ (e : End) where
 
   pub idle_held : (s es : List Entry) → AreIdle e es → holds_in (s ++ es) e ≡ holds_in s e
   idle_held s [] idle = ap (λ l. holds_in l e) (append-nil s)
-  idle_held s (x ∷ es) idle =
-      ap (λ l. holds_in l e) (sym (append_assoc s (x ∷ []) es)) ∙ (idle_held (s ++ x ∷ []) es idle.1 ∙ idle_holds s x idle.0)
+  idle_held s (x ∷ es) idle = ap (λ l. holds_in l e) (sym (append_assoc s (x ∷ []) es)) ∙ (idle_held (s ++ x ∷ []) es idle.1 ∙ idle_holds s x idle.0)
 
 -- behind its cut a node doesn't run
 pub cut_off : (n : ℕ) (s : List Entry) → runs_in (s ++ entry.Cut n ∷ []) n ≡ false
@@ -225,12 +213,9 @@ pub flat_idle : (e : End) (f : Site → List Entry) → ((s : Site) → AreIdle 
 flat_idle e f one [] = tt
 flat_idle e f one (s ∷ sites) = all_append (IsIdle e) (f s) (flat_map f sites) (one s) (flat_idle e f one sites)
 
-idle_still_one : (e : End) (x : Entry) → IsIdle e x → doing e x ≡ Nothing
-idle_still_one e x idle = grind arith
-
 pub idle_still : (e : End) (es : List Entry) → AreIdle e es → AreStill e es
 idle_still e [] idle = tt
-idle_still e (x ∷ es) idle = (idle_still_one e x idle.0, idle_still e es idle.1)
+idle_still e (x ∷ es) idle = (grind arith, idle_still e es idle.1)
 
 -- ### Sites
 
@@ -318,7 +303,7 @@ module _ (t : List Entry) (s : Site) (a : SiteWaits t s) (r : Running) (runs : s
   from_hosts = hosts_same near_ends r.desks ∙ has.ends
 
   from_side : own_side from.core ≡ Host
-  from_side = host_side s.host r.core has.number off
+  from_side = grind arith
 
   its_port : (ports : List Port) → hosts_of_ends ports ≡ s.host ∷ [] → (p : Port) × (port_at ports s.host ≡ Some p)
   its_port [] q = absurd (cc q)

@@ -3,16 +3,16 @@ use Rattle.node_laws.proofs.Words.{Activates, AllByRecursion, AreAlong, AreDiffe
 use Rattle.node_laws.proofs.Words.{AsksReset, AtEachOccurrence, AtEnd, BeginWithTurn, BeginsPass, Bool, Boots, Comes, Controller, Cut, Emit, End, Entry}
 use Rattle.node_laws.proofs.Words.{FollowsNodes, Gives, Happening, HasEnds, Header, Host, Inits, IsAscending, IsCut, IsFew, IsNoTurn, IsNodeHeader, IsNodeOf}
 use Rattle.node_laws.proofs.Words.{IsOrderly, IsSentByHost, KeepsBetween, Line, Link, LinkInput, List, Loses, Lost, NextFrame, NodeHistory, NodeInput}
-use Rattle.node_laws.proofs.Words.{NodeWorld, None, Noted, Occurrence, ReadsInStep, Reckoning, Reset, Resets, Running, Site, Some, Start, Starts, Take, Takes}
-use Rattle.node_laws.proofs.Words.{Ticks, TimePasses, Took, Work, [], after_near_tick, all_aged, all_append, all_flat, ap, append-nil, append_assoc, arith}
-use Rattle.node_laws.proofs.Words.{arrival, as_it_ticks, as_left, begun_by, by_coming, by_host, by_list, by_option, by_test, comes_at, comes_to, comes_to_pass}
-use Rattle.node_laws.proofs.Words.{commands_by_events, cond, controller_begins, controller_does, controller_ticks, end_c, end_h, end_of, ending_entries}
-use Rattle.node_laws.proofs.Words.{ending_of, entries_for, entries_in, eq-eqb, exchanged, false, flat_map, fold, fold-append, frames_noted, host_work}
-use Rattle.node_laws.proofs.Words.{hosts_tick, inl, input_of, inr, is_later, is_left_short, is_of_node, is_some, lack_at, le-ltb, length, link_of_turn, link_to}
-use Rattle.node_laws.proofs.Words.{links_of_turns, lt-ltb, makes_step, nat_lt, near_end_in, near_tick, new_book, new_memory, new_world, node_at, node_entries}
-use Rattle.node_laws.proofs.Words.{node_of, not, noted_before_pass, occurrences_in, passes, port_at, reckoned, reckoning_of, refl, replicate, runs_in}
-use Rattle.node_laws.proofs.Words.{seen_from, steps, subst, sym, take_while, take_while-cons, through, true, true≢false, turn_link, unhandled_in, wires_for}
-use Rattle.node_laws.proofs.Words.{with_event, world_behind, world_step, ℕ, ◌&&◌, ◌++◌, ◌<◌, ◌==◌, ◌||◌, ◌∙◌, ◌∷◌, ◌≡◌, ◌≤◌, ◌⊎◌}
+use Rattle.node_laws.proofs.Words.{NodeWorld, None, Noted, Occurrence, ReadsInStep, Reckoning, Reset, Resets, Site, Some, Start, Starts, Take, Takes, Ticks}
+use Rattle.node_laws.proofs.Words.{TimePasses, Took, Work, [], all_aged, all_append, all_flat, ap, append-nil, append_assoc, arith, arrival, as_it_ticks}
+use Rattle.node_laws.proofs.Words.{as_left, begun_by, by_coming, by_host, by_list, by_option, by_test, comes_at, comes_to, comes_to_pass, commands_by_events}
+use Rattle.node_laws.proofs.Words.{cond, controller_begins, controller_does, controller_ticks, end_c, end_h, end_of, ending_entries, ending_of, entries_for}
+use Rattle.node_laws.proofs.Words.{entries_in, eq-eqb, exchanged, false, flat_map, fold, fold-append, frames_noted, host_work, hosts_tick, inl, input_of, inr}
+use Rattle.node_laws.proofs.Words.{is_later, is_left_short, is_some, lack_at, length, link_of_turn, link_to, links_of_turns, lt-ltb, makes_step, nat_lt}
+use Rattle.node_laws.proofs.Words.{near_end_in, near_tick, new_book, new_memory, new_world, node_at, node_entries, node_of, not, noted_before_pass}
+use Rattle.node_laws.proofs.Words.{occurrences_in, passes, port_at, reckoned, reckoning_of, refl, replicate, runs_in, seen_from, steps, subst, sym, take_while}
+use Rattle.node_laws.proofs.Words.{take_while-cons, through, true, true≢false, unhandled_in, wires_for, with_event, world_behind, world_step, ℕ, ◌&&◌, ◌++◌}
+use Rattle.node_laws.proofs.Words.{◌<◌, ◌==◌, ◌∙◌, ◌∷◌, ◌≡◌, ◌≤◌, ◌⊎◌}
 use Rattle.link_laws.specs.entries.Entries.{End as Side}
 use Rattle.node_laws.proofs.creations.Events.{aged_good, far_beside, near_good}
 use Rattle.node_laws.proofs.cuts.Histories.{known}
@@ -91,20 +91,14 @@ module _ (k : ℕ) where
   far_end : (f : End) → cond (node_of f == 0) (Some f.link) None ≡ None → (not f.at_host && nat_lt k f.link) ≡ false
   far_end f none = grind arith
 
-  not_later : (x : Entry) → turn_link 0 x ≡ None → is_later (end_c k) x ≡ false
-  not_later x none = grind arith
-
   none_later : (es : List Entry) → NoneThere es → NotLater es
   none_later [] a = tt
-  none_later (x ∷ es) a = (not_later x a.0, none_later es a.1)
-
-  not_above : (f : End) → f.link ≤ k → (not f.at_host && nat_lt k f.link) ≡ false
-  not_above f low = by_test (not f.at_host) (λ q. rw q (le-ltb k f.link low)) (λ q. rw q refl)
+  none_later (x ∷ es) a = (grind arith, none_later es a.1)
 
   low_later : (es : List Entry) → AllByRecursion (λ l. l ≤ k) (links_of_turns es) → NotLater es
   low_later [] a = tt
-  low_later (entry.Turn f pid message ∷ es) a = (not_above f a.0, low_later es a.1)
-  low_later (entry.Held f need spare ∷ es) a = (not_above f a.0, low_later es a.1)
+  low_later (entry.Turn f pid message ∷ es) a = (grind arith, low_later es a.1)
+  low_later (entry.Held f need spare ∷ es) a = (grind arith, low_later es a.1)
   low_later (_ ∷ es) a = (refl, low_later es a)
 
   above : (f : End) → f.at_host ≡ false → k < f.link → (not f.at_host && nat_lt k f.link) ≡ true
@@ -255,14 +249,11 @@ module _ (n : ℕ) where
   run_all s [] r q = q ∙ ap (λ l. runs_in l n) (sym (append-nil s))
   run_all s (x ∷ es) r q = run_all (s ++ x ∷ []) es (reckoned n r x) (run_one s r x q) ∙ ap (λ l. runs_in l n) (append_assoc s (x ∷ []) es)
 
-  begun_runs : (c : Happening) (r : Reckoning) → (begun_by n c r).runs ≡ r.runs
-  begun_runs c r = grind arith
-
   run_events : (s : List Entry) (events : List Occurrence) (r : Reckoning) → r.runs ≡ runs_in s n
       → (fold (with_event n) r events).runs ≡ runs_in (s ++ entries_in events) n
   run_events s [] r q = q ∙ ap (λ l. runs_in l n) (sym (append-nil s))
   run_events s (o ∷ events) r q =
-      run_events (s ++ o.entries) events (with_event n r o) (run_all s o.entries (begun_by n o.cause r) (begun_runs o.cause r ∙ q))
+      run_events (s ++ o.entries) events (with_event n r o) (run_all s o.entries (begun_by n o.cause r) ((grind arith) ∙ q))
       ∙ ap (λ l. runs_in l n) (append_assoc s o.entries (entries_in events))
 
   -- a node that doesn't run is read so
@@ -303,12 +294,9 @@ frames_calm f v sites = record {
 far_side : (f : End) → (node_of f == 0) ≡ false → f.at_host ≡ true
 far_side f off = grind arith
 
-other_unheard : (x : Entry) → is_of_node 0 x ≡ false → IsUnheard x
-other_unheard x off = grind arith
-
 others_unheard : (es : List Entry) → AreNotOf 0 es → AllByRecursion IsUnheard es
 others_unheard [] a = tt
-others_unheard (x ∷ es) a = (other_unheard x a.0, others_unheard es a.1)
+others_unheard (x ∷ es) a = (grind arith, others_unheard es a.1)
 
 -- what a host notes as something comes to its end leaves REC_ERROR of the controller's ends
 coming_leaves : (w : NodeWorld) (a : IsOrderly w) (h : ℕ) (comes : Comes) (k : ℕ) → AllByRecursion (Leaves (end_c k)) (comes_at w (end_h h) comes).1
@@ -405,12 +393,9 @@ module _ (header : Header) (lines : List Line) (t : NodeHistory) (follows : Foll
   still : (c : Happening) (es : List Entry) → makes_step 0 c ≡ false → Short c es
   still c es q = short_still hosts past (record { cause = c; entries = es }) (end_c k) q
 
-  elsewhere : (e : End) → (e.link == 0) ≡ false → e.at_host ≡ true → (node_of e == 0) ≡ false
-  elsewhere e zero far = let is : node_of e ≡ e.link = rw far refl in ap (λ n. n == 0) is ∙ zero
-
   takes_short : (e : End) → MayStep w (Takes e) → Short (Takes e) (world_step w (Takes e)).1
   takes_short e may = by_test e.at_host
-      (λ q. still (Takes e) (world_step w (Takes e)).1 (elsewhere e may.0 q))
+      (λ q. still (Takes e) (world_step w (Takes e)).1 (grind arith))
       (λ q. by_wire q (link_to w.sites e.link).to_controller refl) where
         by_wire : e.at_host ≡ false → (xs : List _) → (link_to w.sites e.link).to_controller ≡ xs → Short (Takes e) (comes_at w e NextFrame).1
         by_wire near [] q =
@@ -424,7 +409,7 @@ module _ (header : Header) (lines : List Line) (t : NodeHistory) (follows : Foll
 
   resets_short : (e : End) (window : _) → MayStep w (Resets e window) → Short (Resets e window) (world_step w (Resets e window)).1
   resets_short e window may = by_test e.at_host
-      (λ q. still (Resets e window) (world_step w (Resets e window)).1 (elsewhere e may q))
+      (λ q. still (Resets e window) (world_step w (Resets e window)).1 (grind arith))
       (λ q. coming_short (Resets e window) e (AsksReset window) (Reset window) q refl)
 
   activates_short : (h sync power : ℕ) → Short (Activates h sync power) (world_step w (Activates h sync power)).1
@@ -450,7 +435,7 @@ module _ (header : Header) (lines : List Line) (t : NodeHistory) (follows : Foll
       (λ r q. let v : Work = near_tick old r in
       let frames : List Entry = flat_map (λ (s : Site). frames_noted Controller s.host s.link v) old.sites in
       let has : HasEnds 0 _ r = near_node w r a q in
-      subst (λ es. Short Ticks ((all_aged w).1 ++ (es ++ far))) (sym (on_of old r q))
+      subst (λ es. Short Ticks ((all_aged w).1 ++ (es ++ far))) (sym (rw q refl))
       (subst (λ es. Short Ticks ((all_aged w).1 ++ es)) (sym (append_assoc v.entries frames far))
       (step_short hosts are up past Ticks (all_aged w).1 (frames ++ far) TimePasses (as_it_ticks w r)
       (near_runs r w.memory.plan (λ h. (link_to old.sites h).controller) [] has.number tt tt) (turnless_there 0 (all_aged w).1 (aged_turnless w.sites)) tt
@@ -458,8 +443,7 @@ module _ (header : Header) (lines : List Line) (t : NodeHistory) (follows : Foll
       (calm_both frames far (frames_calm (λ s. s.link) v old.sites) calm)
       (λ on.
       let known = tick_known header lines t follows are playable sent few past back parts w refl r q on in
-      let begins = tick_begins header lines t follows are seven sent few past back parts asked playable w refl r q in
-      (known.0, known.1, begins))
+      (known.0, known.1, (tick_begins header lines t follows are seven sent few past back parts asked playable w refl r q)))
       earlier k later at off
       (all_append _ frames far
       (flat_idle (end_c k) (λ (s : Site). frames_noted Controller s.host s.link v) (λ s. frames_idle (end_c k) Controller s.host s.link v) old.sites)
@@ -487,9 +471,6 @@ module _ (header : Header) (lines : List Line) (t : NodeHistory) (follows : Foll
 
         off_of : (v : NodeWorld) → v.controller ≡ None → (controller_ticks v).1 ≡ []
         off_of v q = rw q refl
-
-        on_of : (v : NodeWorld) (r : Running) → v.controller ≡ Some r → (controller_ticks v).1 ≡ (after_near_tick v (near_tick v r)).1
-        on_of v r q = rw q refl
 
   event_short : (c : Happening) → MayStep w c → Short c (world_step w c).1
   event_short (Boots n) may = still (Boots n) (world_step w (Boots n)).1 refl

@@ -25,7 +25,7 @@ use Rattle.node_laws.proofs.readings.Sites.{arrival_quiet, ending_quiet}
 use Rattle.node_laws.proofs.telling.Ticks.{wires_all}
 use Rattle.node_laws.proofs.telling.Events.{Stands, hosts_same_of_nodes as hosts_same, ports_for, site_host, site_is, stands}
 use Rattle.node_laws.proofs.telling.WorldTicks.{ticked_orderly}
-use Rattle.node_laws.proofs.worlds.Ages.{otherwise, reset_asked, reset_only, ticked_asked}
+use Rattle.node_laws.proofs.worlds.Ages.{otherwise, reset_asked, ticked_asked}
 use Rattle.trace_model.specs.declared.entry.Entry.TheVariants as entry
 
 -- ## Which sessions end in what a node notes in a step: only what comes to its ends, and late notices, tell of that
@@ -139,12 +139,6 @@ near_same h x = and-true (eqb h x)
 far_same : (h x : ℕ) → same_end (end_of h Host) (end_h x) ≡ eqb h x
 far_same h x = and-true (eqb h x)
 
-pub near_far : (h x : ℕ) → same_end (end_of h Controller) (end_h x) ≡ false
-near_far h x = and-false (eqb h x)
-
-pub far_near : (h x : ℕ) → same_end (end_of h Host) (end_c x) ≡ false
-far_near h x = and-false (eqb h x)
-
 -- an end as a tick has come to it
 abbrev pub ticked : Port → Port
 ticked p = with_older (has_come p (Some Tick))
@@ -157,8 +151,7 @@ module _ (test : EndedBy → Bool) (e : End) where
 
   flat_none : (f : Port → List Entry) → ((p : Port) → tells (f p) ≡ false) → (ports : List Port) → tells (flat_map f ports) ≡ false
   flat_none f one [] = refl
-  flat_none f one (p ∷ ports) =
-      any_append test e (f p) (flat_map f ports) ∙ (ap (λ b. b || tells (flat_map f ports)) (one p) ∙ flat_none f one ports)
+  flat_none f one (p ∷ ports) = any_append test e (f p) (flat_map f ports) ∙ (ap (λ b. b || tells (flat_map f ports)) (one p) ∙ flat_none f one ports)
 
   late_one : (core : Core) (p : Port) → tells (told_late core p) ≡ (is_late p && tells (told_at core p (Some (Reset None))))
   late_one core p = by_test (is_late p) (λ q. rw q refl) (λ q. rw q refl)
@@ -452,10 +445,8 @@ module _ (test : EndedBy → Bool) (e : End) where
       ∙ (any_front test e w.entries (told_of_coming TimePasses w) quiet
       ∙ (any_append test e (flat_map (λ p. told_at w.core p (Some Tick)) w.ports) (told_of_late TimePasses (all_come TimePasses w))
       ∙ ap₂ (λ x y. x || y)
-      (flat_none test e (λ p. told_at w.core p (Some Tick)) (λ p. at_any test e w.core p (Some Tick) ∙ one p) w.ports)
-      (late_none w.core w.ports a))) where
-        one : (p : Port) → (same_end (end_of p.desk.host (own_side w.core)) e && ends_by test e p (Some Tick)) ≡ false
-        one p = ap (λ b. same_end (end_of p.desk.host (own_side w.core)) e && b) (none p) ∙ and-false (same_end (end_of p.desk.host (own_side w.core)) e)
+      (flat_none test e (λ p. told_at w.core p (Some Tick)) (λ p. at_any test e w.core p (Some Tick) ∙ (grind arith)) w.ports)
+      (late_none w.core w.ports a)))
 
 host_own : (e : End) (s : Site) → IfNoNotices s.node → tells_of_steps is_own_reset e (host_ticks s).1 ≡ false
 host_own e s quiet =
@@ -501,8 +492,7 @@ module _ (w : NodeWorld) (a : IsOrderly w) where
       ∙ or-false (tells_of_steps test (end_c x) (controller_ticks old).1)))
 
   near_frames : (v : Work) → AreDownless (flat_map (λ (s : Site). frames_noted Controller s.host s.link v) old.sites)
-  near_frames v =
-      flat_downless (λ (s : Site). frames_noted Controller s.host s.link v) (λ s. frames_downless Controller s.host s.link v) old.sites
+  near_frames v = flat_downless (λ (s : Site). frames_noted Controller s.host s.link v) (λ s. frames_downless Controller s.host s.link v) old.sites
 
   -- no host's end is reset
   pub far_tick : (e : End) → ((h : ℕ) → same_end (end_of h Controller) e ≡ false) → NoNotices w.sites → tells_of_steps is_own_reset e (world_ticks w).1 ≡ false
@@ -602,7 +592,7 @@ module _ (w : NodeWorld) (a : IsOrderly w) where
             go false z = refl
             go true z =
                 let parts = and_parts (option_map_or (λ (n : Notice). nat_le 100 n.age) q.desk.notice false) (not q.ended) z in
-                reset_only q.side None
+                (grind arith)
                 ∙ reset_ends q.side come.shut (come.up (ap (λ b. b || false) (not_of q.ended parts.1)) (grind arith))
 
       -- and otherwise where it has ended as the tick came

@@ -98,8 +98,7 @@ abbrev pub cut_in_second_write_5A_lines : List Line
 cut_in_second_write_5A_lines = command_cut 2 90
 
 abbrev pub pipes_closed_by_a_cut_lines : List Line
-pipes_closed_by_a_cut_lines =
-    first_pipe ++ sends 2 1 (2 ∷ 1 ∷ []) ++ line.Cut 0 ∷ line.Boot 0 ∷ activates 2 6699 ++ exchanges 2 1 (2 ∷ 1 ∷ [])
+pipes_closed_by_a_cut_lines = first_pipe ++ sends 2 1 (2 ∷ 1 ∷ []) ++ line.Cut 0 ∷ line.Boot 0 ∷ activates 2 6699 ++ exchanges 2 1 (2 ∷ 1 ∷ [])
 
 -- ## Of more hosts
 

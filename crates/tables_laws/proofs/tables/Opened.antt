@@ -58,8 +58,7 @@ static_step statics h p true host pid e =
         | inr back ↦ inl (filtered_any (is_static host pid) (λ s. ltb place (static_place s)) statics back)
       ]
     ]
-static_step statics h p false host pid e =
-    inl (filtered_any (is_static host pid) (λ s. not (eqb (static_place s) (static_place (h, p)))) statics e)
+static_step statics h p false host pid e = inl (filtered_any (is_static host pid) (λ s. not (eqb (static_place s) (static_place (h, p)))) statics e)
 
 nothing_of : (rows : List PipeRow) → AllByRecursion (λ _. Unit {0}) rows
 nothing_of [] = tt

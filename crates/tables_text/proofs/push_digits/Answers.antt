@@ -3,8 +3,7 @@ use Rattle.tables_text.proofs.TextLemmas.{encode-none, digits_more}
 use Rattle.tables_text.proofs.push_digits.Goals as goal
 
 pub loop-byte-init : goal.loop-byte-init
-loop-byte-init c =
-    (sym (ap (λ digits. c.args.line.now.items ++ digits) encode-none ∙ append-nil c.args.line.now.items), c.requires.start)
+loop-byte-init c = (sym (ap (λ digits. c.args.line.now.items ++ digits) encode-none ∙ append-nil c.args.line.now.items), c.requires.start)
 
 pub loop-byte-preserved : goal.loop-byte-preserved
 loop-byte-preserved c = (

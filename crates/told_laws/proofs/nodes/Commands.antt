@@ -37,7 +37,7 @@ among_few : (n : ℕ) (acts : List ActDue) (cs : List Control) → length (among
 among_few n [] cs = omega arith
 among_few n (a ∷ acts) cs =
     let long = length-append (take (a.behind - n) cs) (ActFrame a.frame false ∷ among a.behind acts (drop (a.behind - n) cs)) in
-    omega (arith, (among_few a.behind acts (drop (a.behind - n) cs)), (split_few (a.behind - n) cs), long)
+    omega (arith, among_few a.behind acts (drop (a.behind - n) cs), split_few (a.behind - n) cs, long)
 
 out_few : (e : LinkEnd) → length (frames_out e) ≤ 12 + length e.acts
 out_few e =
@@ -66,7 +66,7 @@ activated_acts : (e : LinkEnd) (event : ActEvent) → length (activated e event)
 activated_acts e event =
     let more =
     act_acts (act_answer e.role event).send (record (put_down (act_answer e.role event).ended_link e) { role = role_after e.role event }) in
-    omega (arith, (down_acts e (act_answer e.role event).ended_link), more)
+    omega (arith, down_acts e (act_answer e.role event).ended_link, more)
 
 heard_acts : (e : LinkEnd) (c : Control) → length (heard e c).acts ≤ length e.acts
 heard_acts e c =
@@ -98,9 +98,9 @@ input_acts b e (Reset window) is =
     (moved_acts e (is_some (if_up e.shdlc Asked)) (reset_with e.shdlc (window_of e window))) in
     omega (arith, few)
 input_acts b e (Start value) is =
-    let more = activated_acts (moved e true (stopped e.shdlc)) (ActStart value) in omega (arith, (moved_acts e true (stopped e.shdlc)), more)
+    let more = activated_acts (moved e true (stopped e.shdlc)) (ActStart value) in omega (arith, moved_acts e true (stopped e.shdlc), more)
 input_acts b e Stop is =
-    let more = activated_acts (moved e true (stopped e.shdlc)) ActStop in omega (arith, (moved_acts e true (stopped e.shdlc)), more)
+    let more = activated_acts (moved e true (stopped e.shdlc)) ActStop in omega (arith, moved_acts e true (stopped e.shdlc), more)
 input_acts b e _ is = absurd is
 
 turn_acts : (e : LinkEnd) (t : Turn) → length (turn e t).acts ≤ length e.acts
@@ -133,8 +133,7 @@ rests_more : (b : Bool) (n k : ℕ) (e : LinkEnd) → n ≤ k → RestsIn b n e 
 rests_more b n k e more is = record { side = side_more b n k e more is.side; calm = is.calm }
 
 pub link_in_more : (b c : Bool) (n k : ℕ) (l : Link) → n ≤ k → LinkIn b c n l → LinkIn b c k l
-link_in_more b c n k l more h =
-    so_more IsLineFrame n k l more (rests_more b n k l.controller.side more) (rests_more c n k l.host.side more) h
+link_in_more b c n k l more h = so_more IsLineFrame n k l more (rests_more b n k l.controller.side more) (rests_more c n k l.host.side more) h
 
 but : (b c : Bool) (n : ℕ) (l : Link) → LinkIn b c n l → AllBut c n n l
 but b c n l h = so_more IsLineFrame n n l (omega arith) (λ s. tt) (λ s. s) h
@@ -149,7 +148,7 @@ finish_in b c n l e ending is few h = by ending (so_more IsLineFrame n n l (omeg
   where
     by : (ending : Ending) → AllBut c (n + 13) n l → LinkIn b c (n + 13) (finished l e ending)
     by GoesOut up =
-        so_becomes IsLineFrame n (n + 13) l e (out_in b (n + 8) e is) (omega (arith, (out_few e), few))
+        so_becomes IsLineFrame n (n + 13) l e (out_in b (n + 8) e is) (omega (arith, out_few e, few))
         (record { side = side_more b (n + 8) (n + 13) (sent_all e) (omega arith) (side_sent b (n + 8) e is); calm = refl }) up
     by CutOff up = grind arith
 
@@ -165,7 +164,7 @@ module _ (b c : Bool) (n : ℕ) where
   acts_after : (l : Link) (i : LinkInput) (ts : List Turn) → IsInputIn b i → LinkIn b c n l → length (turned (after_input l.controller.side i) ts).acts ≤ 1
   acts_after l i ts is h =
       let one = input_acts b l.controller.side i is in
-      let later = turned_acts ts (after_input l.controller.side i) in omega (arith, (ap length h.near.side.calm), one, later)
+      let later = turned_acts ts (after_input l.controller.side i) in omega (arith, ap length h.near.side.calm, one, later)
 
   side_after : (l : Link) (i : LinkInput) (ts : List Turn) → IsInputIn b i → AreTurnsIn ts → LinkIn b c n l
       → SideIn b (n + 8) (turned (after_input l.controller.side i) ts)
@@ -400,9 +399,6 @@ rows_applied _ t is h = AreRows-filter pid_of 2 112 _ t.rows h
 
 -- ### What is read of a node
 
-none_in : AreTablesIn no_tables
-none_in = record { pipes = tt; statics = tt; values = tt; syncs = tt }
-
 abbrev IsKeptCommand : Command → Type 0
 IsKeptCommand c = IsSaidCommand c × IsShortCommand c
 
@@ -428,7 +424,7 @@ book_next n k b (entry.Command node c) is h =
 book_next n k b (entry.Booted node m) is h =
     cond_both (node == k) (with_found m b) b IsBookIn
     (λ _. let some = AllByRecursion-take IsKeptCommand m b.commands h.commands in
-    let t = after_in (take m b.commands) no_tables some none_in in
+    let t = after_in (take m b.commands) no_tables some (grind arith) in
     record { commands = some; tables = record { pipes = closed_in _ t.pipes; statics = tt; values = t.values; syncs = t.syncs } }) (λ _. h)
 book_next n k b _ is h = h
 
@@ -438,13 +434,13 @@ books_in n k (x ∷ t) b is h = books_in n k t (book_after k b x) is.1 (book_nex
 
 -- the tables that are read of entries in their ranges
 pub tables_read_in : (n k : ℕ) (t : List Entry) → AreIn n t → AreTablesIn (tables_in t k)
-tables_read_in n k t is = (books_in n k t new_book is (record { commands = tt; tables = none_in })).tables
+tables_read_in n k t is = (books_in n k t new_book is (record { commands = tt; tables = grind arith })).tables
 
 -- a value that is read of tables
 pub value_read_in : (values : List RegValue) (host gate param : ℕ) → AllByRecursion IsValueIn values
     → AreBytes (value_at values host gate param) × (length (value_at values host gate param) ≤ 4095)
 value_read_in values host gate param h = by_option (row_of place_of_value (value_place host param) values)
-    (λ q. rw q ((grind arith), (grind arith)))
+    (λ q. rw q (grind arith, grind arith))
     (λ v q. rw q (let is = found_in IsValueIn _ values v h q in (all_each IsByte v.value.items is.0.3, is.1)))
 
 -- a command that may be recorded makes a pipe between 02 and 6F

@@ -1,16 +1,16 @@
 -- A world of nodes, whatever happens to it, stays in its range, and so does what is noted of it.
 use Rattle.told_laws.proofs.Words.{Activates, AllByRecursion, ArePipeRows, Arms, AsksReset, AtEnd, Bare, Bool, Boots, Broken, Comes, Controller, CutOff, Deed}
 use Rattle.told_laws.proofs.Words.{Desk, End, Ending, Entry, Gives, GoesOut, Happening, Host, Inits, IsCut, Link, LinkEnd, LinkInput, List, Lose, Loses, Loss}
-use Rattle.told_laws.proofs.Words.{Memory, NextFrame, NoInput, NodeWorld, None, NumberedEnd, Option, Plan, Port, Reset, Resets, Running, Side, Site}
-use Rattle.told_laws.proofs.Words.{Some, Starts, Step, Stops, Takes, Tick, Ticks, TimePasses, Work, [], activates, after_controller, after_host, after_planned}
-use Rattle.told_laws.proofs.Words.{aged, aged_entries, all_aged, all_changed, all_map, all_mapped, arith, arrival, at, beginning, begins_with, boot_found}
+use Rattle.told_laws.proofs.Words.{Memory, NextFrame, NoInput, NodeWorld, None, NumberedEnd, Option, Plan, Port, Reset, Resets, Running, Side, Site, Some}
+use Rattle.told_laws.proofs.Words.{Starts, Step, Stops, Takes, Tick, Ticks, TimePasses, Work, [], activates, after_controller, after_host, after_planned, aged}
+use Rattle.told_laws.proofs.Words.{aged_entries, all_aged, all_changed, all_map, all_mapped, arith, arrival, at, beginning, begins_with, boot_found}
 use Rattle.told_laws.proofs.Words.{boot_writes, boot_written, boots, by_boot, by_coming, by_controller, by_controller_tick, by_host, by_host_tick, by_loss}
 use Rattle.told_laws.proofs.Words.{by_memory, by_option, by_power, by_running, changed_if, comes_at, comes_to, cond_both, controller_does, controller_ticks}
 use Rattle.told_laws.proofs.Words.{controller_work, counts, each-append, end_c, end_h, ending_entries, ending_of, entries_for, eqb, exchanged, false}
 use Rattle.told_laws.proofs.Words.{first_lost, flat_map, frame_lost, frames_noted, frames_out, happens, happens_at_controller, has_input, host_cut, host_does}
 use Rattle.told_laws.proofs.Words.{host_tick, host_ticks, host_work, hosts_tick, input_of, is_late_at, is_waiting, link_after_controller, link_to, links_of}
-use Rattle.told_laws.proofs.Words.{loses_power_at, map, memory_at, min, near_end_in, near_tick, new_desk, new_link, not, number_of, port_at, port_for, runs_on}
-use Rattle.told_laws.proofs.Words.{sending, site_at, site_lost, steps, subst, ticked_so, ticks_at_controller, true, turns_at, wires_for, with_memory, with_node}
+use Rattle.told_laws.proofs.Words.{loses_power_at, map, memory_at, min, near_end_in, near_tick, new_desk, new_link, not, port_at, port_for, runs_on, sending}
+use Rattle.told_laws.proofs.Words.{site_at, site_lost, steps, subst, ticked_so, ticks_at_controller, true, turns_at, wires_for, with_memory, with_node}
 use Rattle.told_laws.proofs.Words.{with_site, work_of, world_step, world_ticks, ℕ, ◌&&◌, ◌++◌, ◌+◌, ◌<◌, ◌==◌, ◌∷◌, ◌≡◌, ◌≤◌}
 use Rattle.link_laws.specs.messages.Links.LinkEvent.{AtController}
 use Rattle.node_laws.proofs.telling.Events.{site_host, site_is}
@@ -123,10 +123,6 @@ module _ (b : Bool) (n : ℕ) (k : Work) (a : IsWorkIn b n k) where
 
 -- ### Steps of a node
 
--- what is known of the near ends of links
-number_low : (b : Bool) (n : ℕ) (h : NumberedEnd) → NumberedIn b n h → number_of h ≤ n
-number_low b n h is = let e = is.emitted in let t = is.took in omega (arith, e, t)
-
 near_in : (b c : Bool) (n : ℕ) (l : Link) (comes : Comes) → LinkIn b c n l → NumberedIn b n (near_end_in l comes)
 near_in b c n l comes h = grind arith
 
@@ -135,7 +131,7 @@ work_begins : (b : Bool) (n : ℕ) (r : Running) (plan : Option Plan) (near_ends
 work_begins b n r plan near_ends t is has are noted = record {
   core = record { node = is.number; tables = has.tables; rows = has.rows; command = is.command; init = is.init };
   ports = all_map IsDeskIn (IsPortIn b n) (λ (d : Desk). port_for (near_ends d.host) d)
-      (λ d h. record { desk = h; side = (are d.host).side.side; session = number_low b n (near_ends d.host) (are d.host); turns = tt }) r.desks is.desks;
+      (λ d h. record { desk = h; side = (are d.host).side.side; session = grind arith; turns = tt }) r.desks is.desks;
   entries = noted;
 }
 
@@ -542,8 +538,7 @@ pub happens_in : (n : ℕ) (w : NodeWorld) (c : Happening) → HappensIn c → I
 happens_in n w (Boots k) may is has = step_more (n + 13) (n + 26) (boots w k) (omega arith) (boots_in n w k may is)
 happens_in n w (IsCut k) may is has =
     record { world = world_more (n + 13) (n + 26) (loses_power_at k w) (omega arith) (power_in n k w is); noted = (omega (arith, may), tt) }
-happens_in n w (Gives e m) may is has =
-    step_more (n + 13) (n + 26) _ (omega arith) (begun n w is has e.link (sending e.link m) may.0 (grind arith))
+happens_in n w (Gives e m) may is has = step_more (n + 13) (n + 26) _ (omega arith) (begun n w is has e.link (sending e.link m) may.0 (grind arith))
 happens_in n w (Inits e identity pipes) may is has =
     step_more (n + 13) (n + 26) _ (omega arith)
     (begun n w is has e.link (beginning identity pipes) may.0 (may.1, (record { some = omega arith; bytes = (omega arith, tt); short = omega arith }, tt)))

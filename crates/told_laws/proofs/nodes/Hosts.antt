@@ -2,14 +2,14 @@
 use Rattle.told_laws.proofs.Words.{AllByRecursion, AllByRecursion-get, ArePipeRows, Asks, Bool, Clear, Command, Commits, Core, Create, Creation, Deed, Delete}
 use Rattle.told_laws.proofs.Words.{Desk, Drops, Ends, Err, GoesOn, HciTables, Init, InitFailed, InitMade, InitSame, IsByte, IsCommand, IsDynamic, IsEnd}
 use Rattle.told_laws.proofs.Words.{IsEvent, IsResponse, IsSaidCommand, List, Message, MessageFault, MessageKind, None, Ok, Option, Orders, PipeRow, Port}
-use Rattle.told_laws.proofs.Words.{Result, Sends, Set, SetOpened, SetsErrors, Some, Tells, [], about_at, answer_of, answers_on, anyone, ap, arith}
-use Rattle.told_laws.proofs.Words.{asks_for, body_in, by_option, by_test, code_of, cond, cond_both, controller_deeds, count_by-le-length}
-use Rattle.told_laws.proofs.Words.{count_in, creation_deeds, creation_in, decision_deeds, drop, each-append, end_of_node, end_view, ends_at, eqb, false}
-use Rattle.told_laws.proofs.Words.{finds_room, first_of, gates, goes_through, has_link, header_of, identity_served, instruction_in, is_dynamic}
-use Rattle.told_laws.proofs.Words.{is_opened, is_some, is_up, kind_deeds, length, length-rows, link_deeds, link_served, link_unless, map, nat_lt, not}
-use Rattle.told_laws.proofs.Words.{notice_deeds, opened_on, option_map_or, ordered_holds, own_gate, own_side, own_view, param_in, pid_of, pipe_at, port_at}
-use Rattle.told_laws.proofs.Words.{refl, relayed_to, row_of-within, served_at, slice_get, subst, tests_to_get, tests_to_set_errors, told_hold}
-use Rattle.told_laws.proofs.Words.{true, value_at, value_behind, view_for, view_of, ℕ, ◌&&◌, ◌++◌, ◌+◌, ◌<◌, ◌==◌, ◌∷◌, ◌≡◌, ◌≤◌}
+use Rattle.told_laws.proofs.Words.{Result, Sends, Set, SetOpened, SetsErrors, Some, Tells, [], about_at, answer_of, answers_on, anyone, ap, arith, asks_for}
+use Rattle.told_laws.proofs.Words.{body_in, by_option, by_test, code_of, cond, cond_both, controller_deeds, count_by-le-length, count_in, creation_deeds}
+use Rattle.told_laws.proofs.Words.{creation_in, decision_deeds, each-append, end_of_node, end_view, ends_at, eqb, false, finds_room, first_of, gates}
+use Rattle.told_laws.proofs.Words.{goes_through, has_link, header_of, identity_served, instruction_in, is_dynamic, is_opened, is_some, is_up, kind_deeds}
+use Rattle.told_laws.proofs.Words.{length, length-rows, link_deeds, link_served, link_unless, map, nat_lt, not, notice_deeds, opened_on, option_map_or}
+use Rattle.told_laws.proofs.Words.{ordered_holds, own_gate, own_side, own_view, param_in, pid_of, pipe_at, port_at, refl, relayed_to, row_of-within, served_at}
+use Rattle.told_laws.proofs.Words.{slice_get, subst, tests_to_get, tests_to_set_errors, told_hold, true, value_at, value_behind, view_for, view_of, ℕ, ◌&&◌}
+use Rattle.told_laws.proofs.Words.{◌++◌, ◌+◌, ◌<◌, ◌==◌, ◌∷◌, ◌≡◌, ◌≤◌}
 use Rattle.gate_admin.proofs.CreationLemmas.{creation-recordable}
 use Rattle.gate_admin.specs.Decide.{answers, carried_out, clearing, closing, commits, commits_and_tells, creating, creation, decided, deleting, dest_in}
 use Rattle.gate_admin.specs.Decide.{ends_of, far_end, getting, opening, others_opened, setting, tests_of_pipe, tests_to_clear, tests_to_create, tests_to_delete}
@@ -123,7 +123,7 @@ others_low t host pipe rows =
     by None = omega arith
     by (Some end) =
         let few = count_by-le-length (λ (row : PipeRow). row.opened && ends_at row end.0 end.1 && not (row.pid == pipe)) t.rows in
-        omega (arith, (length-rows pid_of 2 112 t.rows rows), few)
+        omega (arith, length-rows pid_of 2 112 t.rows rows, few)
 
 host_bytes : (test : ℕ → Bool) → AreBytes (hosts_where test)
 unfolding hosts_where
@@ -148,16 +148,12 @@ row_in : (t : HciTables) (v : LinkView) (host : ℕ) (body : List ℕ) → host 
     → IsCommandIn (Create (new_row t v host body)) × AreBytes (ends_of (new_row t v host body))
 row_in t v host body small bytes passed =
     let made = recordable_made (Create (new_row t v host body)) (creation-recordable t v host body small passed) in
-    let upto = made.1 in
     let a = index_in body 0 bytes in
     let c = index_in body 2 bytes in
-    let pid : (new_row t v host body).pid < 256 = omega (arith, upto) in (grind arith)
+    let pid : (new_row t v host body).pid < 256 = omega (arith, made.1) in grind arith
 
 plain_command : (c : Command) → IsSaidCommand c → IsShortCommand c → IfMade c → IsCommandIn c
 plain_command c said short made = record { said = said; short = short; made = made }
-
-few_behind : (bytes : List ℕ) → length bytes ≤ 4095 → length (drop 1 bytes) ≤ 4095
-few_behind bytes few = grind arith
 
 module _ (t : HciTables) (v : LinkView) (host pipe : ℕ) (body : List ℕ) (tables : AreTablesIn t) (rows : ArePipeRows t.rows) (small : host ≤ 7)
     (upto : pipe < 112) (bytes : AreBytes body) (few : length body ≤ 4095) where
@@ -192,7 +188,7 @@ module _ (t : HciTables) (v : LinkView) (host pipe : ℕ) (body : List ℕ) (tab
       (λ _. unless IsDecisionIn (first_of (tests_to_set_it v host body)) _ refused
       (λ _. (
         plain_command (Set host 0 (param_in body) (record { items = value_behind body }))
-            (host_byte, omega arith, index_in body 0 bytes, each_all IsByte (value_behind body) (drop_each IsByte 1 body bytes)) (few_behind body few) tt,
+            (host_byte, omega arith, index_in body 0 bytes, each_all IsByte (value_behind body) (drop_each IsByte 1 body bytes)) (grind arith) tt,
         answer_in response.Ok [] tt (omega arith),
         none_told [],
       )))
@@ -233,13 +229,10 @@ link_in errors instruction body few bytes =
     (record { message = answer_in response.Ok [] tt (omega arith); value = λ k is. set_low k is }))
     (λ _. grind arith)
   where
-    rest : AreBytes (value_behind body)
-    rest = drop_each IsByte 1 body bytes
-
     set_low : (k : ℕ) → Some (count_in (value_behind body)) ≡ Some k → k < 65536
     set_low k is =
         let same : count_in (value_behind body) ≡ k = cc in
-        omega (arith, same, (index_in (value_behind body) 0 rest), (index_in (value_behind body) 1 rest))
+        omega (arith, same, index_in (value_behind body) 0 (drop_each IsByte 1 body bytes), index_in (value_behind body) 1 (grind arith))
 
 link_deeds_in : (h pipe : ℕ) (served : List ℕ × Option ℕ) → pipe < 112 → IsServedIn served → AreDeedsIn (link_deeds h pipe served)
 link_deeds_in h pipe served p a = grind arith
@@ -364,9 +357,6 @@ orders_in i h = let long = h.identity.1 in let few : length (1 ∷ 1 ∷ i.ident
 )
 
 module _ (core : Core) (is : IsCoreIn core) where
-  node_byte : core.node < 256
-  node_byte = let n = is.node in omega (arith, n)
-
   agreed_init : (i : Init) (value : List ℕ) → IsInitIn i → AreDeedsIn (init_agreed (own_view core) i value)
   agreed_init i value h =
       cond_both (is_same (own_view core) i value) (Ends (InitSame (end_of_node core core.node)) ∷ []) _ AreDeedsIn
@@ -381,7 +371,7 @@ module _ (core : Core) (is : IsCoreIn core) where
           let long = h.identity.1 in let few : length i.identity ≤ 4095 = omega (arith, long) in
           each-append IsDeedIn (learns (own_view core) (Set core.node 0 1 (record { items = i.identity }))) _
           (learns_in core (Set core.node 0 1 (record { items = i.identity }))
-          (node_byte, omega arith, omega arith, each_all IsByte i.identity h.identity.0) few)
+          (grind arith, omega arith, omega arith, each_all IsByte i.identity h.identity.0) few)
           ((λ n. (own_end core core.node is.node, let eight = h.few in omega (arith, eight))), tt)
       by (Some order) q = (
         record { identity = h.identity; pipes = h.pipes; few = h.few },
@@ -421,9 +411,9 @@ module _ (core : Core) (is : IsCoreIn core) where
   ordered_in errors pipe n body few p bytes = ordered_holds AreDeedsIn core errors pipe n body (record {
     none = tt;
     refuses = λ r. (answers_in core.node 1 (answer_of r []) low (answer_in r [] tt (omega arith)));
-    creates = λ row named welcome. accepts_in core (Create row) ((grind arith));
+    creates = λ row named welcome. accepts_in core (Create row) (grind arith);
     deletes = λ pid kept. accepts_in core (Delete pid) (record { said = kept_pid pid kept; short = tt; made = tt });
-    clears = λ x host. accepts_in core (Clear x) (record { said = (grind arith); short = tt; made = tt });
+    clears = λ x host. accepts_in core (Clear x) (record { said = grind arith; short = tt; made = tt });
     counts = λ zero. link_deeds_in core.node 0 (link_served errors n body) (omega arith) (link_in errors n body few bytes);
     names = λ off. answers_in core.node pipe (identity_served gates n body) p (grind arith);
   })
@@ -443,12 +433,9 @@ module _ (core : Core) (is : IsCoreIn core) where
       body : AreBytes (body_in m.1)
       body = body_bytes m.1 s.bytes
 
-      drops : m.0 < 256
-      drops = let upto = s.pipe in omega (arith, upto)
-
       go : (b : Bool) (x : Result (MessageKind × ℕ) MessageFault) → is_up p.side.shdlc.phase ≡ b → header_of m.1 ≡ x
           → AreDeedsIn (host_deeds (own_view core) (end_view p) m)
-      go false x up q = rw up (drops, tt)
+      go false x up q = rw up (grind arith, tt)
       go true (Ok (IsCommand, n)) up q = rw (up, q) (ordered_in p.desk.errors m.0 n (body_in m.1) desk.errors s.pipe body)
       go true (Ok (IsEvent, n)) up q = grind arith
       go true (Ok (IsResponse, code)) up q =

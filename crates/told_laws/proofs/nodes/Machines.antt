@@ -44,9 +44,6 @@ pub record HeardIn (n : ℕ) (e : EndState) : Type 0 where
   pub acc : AllByRecursion AreBytes e.session.acc
   pub acked : e.session.acked ≤ n
 
-heard_more : (n k : ℕ) (e : EndState) → n ≤ k → HeardIn n e → HeardIn k e
-heard_more n k e more h = let a = h.acked in record { acc = h.acc; acked = omega (arith, a, more) }
-
 place_low : (s : Session) (nr x : ℕ) → place_of s nr ≡ Some x → x ≤ s.acked + 8
 place_low s nr x q = grind arith
 
@@ -61,19 +58,16 @@ received_in n f ns info bytes h =
 module _ (n : ℕ) where
   fragment_heard : (e : EndState) (ns nr : ℕ) (info : Fragment) (o : Option ℕ) → place_of e.session nr ≡ o → AreBytes info → HeardIn n e
       → HeardIn (n + 8) (taken (in_phase Up e) (I ns nr info))
-  fragment_heard e ns nr info None q bytes h = rw q (heard_more n (n + 8) (in_phase Up e) (omega arith) (record { acc = h.acc; acked = h.acked }))
+  fragment_heard e ns nr info None q bytes h = rw q (grind arith)
   fragment_heard e ns nr info (Some x) q bytes h =
       let low = place_low e.session nr x q in
       rw q (received_in (n + 8) (acknowledged (in_phase Up e) x) ns info bytes (record { acc = h.acc; acked = omega (arith, low, h.acked) }))
-
-  reset_heard : (e : EndState) (p : LinkState) (w caps : ℕ) (b : Bool) → (w == 0) ≡ b → HeardIn n e → HeardIn (n + 8) (taken (in_phase p e) (Rset w caps))
-  reset_heard e p w caps b q h = grind arith
 
   heard_in : (e : EndState) (p : LinkState) (c : Control) → IsLineFrame c → HeardIn n e → HeardIn (n + 8) (taken (in_phase p e) c)
   heard_in e Up (I ns nr info) is h = fragment_heard e ns nr info _ refl is.2.0 h
   heard_in e Up (S kind nr) is h = grind arith
   heard_in e Waiting Ua is h = record { acc = tt; acked = omega arith }
-  heard_in e p (Rset w caps) is h = reset_heard e p w caps _ refl h
+  heard_in e p (Rset w caps) is h = grind arith
   heard_in e Up _ is h = let a = h.acked in record { acc = h.acc; acked = omega (arith, a) }
   heard_in e Waiting _ is h = let a = h.acked in record { acc = h.acc; acked = omega (arith, a) }
   heard_in e Down _ is h = let a = h.acked in record { acc = h.acc; acked = omega (arith, a) }
@@ -94,23 +88,13 @@ pub record EndIn (n : ℕ) (e : EndState) : Type 0 where
   pub heard : HeardIn n e
 
 end_taken : (n : ℕ) (e : EndState) (c : Control) → IsLineFrame c → EndIn n e → EndIn (n + 8) (taken e c)
-end_taken n e c is h = record { ranged = (grind arith); heard = heard_in n e e.phase c is h.heard }
-
-end_ticked : (n : ℕ) (e : EndState) → EndIn n e → EndIn n (ticked e)
-end_ticked n e h = record { ranged = (grind arith); heard = tick_heard n e e.phase h.heard }
-
-end_reset : (n : ℕ) (e : EndState) (w : ℕ) → w ≤ 4 → EndIn n e → EndIn n (reset_with e w)
-end_reset n e w low h = record { ranged = (grind arith); heard = asks_heard n e e.phase w h.heard }
+end_taken n e c is h = record { ranged = grind arith; heard = heard_in n e e.phase c is h.heard }
 
 end_out : (n : ℕ) (e : EndState) (fragments : List Fragment) → AllByRecursion IsFragment fragments → EndIn n e → EndIn n (put_out e fragments)
-end_out n e fragments more h =
-    record { ranged = ranged_out e fragments more h.ranged; heard = record { acc = h.heard.acc; acked = h.heard.acked } }
+end_out n e fragments more h = record { ranged = ranged_out e fragments more h.ranged; heard = record { acc = h.heard.acc; acked = h.heard.acked } }
 
 end_sent : (n k : ℕ) (e : EndState) → EndIn n e → EndIn n (after_frames k e)
 end_sent n k e h = record { ranged = ranged_after k e h.ranged; heard = after_heard n k e h.heard }
-
-end_more : (n k : ℕ) (e : EndState) → n ≤ k → EndIn n e → EndIn k e
-end_more n k e more h = record { ranged = h.ranged; heard = heard_more n k e more h.heard }
 
 -- ### Messages
 
@@ -252,7 +236,7 @@ pub record SideIn (b : Bool) (n : ℕ) (e : LinkEnd) : Type 0 where
   pub got : AreMail e.got
 
 pub side_more : (b : Bool) (n k : ℕ) (e : LinkEnd) → n ≤ k → SideIn b n e → SideIn b k e
-side_more b n k e more h = record { role = h.role; end = end_more n k e.shdlc more h.end; sent = h.sent; acts = h.acts; got = h.got }
+side_more b n k e more h = record { role = h.role; end = grind arith; sent = h.sent; acts = h.acts; got = h.got }
 
 side_moved : (b : Bool) (n k : ℕ) (e : LinkEnd) (ends : Bool) (s : EndState) → EndIn k s → SideIn b n e → SideIn b k (moved e ends s)
 side_moved b n k e false s is h = record { role = h.role; end = is; sent = h.sent; acts = h.acts; got = h.got }
@@ -263,12 +247,9 @@ side_down : (b : Bool) (n : ℕ) (e : LinkEnd) (ends : Bool) → SideIn b n e �
 side_down b n e false h = h
 side_down b n e true h = by e.shdlc.phase refl
   where
-    stops : SideIn b n (moved e true (stopped e.shdlc))
-    stops = side_moved b n n e true (stopped e.shdlc) (grind arith) h
-
     by : (p : LinkState) → e.shdlc.phase ≡ p → SideIn b n (put_down true e)
-    by Up p = rw p stops
-    by Waiting p = rw p stops
+    by Up p = rw p (side_moved b n n e true (stopped e.shdlc) (grind arith) h)
+    by Waiting p = rw p (side_moved b n n e true (stopped e.shdlc) (grind arith) h)
     by Down p =
         rw p (record {
           role = h.role;
@@ -325,7 +306,7 @@ module _ (b : Bool) (n : ℕ) where
   side_ticked : (e : LinkEnd) → SideIn b n e → SideIn b n (had_tick e)
   side_ticked e h =
       cond_both (is_open e.role) (moved e (is_some (tick_answer e.shdlc).ended) (ticked e.shdlc)) (activated e ActTick) (SideIn b n)
-      (λ _. side_moved b n n e (is_some (tick_answer e.shdlc).ended) (ticked e.shdlc) (end_ticked n e.shdlc h.end) h)
+      (λ _. side_moved b n n e (is_some (tick_answer e.shdlc).ended) (ticked e.shdlc) (grind arith) h)
       (λ _. side_activated b n e ActTick tt h)
 
   side_unless : (o : Option Refused) (e f : LinkEnd) → SideIn b n e → SideIn b n f → SideIn b n (unless o e f)
@@ -335,7 +316,7 @@ module _ (b : Bool) (n : ℕ) where
   side_reset e window low h =
       side_unless (reset_refusal e) e (reset_by e (window_of e window)) h
       (side_moved b n n e (is_some (if_up e.shdlc Asked)) (reset_with e.shdlc (window_of e window))
-      (end_reset n e.shdlc (window_of e window) (grind arith) h.end) h)
+      (grind arith) h)
 
 -- ### What its node does to it
 

@@ -2,21 +2,20 @@
 use Rattle.std.proofs.lemmas.List.Elements.{recursion_from_All}
 use Rattle.told_laws.proofs.Words.{All, AllByRecursion, AllKeep, AreAckedWithin, AreHosts, AreSaidTables, AreTables, Bool, End, Entry, FewRsets, FewRsetsOnEach}
 use Rattle.told_laws.proofs.Words.{Happening, HciTables, Header, IfRuns, IsByte, IsEndOf, IsFew, IsHost, IsNodeHeader, IsNodeLineOf, IsNodeOf, IsSaidValue}
-use Rattle.told_laws.proofs.Words.{IsSound, Line, Link, LinkEnd, List, MayAllHappen, MayHappen, Message, NoCause, NodeWorld, None, Occurrence, OnWire, Option}
-use Rattle.told_laws.proofs.Words.{Refused, RegValue, Running, Site, SiteKeeps, Some, Takes, Ticks, Verdict, [], all_happen, all_mapped, amid_round, ap}
-use Rattle.told_laws.proofs.Words.{append-nil, append_assoc, arith, as_noted, by_test, can_happen, commands_in, cond_both, each-append, each_amid, each_longer}
-use Rattle.told_laws.proofs.Words.{each_rounds, end_c, end_h, end_takes_all, ends_in_order, ends_take_all, entries_in, false, few_behind_step, few_front}
-use Rattle.told_laws.proofs.Words.{first_cause, first_none, first_verdict, flat_map, flat_map-append, frame_of, frames_at, give_refusal, happenings, happens_by}
-use Rattle.told_laws.proofs.Words.{header_hosts, if_not_sent, if_off, if_out_of_reach, if_waiting, inr, is_running, length, length-replicate, length-rows}
-use Rattle.told_laws.proofs.Words.{link_to, lpdu_of, machine_in, node_fits, node_of, pid_of, place_of_value, refl, refusal_in, replicate, rsets_by}
-use Rattle.told_laws.proofs.Words.{static_place, subst, suc, sym, sync_host, taken_of, true, unwrap_or, world_goes, world_round, world_step, zero, ℕ, ◌*◌, ◌++◌}
-use Rattle.told_laws.proofs.Words.{◌+◌, ◌-◌, ◌<◌, ◌^◌, ◌∙◌, ◌∷◌, ◌≡◌, ◌≤◌}
+use Rattle.told_laws.proofs.Words.{IsSound, Line, Link, List, MayAllHappen, MayHappen, Message, NoCause, NodeWorld, None, Occurrence, OnWire, Option, Refused}
+use Rattle.told_laws.proofs.Words.{RegValue, Running, Site, SiteKeeps, Some, Takes, Ticks, [], all_happen, all_mapped, amid_round, ap, append-nil, append_assoc}
+use Rattle.told_laws.proofs.Words.{arith, as_noted, by_test, can_happen, commands_in, cond_both, each-append, each_amid, each_longer, each_rounds, end_c, end_h}
+use Rattle.told_laws.proofs.Words.{end_takes_all, ends_in_order, ends_take_all, entries_in, false, few_behind_step, few_front, first_cause, first_none}
+use Rattle.told_laws.proofs.Words.{flat_map, flat_map-append, frame_of, frames_at, give_refusal, happenings, header_hosts, if_not_sent, if_off, if_out_of_reach}
+use Rattle.told_laws.proofs.Words.{if_waiting, inr, is_running, length, length-replicate, length-rows, link_to, lpdu_of, machine_in, node_fits, node_of, pid_of}
+use Rattle.told_laws.proofs.Words.{place_of_value, refl, refusal_in, replicate, rsets_by, static_place, subst, suc, sym, sync_host, taken_of, true, unwrap_or}
+use Rattle.told_laws.proofs.Words.{world_goes, world_round, world_step, zero, ℕ, ◌*◌, ◌++◌, ◌+◌, ◌-◌, ◌<◌, ◌^◌, ◌∙◌, ◌∷◌, ◌≡◌, ◌≤◌}
 use Rattle.node_laws.specs.acked.InTurn.{IsAckedWithin}
 use Rattle.node_laws.specs.kept.Books.{AreToldBehind, IsTold}
 use Rattle.told_laws.proofs.nodes.Commands.{AreIn, AreTablesIn, IsValueIn, LinkIn, all_in_more, in-append, line_lpdu, tables_read_in}
 use Rattle.told_laws.proofs.nodes.Happenings.{HappensIn, IfTables, IsSiteIn, IsWorldIn, WorldHas, happens_in, link_there, world_more}
-use Rattle.told_laws.proofs.nodes.Machines.{AreBytes, IsLineFrame, SideIn}
-use Rattle.told_laws.proofs.told.BarePlays.{IfCause, all_each, beyond_in, each_all, frame_few, give_in, top}
+use Rattle.told_laws.proofs.nodes.Machines.{AreBytes, IsLineFrame}
+use Rattle.told_laws.proofs.told.BarePlays.{IfCause, all_each, beyond_in, each_all, frame_few, top}
 use Rattle.told_laws.proofs.told.Links.{WireIs, so_within}
 use Rattle.trace_model.specs.declared.entry.Entry.TheVariants as entry
 use Rattle.trace_model.specs.declared.entry.NoCause.TheVariants as no
@@ -24,17 +23,12 @@ use Rattle.trace_model.specs.declared.line.Line.TheVariants as line
 
 -- ## The numbers of a world that is in range are bounded by its RSETs and acknowledged fragments, whatever it came through
 
--- ### An end
-
-side_within : (b : Bool) (n m : ℕ) (e : LinkEnd) → SideIn b n e → e.shdlc.session.acked ≤ m → SideIn b m e
-side_within b n m e h low = grind arith
-
 -- ### A link
 
 link_within : (n m : ℕ) (l : Link) → LinkIn false true n l → FewRsets m l → IsAckedWithin m l → LinkIn false true m l
 link_within n m l h few acked =
-    so_within IsLineFrame n m l few (λ s. record { side = side_within false n m l.controller.side s.side acked.controller; calm = s.calm })
-    (λ s. record { side = side_within true n m l.host.side s.side acked.host; calm = s.calm }) h
+    so_within IsLineFrame n m l few (λ s. record { side = grind arith; calm = s.calm })
+    (λ s. record { side = grind arith; calm = s.calm }) h
 
 -- ### A world
 
@@ -56,12 +50,7 @@ acked_longer : (n m : ℕ) (sites : List Site) → n ≤ m → AllByRecursion (�
     → AllByRecursion (λ (s : Site). IsAckedWithin m s.link) sites
 acked_longer n m [] more h = tt
 acked_longer n m (s ∷ sites) more h =
-    let c = h.0.controller in
-    let f = h.0.host in
-    (record { controller = omega (arith, c, more); host = omega (arith, f, more) }, acked_longer n m sites more h.1)
-
-pub acked_more : (n m : ℕ) (w : NodeWorld) → n ≤ m → AreAckedWithin n w → AreAckedWithin m w
-acked_more n m w more h = acked_longer n m w.sites more h
+    (record { controller = omega (arith, h.0.controller, more); host = omega (arith, h.0.host, more) }, acked_longer n m sites more h.1)
 
 -- ## All that is told of a history of nodes is in its range
 
@@ -93,9 +82,6 @@ abbrev pub IfFull : Option Running → Type 0
 IfFull None = Unit {0}
 IfFull (Some r) = IsFull r
 
-has_tables : (o : Option Running) → IfFull o → IfTables o
-has_tables o h = grind arith
-
 -- one thing happens and then the others, or none can
 first_happens : (c : Happening) (causes : List Happening) (w : NodeWorld) → can_happen w c ≡ true
     → all_happen w (c ∷ causes)
@@ -121,8 +107,7 @@ module _ (hosts : List ℕ) (are : AreHosts hosts) where
   sites_full : (n : ℕ) (t : List Entry) (sites : List Site) → AreIn n t → AllByRecursion (SiteKeeps t) sites
       → AllByRecursion (λ (s : Site). IfFull s.node) sites
   sites_full n t [] noted h = tt
-  sites_full n t (s ∷ sites) noted h =
-      (full s.host n (s.host ∷ []) s.memory.content t s.node noted h.0.runs, sites_full n t sites noted h.1)
+  sites_full n t (s ∷ sites) noted h = (full s.host n (s.host ∷ []) s.memory.content t s.node noted h.0.runs, sites_full n t sites noted h.1)
 
   pub record AllFull (w : NodeWorld) : Type 0 where
     pub controller : IfFull w.controller
@@ -136,8 +121,8 @@ module _ (hosts : List ℕ) (are : AreHosts hosts) where
 
   world_has : (w : NodeWorld) → AllFull w → WorldHas w
   world_has w h = record {
-    controller = has_tables w.controller h.controller;
-    sites = all_mapped Site (λ (s : Site). IfFull s.node) (λ (s : Site). IfTables s.node) w.sites (λ s full. has_tables s.node full) h.sites;
+    controller = grind arith;
+    sites = all_mapped Site (λ (s : Site). IfFull s.node) (λ (s : Site). IfTables s.node) w.sites (λ s full. grind arith) h.sites;
   }
 
   -- ### Events
@@ -172,11 +157,8 @@ module _ (hosts : List ℕ) (are : AreHosts hosts) where
   pub events_in : (causes : List Happening) (n : ℕ) (t : List Entry) (w : NodeWorld) → AllByRecursion HappensIn causes → MayAllHappen w causes → Stands n t w
       → n + 26 * length causes ≤ top → IsFew (t ++ entries_in (all_happen w causes).1)
       → Stands (n + 26 * length causes) (t ++ entries_in (all_happen w causes).1) (all_happen w causes).0
-  events_in [] n t w is may s small few =
-      let nil = append-nil t in
-      subst (λ u. Stands (n + 26 * 0) u w) (sym nil) (stands_more n (n + 26 * 0) t w (omega arith) s)
-  events_in (c ∷ causes) n t w is may s small few =
-      go (can_happen w c) refl (λ u m k g f low y. events_in causes m u k is.1 g f low y)
+  events_in [] n t w is may s small few = subst (λ u. Stands (n + 26 * 0) u w) (sym (append-nil t)) (stands_more n (n + 26 * 0) t w (omega arith) s)
+  events_in (c ∷ causes) n t w is may s small few = go (can_happen w c) refl (λ u m k g f low y. events_in causes m u k is.1 g f low y)
     where
       next : NodeWorld × List Entry
       next = world_step w c
@@ -195,16 +177,14 @@ module _ (hosts : List ℕ) (are : AreHosts hosts) where
           → IsFew (u ++ entries_in (all_happen v causes).1) → Stands (m + 26 * length causes) (u ++ entries_in (all_happen v causes).1) (all_happen v causes).0)
           → Fine (all_happen w (c ∷ causes))
       go true e rest =
-          let all_few : IsFew (t ++ (next.1 ++ entries_in later.1)) = grind arith in
-          let apart : IsFew ((t ++ next.1) ++ entries_in later.1) = subst IsFew (sym (append_assoc t next.1 (entries_in later.1))) all_few in
+          let apart : IsFew ((t ++ next.1) ++ entries_in later.1) = subst IsFew (sym (append_assoc t next.1 (entries_in later.1))) (grind arith) in
           let first = event_in n t w c is.0 may.0 s (omega (arith, small)) (few_front (t ++ next.1) (entries_in later.1) apart) in
           let all = rest (t ++ next.1) (n + 26) next.0 may.1 first (omega (arith, small)) apart in
           subst Fine (sym (first_happens c causes w e))
           (stands_more ((n + 26) + 26 * length causes) k (t ++ (next.1 ++ entries_in later.1)) later.0 (omega arith)
           (subst (λ u. Stands ((n + 26) + 26 * length causes) u later.0) (append_assoc t next.1 (entries_in later.1)) all))
       go false e rest =
-          let nil = append-nil t in
-          subst Fine (sym (none_happens c causes w e)) (subst (λ u. Stands k u w) (sym nil) (stands_more n k t w (omega arith) s))
+          subst Fine (sym (none_happens c causes w e)) (subst (λ u. Stands k u w) (sym (append-nil t)) (stands_more n k t w (omega arith) s))
 
 -- ## What is told of the lines of a schedule of nodes is in its range
 
@@ -219,15 +199,9 @@ number_low header nodes k known = node_fits header.hosts.items k (header_hosts h
 
 -- ### What a line causes
 
-none_waits : (waits : Bool) (o : Option Refused) → if_waiting waits o ≡ None → o ≡ None
-none_waits waits o q = grind arith
-
 repeated_in : (c : Happening) → HappensIn c → (k : ℕ) → AllByRecursion HappensIn (replicate k c)
 repeated_in c is zero = tt
 repeated_in c is (suc k) = (is, repeated_in c is k)
-
-damaged_in : (e : End) → e.link ≤ 7 → (v : Option Verdict) → AllByRecursion HappensIn (happens_by e v)
-damaged_in e small v = grind arith
 
 pipes_in : (pipes : List (List ℕ)) → AllByRecursion (λ (pipe : List ℕ). (length pipe ≡ 3) × All IsByte pipe) pipes
     → AllByRecursion (λ (pipe : List ℕ). AreBytes pipe × (length pipe ≤ 4000)) pipes
@@ -237,8 +211,7 @@ pipes_in (pipe ∷ pipes) h = let three = h.0.0 in ((all_each IsByte pipe h.0.1,
 module _ (header : Header) (nodes : IsNodeHeader header) where
   pub caused_in : (w : NodeWorld) (l : Line) → IsNodeLineOf header l → refusal_in w l ≡ None → AllByRecursion HappensIn (happenings w l)
   caused_in w (line.Send e pid message) is none =
-      let sent = (first_none (if_off w (node_of e)) (if_not_sent w e (pid, message)) none).1 in
-      let refused = none_noted_send w e (pid, message) sent in (
+      let refused = none_noted_send w e (pid, message) ((first_none (if_off w (node_of e)) (if_not_sent w e (pid, message)) none).1) in (
         (
           link_low header nodes e is.known,
           record {
@@ -252,10 +225,10 @@ module _ (header : Header) (nodes : IsNodeHeader header) where
       )
     where
       none_noted_send : (v : NodeWorld) (x : End) (m : Message) → if_not_sent v x m ≡ None → give_refusal (machine_in v x) m ≡ None
-      none_noted_send v x m q = none_waits _ (give_refusal (machine_in v x) m) q
+      none_noted_send v x m q = grind arith
   caused_in w (line.Deliver e count) is none = repeated_in (Takes e) (link_low header nodes e is.0) (taken_of count (frames_at w e))
   caused_in w (line.Lose e) is none = (link_low header nodes e is, tt)
-  caused_in w (line.Damage e places) is none = damaged_in e (link_low header nodes e is.0) (first_verdict (frames_at w e) places.items)
+  caused_in w (line.Damage e places) is none = grind arith
   caused_in w (line.Tick times) is none = repeated_in Ticks tt (unwrap_or times 1)
   caused_in w (line.Reset e None) is none = ((link_low header nodes e is.0, tt), tt)
   caused_in w (line.Reset e (Some window)) is none = ((link_low header nodes e is.0, is.1.1), tt)
@@ -287,14 +260,11 @@ module _ (header : Header) (nodes : IsNodeHeader header) where
   few_taken : (count : Option ℕ) (w : List OnWire) → length w ≤ 64 → taken_of count w ≤ 64
   few_taken count w few = grind arith
 
-  few_damaged : (e : End) (v : Option Verdict) → length (happens_by e v) ≤ 100
-  few_damaged e v = grind arith
-
   pub few_caused : (n : ℕ) (w : NodeWorld) (l : Line) → IsNodeLineOf header l → IsWorldIn n w → length (happenings w l) ≤ 100
   few_caused n w (line.Deliver e count) is h =
       let few = few_taken count (frames_at w e) (wire_at n w h e).few in
       let long = length-replicate (taken_of count (frames_at w e)) (Takes e) in omega (arith, few, long)
-  few_caused n w (line.Damage e places) is h = few_damaged e (first_verdict (frames_at w e) places.items)
+  few_caused n w (line.Damage e places) is h = grind arith
   few_caused n w (line.Tick None) is h = omega arith
   few_caused n w (line.Tick (Some times)) is h = let long = length-replicate times Ticks in let few = is.1 in omega (arith, few, long)
   few_caused n w _ is h = omega arith
@@ -311,7 +281,7 @@ waiting_in : (waits : Bool) (o : Option Refused) → IfCause (as_noted o) → If
 waiting_in waits o h = grind arith
 
 sent_in : (w : NodeWorld) (e : End) (m : Message) → IfCause (if_not_sent w e m)
-sent_in w e m = waiting_in _ (give_refusal (machine_in w e) m) (give_in (machine_in w e) m)
+sent_in w e m = waiting_in _ (give_refusal (machine_in w e) m) (grind arith)
 
 reach_in : (n : ℕ) (w : List OnWire) (places : List ℕ) → WireIs IsLineFrame n w → IfCause (if_out_of_reach w places)
 reach_in n [] places h = tt
@@ -339,12 +309,11 @@ module _ (header : Header) (nodes : IsNodeHeader header) where
 
 pub said_tables : (t : HciTables) → AreTables t → AreTablesIn t → AreSaidTables t
 said_tables t sorted is =
-    let a = length-rows pid_of 2 112 t.rows sorted.rows in
     let b = length-rows static_place 0 16 t.statics sorted.statics in
     let c = length-rows place_of_value 2 16 t.values sorted.values.sorted in
     let d = length-rows sync_host 1 8 t.syncs sorted.syncs in
     record {
-      counts = (omega (arith, a), omega (arith, b), omega (arith, c), omega (arith, d));
+      counts = (omega (arith, length-rows pid_of 2 112 t.rows sorted.rows), omega (arith, b), omega (arith, c), omega (arith, d));
       pipes = each_all _ t.rows is.pipes;
       statics = each_all _ t.statics is.statics;
       values = each_all _ t.values (all_mapped RegValue IsValueIn IsSaidValue t.values (λ v h. h.0) is.values);
@@ -365,9 +334,8 @@ one_taken_more zero w e q = sym (ap (λ (p : NodeWorld × List Occurrence). p.0)
 one_taken_more (suc k) w e q = by_test (can_happen w (Takes e))
     (λ is. let same : after_taken w e (suc k) ≡ after_taken v e k =
     ap (λ (p : NodeWorld × List Occurrence). p.0) (first_happens (Takes e) (replicate k (Takes e)) w is) in
-    let can : can_happen (after_taken v e k) (Takes e) ≡ true = ap (λ (u : NodeWorld). can_happen u (Takes e)) (sym same) ∙ q in
     ap (λ (u : NodeWorld). (world_step u (Takes e)).0) same
-    ∙ (one_taken_more k v e can
+    ∙ (one_taken_more k v e (grind arith)
     ∙ sym (ap (λ (p : NodeWorld × List Occurrence). p.0) (first_happens (Takes e) (replicate (suc k) (Takes e)) w is))))
     (λ is. grind arith)
   where
@@ -426,19 +394,17 @@ module _ (hosts : List ℕ) (are : AreHosts hosts) where
               → Stands hosts are (n + 4) (u ++ entries_in (all_happen x (replicate r (Takes e))).1) (all_happen x (replicate r (Takes e))).0)
               → Fine (all_happen v (replicate (suc r) (Takes e)))
           go true q rest =
-              let on = first_happens (Takes e) (replicate r (Takes e)) v q in
               let all_few : IsFew (t ++ (next.1 ++ entries_in later.1)) = grind arith in
               let apart : IsFew ((t ++ next.1) ++ entries_in later.1) = subst IsFew (sym (append_assoc t next.1 (entries_in later.1))) all_few in
-              let can : can_happen (amid_round w front e k) (Takes e) ≡ true = ap (λ (u : NodeWorld). can_happen u (Takes e)) (sym is) ∙ q in
               let same : next.0 ≡ amid_round w front e (suc k) =
-              ap (λ (u : NodeWorld). (world_step u (Takes e)).0) is ∙ one_taken_more k (ends_take_all w front).0 e can in
+              ap (λ (u : NodeWorld). (world_step u (Takes e)).0) is ∙ one_taken_more k (ends_take_all w front).0 e (grind arith) in
               let counts : AreAckedWithin (n + 4) next.0 =
               subst (AreAckedWithin (n + 4)) (sym same) (each_amid w n sound front back e (suc k) order (omega (arith, left)) acked) in
               let rsets : FewRsetsOnEach (n + 4) next.0.sites =
               each_longer ((n + 4) + 0) (n + 4) next.0.sites (omega arith) (few_behind_step (n + 4) v (Takes e) s.rsets) in
               let first : Stands hosts are (n + 4) (t ++ next.1) next.0 =
               step_within (n + 4) (n + 4) t v (Takes e) low tt s (omega (arith, small)) (few_front (t ++ next.1) (entries_in later.1) apart) rsets counts in
-              subst Fine (sym on)
+              subst Fine (sym (first_happens (Takes e) (replicate r (Takes e)) v q))
               (subst (λ (u : List Entry). Stands hosts are (n + 4) u later.0) (append_assoc t next.1 (entries_in later.1))
               (rest (t ++ next.1) next.0 same first apart))
           go false q rest =
@@ -484,6 +450,6 @@ module _ (hosts : List ℕ) (are : AreHosts hosts) where
       (stands_more hosts are n (n + 4) t w (omega arith) s) (few_front (t ++ es) tick.1 apart) in
       let rsets : FewRsetsOnEach (n + 6) tick.0.sites =
       each_longer ((n + 4) + 2) (n + 6) tick.0.sites (omega arith) (few_behind_step (n + 4) taken.0 Ticks first.rsets) in
-      let counts : AreAckedWithin (n + 6) tick.0 = acked_more (n + 4 * 1) (n + 6) tick.0 (omega arith) (each_rounds 1 w n sound acked) in
+      let counts : AreAckedWithin (n + 6) tick.0 = (acked_longer (n + 4 * 1) (n + 6) tick.0.sites (omega arith) (each_rounds 1 w n sound acked)) in
       subst (λ (u : List Entry). Stands hosts are (n + 6) u tick.0) (sym parts)
       (step_within (n + 4) (n + 6) (t ++ es) taken.0 Ticks tt tt first (omega (arith, small)) apart rsets counts)

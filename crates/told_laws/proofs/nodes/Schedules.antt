@@ -300,7 +300,7 @@ module _ (header : Header) (nodes : IsNodeHeader header) where
   plays_ask [] before = omega arith
   plays_ask (p ∷ plays) before =
       let both = asking-append (lines_of_play header (lines_played header before) p) (lines_from header (before ++ p ∷ []) plays) in
-      omega (arith, (play_asks (lines_played header before) p), (plays_ask plays (before ++ p ∷ [])), both, (said-append (p ∷ []) plays))
+      omega (arith, play_asks (lines_played header before) p, plays_ask plays (before ++ p ∷ []), both, said-append (p ∷ []) plays)
 
   begins : StandsIn 0 [] (new_world hosts)
   begins = record {

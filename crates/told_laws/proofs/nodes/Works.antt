@@ -1,13 +1,13 @@
 -- A node in a step, whatever comes to it: its ends, what it keeps and what it notes are in their ranges.
 use Rattle.told_laws.proofs.Words.{About, AllByRecursion, Asks, AtEnd, Bool, Command, Commits, Core, Deed, Desk, Drops, Ends, Entry, FetchMessage, Give, GoesOn}
-use Rattle.told_laws.proofs.Words.{Hears, Hold, IsAnswered, IsByte, LinkEnd, LinkInput, List, Message, NodeInput, None, Option, Orders, Port, Release, Releases}
-use Rattle.told_laws.proofs.Words.{Reset, SaysOk, Sends, SetAside, SetsErrors, Side, Some, Tells, TimePasses, Turn, Work, [], after_input, after_sessions}
-use Rattle.told_laws.proofs.Words.{after_turn, all_changed, all_come, all_done, all_map, all_mapped, all_owed, all_owed_hold, answer_of, answers_and_passes}
-use Rattle.told_laws.proofs.Words.{arith, by_option, by_test, commit, cond_both, creation_in, done, each-append, end_of_node, eqb, eqb-true, fails_within}
-use Rattle.told_laws.proofs.Words.{false, flat_map, forgets, forgotten, forgotten_hold, has_come, input_at, is_late, lack, length, map, nat_lt, need, needs}
-use Rattle.told_laws.proofs.Words.{noted_of, notified, noting, option_map_or, own_side, port_at, refl, report, reset_late, spare, steps, subst, synced}
-use Rattle.told_laws.proofs.Words.{times_out, told, told_at, told_late, true, turn_at, turn_entry, unless_cut, whole_acked, with_desk, with_older, with_port}
-use Rattle.told_laws.proofs.Words.{without_notice, ℕ, ◌++◌, ◌+◌, ◌<◌, ◌==◌, ◌∷◌, ◌≡◌, ◌≤◌}
+use Rattle.told_laws.proofs.Words.{Hears, Hold, IsAnswered, IsByte, LinkInput, List, Message, NodeInput, None, Option, Orders, Port, Release, Releases, Reset}
+use Rattle.told_laws.proofs.Words.{SaysOk, Sends, SetAside, SetsErrors, Some, Tells, TimePasses, Turn, Work, [], after_input, after_sessions, after_turn}
+use Rattle.told_laws.proofs.Words.{all_changed, all_come, all_done, all_map, all_mapped, all_owed, all_owed_hold, answer_of, answers_and_passes, arith}
+use Rattle.told_laws.proofs.Words.{by_option, by_test, commit, cond_both, creation_in, done, each-append, end_of_node, eqb, eqb-true, fails_within, false}
+use Rattle.told_laws.proofs.Words.{flat_map, forgets, forgotten, forgotten_hold, has_come, input_at, is_late, lack, length, map, nat_lt, need, needs, noted_of}
+use Rattle.told_laws.proofs.Words.{notified, noting, option_map_or, own_side, port_at, refl, report, reset_late, spare, steps, subst, synced, times_out, told}
+use Rattle.told_laws.proofs.Words.{told_at, told_late, true, turn_at, turn_entry, unless_cut, whole_acked, with_desk, with_older, with_port, without_notice, ℕ}
+use Rattle.told_laws.proofs.Words.{◌++◌, ◌+◌, ◌<◌, ◌==◌, ◌∷◌, ◌≡◌, ◌≤◌}
 use Rattle.trace_model.specs.declared.entry.Entry.TheVariants as entry
 use Rattle.hci_tables.specs.Bodies.{body_of}
 use Rattle.hci_store.specs.Committing.{commit_writes}
@@ -17,8 +17,7 @@ use Rattle.node_laws.proofs.steps.StepWalks.{got_at, lets, unless}
 use Rattle.told_laws.proofs.told.BarePlays.{each_all}
 use Rattle.told_laws.proofs.nodes.Machines.{AreMail, AreTurnsIn, IfSync, IsInputIn, IsMail, IsTurnIn, SideIn, acked_in, report_in, side_input, side_reset_at}
 use Rattle.told_laws.proofs.nodes.Machines.{side_turn}
-use Rattle.told_laws.proofs.nodes.Commands.{AreIn, AreNotedIn, IsCommandIn, all_entries_in, all_in_more, applied_in, each_in, in-append, rows_applied}
-use Rattle.told_laws.proofs.nodes.Commands.{told_in_range}
+use Rattle.told_laws.proofs.nodes.Commands.{AreIn, IsCommandIn, all_entries_in, all_in_more, applied_in, each_in, in-append, rows_applied, told_in_range}
 use Rattle.told_laws.proofs.nodes.Hosts.{AreDeedsIn, IfCreation, IsCoreIn, IsDeedIn, IsDeskIn, IsSaying, answer_in, controller_in, host_in, low, own_end}
 use Rattle.told_laws.proofs.nodes.Hosts.{saying}
 
@@ -71,9 +70,6 @@ module _ (b : Bool) (n : ℕ) where
     entries = a.entries;
   }
 
-  turn_noted : (who : Side) (session : ℕ) (e : LinkEnd) (t : Turn) → session ≤ n → IsTurnIn t → AreNotedIn n (turn_entry who session e t)
-  turn_noted who session e t few is = grind arith
-
   turn_in : (h : ℕ) (t : Turn) (w : Work) → IsTurnIn t → IsWorkIn b n w → IsWorkIn b n (turn_at h t w)
   turn_in h t w is a =
       noting_in (option_map_or (noted_of w.core t) (port_at w.ports h) []) (record w { ports = with_port h (after_turn t) w.ports })
@@ -95,7 +91,7 @@ module _ (b : Bool) (n : ℕ) where
       go (Some p) q =
           let there = at_in w.ports h p a.ports q in
           all_entries_in p.desk.host n (omega (arith, there.is.desk.host)) (turn_entry (own_side w.core) p.session p.side t)
-          (turn_noted (own_side w.core) p.session p.side t there.is.session is)
+          (grind arith)
 
   notified_in : (h : ℕ) (about : About) (message : List ℕ) (w : Work) → IsSaying message
       → IfCreation (creation_in (Some (record { about = about; age = 0 }))) → IsWorkIn b n w → IsWorkIn b n (notified h about message w)
@@ -144,19 +140,18 @@ module _ (b : Bool) (n : ℕ) where
       (noting_in (entry.Ask to message ∷ []) (turn_at c.asker SetAside w) ((f.1.0, (f.1.1.some, octets)), tt) (turn_in c.asker SetAside w tt a))
   done_in h (Releases asker) w f a = turn_in asker Release w tt a
   done_in h (Tells to message) w f a = notified_in to Removed message w f.1 tt a
-  done_in h IsAnswered w f a =
-      desk_in h (λ d. record d { notice = None }) w (λ d is. record { host = is.host; creation = tt; errors = is.errors }) a
+  done_in h IsAnswered w f a = desk_in h (λ d. record d { notice = None }) w (λ d is. record { host = is.host; creation = tt; errors = is.errors }) a
   done_in h (Drops pid) w f a = noting_in _ w ((own_end w.core h f.0, f.1), tt) a
   done_in h (SetsErrors errors) w f a =
       desk_in h (λ d. record d { errors = errors }) w (λ d is. record { host = is.host; creation = is.creation; errors = f.1 }) a
   done_in h (Orders message) w f a =
       turn_in h (Give (1, message)) (record w { core = record w.core { command = Some message } }) (saying 1 message low f.1)
-      ((grind arith))
+      (grind arith)
   done_in h Hears w f a = grind arith
   done_in h (GoesOn i) w f a = grind arith
   done_in h (Ends e) w f a =
       noting_in (e ∷ []) (record w { core = record w.core { init = None } }) (f.1 n, tt)
-      ((grind arith))
+      (grind arith)
 
   -- ## Room
 

@@ -235,9 +235,6 @@ rows_told t =
 
 -- ### The same words
 
-same_state : (a b : Bool) → state_as_word a ≡ state_as_word b → a ≡ b
-same_state a b h = grind arith
-
 same_pipe : (a b : PipeRow) → IsSaidPipe a → IsSaidPipe b → pipe_words a ≡ pipe_words b → a ≡ b
 same_pipe a b ra rb h =
     let pid : a.pid ≡ b.pid = same_byte a.pid b.pid ra.pid rb.pid cc in
@@ -245,7 +242,7 @@ same_pipe a b ra rb h =
     let creator_gate : a.creator_gate ≡ b.creator_gate = same_byte a.creator_gate b.creator_gate ra.creator_gate rb.creator_gate cc in
     let dest : a.dest ≡ b.dest = same_byte a.dest b.dest ra.dest rb.dest cc in
     let dest_gate : a.dest_gate ≡ b.dest_gate = same_byte a.dest_gate b.dest_gate ra.dest_gate rb.dest_gate cc in
-    let opened : a.opened ≡ b.opened = same_state a.opened b.opened cc in same_row a b opened pid creator creator_gate dest dest_gate
+    let opened : a.opened ≡ b.opened = (grind arith) in same_row a b opened pid creator creator_gate dest dest_gate
 
 same_pair : (a b : ℕ × ℕ) → a.0 ≡ b.0 → a.1 ≡ b.1 → a ≡ b
 same_pair a b first second = ap (λ x. (x, a.1)) first ∙ ap (λ x. (b.0, x)) second
@@ -318,18 +315,12 @@ same_tables t u rt ru count h =
 
 -- ## Entries with the same words are the same
 
-hosts_are_bytes : (header : Header) → MayBegin header → All IsByte header.hosts.items
-hosts_are_bytes header known = grind arith
-
 same_header : (a b : Header) → MayBegin a → MayBegin b → header_words a ≡ header_words b → a ≡ b
 same_header a b ra rb h =
     let hosts : map byte_text a.hosts.items ≡ map byte_text b.hosts.items = cc in
-    let items = same_map byte_text IsByte same_byte a.hosts.items b.hosts.items (hosts_are_bytes a ra) (hosts_are_bytes b rb) hosts in
+    let items = same_map byte_text IsByte same_byte a.hosts.items b.hosts.items (grind arith) (grind arith) hosts in
     let made : Bool → List ℕ → Header = λ hci xs. record { hci = hci; hosts = record { items = xs } } in
     ap (λ hci. made hci a.hosts.items) (grind arith) ∙ ap (made b.hci) items
-
-no_line : (header : Header) (said : Line) → header_words header ≡ line_words said → ⊥
-no_line header said h = other_words (header_words header) (line_words said) (grind arith) h
 
 -- the words of the lines behind the first one
 abbrev pub words_behind : Entry → List (List (List ℕ))
@@ -339,8 +330,8 @@ words_behind said = []
 -- entries with the same words, on their first lines and on those behind them
 pub same_entry : (a b : Entry) → IsEntry a → IsEntry b → entry_words a ≡ entry_words b → words_behind a ≡ words_behind b → a ≡ b
 same_entry (entry.Head a) (entry.Head b) ra rb h k = ap entry.Head (same_header a b ra rb (behind _ _ _ _ h))
-same_entry (entry.Head a) (entry.Echo b) ra rb h k = absurd (no_line a b (behind _ _ _ _ h))
-same_entry (entry.Echo a) (entry.Head b) ra rb h k = absurd (no_line b a (sym (behind _ _ _ _ h)))
+same_entry (entry.Head a) (entry.Echo b) ra rb h k = absurd (other_words (header_words a) (line_words b) (grind arith) (behind _ _ _ _ h))
+same_entry (entry.Echo a) (entry.Head b) ra rb h k = absurd (other_words (header_words b) (line_words a) (grind arith) (sym (behind _ _ _ _ h)))
 same_entry (entry.Echo a) (entry.Echo b) ra rb h k = ap entry.Echo (same_said a b ra rb (behind _ _ _ _ h))
 same_entry (entry.Up e n) (entry.Up f m) ra rb h k =
     let end : e ≡ f = same_end e f ra.0 rb.0 cc in

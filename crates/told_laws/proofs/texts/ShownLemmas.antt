@@ -4,15 +4,15 @@ use Rattle.std.proofs.lemmas.Grind.{flat_map-append}
 use Rattle.std.specs.Char.{is_ascii_digit}
 use Rattle.std.specs.Str.{all_ascii_digits}
 use Rattle.told_laws.proofs.Words.{All, AllByRecursion, AreOctets, Bool, Command, Contains, End, Entry, Err, HciTables, Header, IfSome, IsCause, IsEnd, IsEndOf}
-use Rattle.told_laws.proofs.Words.{IsEntry, IsHeader, IsLineOf, IsLineSaid, IsNodeOf, IsNumber, IsSome, IsTrue, IsWord, Line, List, MayBegin, MayFollow}
+use Rattle.told_laws.proofs.Words.{IsEntry, IsLineOf, IsLineSaid, IsNodeOf, IsNumber, IsSome, IsTrue, IsWord, Line, List, MayBegin, MayFollow}
 use Rattle.told_laws.proofs.Words.{MayFollow-line_of, NoCause, None, Ok, Option, PipeRow, RegValue, Says, Some, [], ap, append-nil, append_assoc, arith, by_row}
 use Rattle.told_laws.proofs.Words.{by_words, byte_text, cause_words, command_words, cond, decimal, digits_decimal, encode_upper, end_text, end_word, entry_line}
-use Rattle.told_laws.proofs.Words.{entry_text, entry_words, false, flat_map, found_in, has_nodes, header_hosts, hex_or_dash, hex_word, hosts_of, inl}
-use Rattle.told_laws.proofs.Words.{is_comment, length, length-append, line_of, line_words, lines_behind, list_all, list_all-append, list_any, map, may_stand}
-use Rattle.told_laws.proofs.Words.{nat_lt, node_fits, not, number_word, number_words, own, read_of, refl, says_activate, says_arm, says_boot, says_busy}
-use Rattle.told_laws.proofs.Words.{says_cut, says_damage, says_deliver, says_header, says_init, says_lose, says_nodes, says_ready, says_reset, says_send}
-use Rattle.told_laws.proofs.Words.{says_settle, says_tables, says_tick, slice_index, spaced, subst, suc, sym, true, two_bytes_text, unless_fault, upper_digits}
-use Rattle.told_laws.proofs.Words.{words, words-spaced, ℕ, ◌%◌, ◌&&◌, ◌++◌, ◌/◌, ◌<◌, ◌==◌, ◌^◌, ◌↔◌, ◌∙◌, ◌∷◌, ◌≡◌, ◌≤◌}
+use Rattle.told_laws.proofs.Words.{entry_text, entry_words, false, flat_map, found_in, has_nodes, header_hosts, hex_or_dash, hex_word, hosts_of, is_comment}
+use Rattle.told_laws.proofs.Words.{length, length-append, line_of, line_words, lines_behind, list_all, list_all-append, list_any, map, may_stand, nat_lt}
+use Rattle.told_laws.proofs.Words.{node_fits, not, number_word, number_words, own, read_of, refl, says_activate, says_arm, says_boot, says_busy, says_cut}
+use Rattle.told_laws.proofs.Words.{says_damage, says_deliver, says_header, says_init, says_lose, says_nodes, says_ready, says_reset, says_send, says_settle}
+use Rattle.told_laws.proofs.Words.{says_tables, says_tick, slice_index, spaced, subst, suc, sym, true, two_bytes_text, unless_fault, upper_digits, words}
+use Rattle.told_laws.proofs.Words.{words-spaced, ℕ, ◌%◌, ◌++◌, ◌/◌, ◌<◌, ◌==◌, ◌^◌, ◌↔◌, ◌∙◌, ◌∷◌, ◌≡◌, ◌≤◌}
 use Rattle.schedule_text.proofs.HostsLemmas.{row_unknown}
 use Rattle.schedule_text.proofs.RowsLemmas.{no_fault, row_cases}
 use Rattle.schedule_text.specs.Forms.{FormRow, activate_row, arm_row, boot_row, busy_row, cut_row, damage_row, deliver_row, header_row, init_row, lose_row}
@@ -64,9 +64,6 @@ said_in header is (line.Settle rounds) h = let most = h.1 in omega (arith, most)
 -- a line that a bare world plays may stand below its header
 may_follow : (header : Header) (said : Line) → IsLineOf header said → MayFollow header said
 may_follow header said h = grind arith
-
-pub bare_said_in : (header : Header) → IsHeader header → (said : Line) → IsLineOf header said → IsLineSaid said
-bare_said_in header is said h = said_in header (inl is) said (may_follow header said h)
 
 pub read_in : (header : Header) (bytes : List ℕ) (said : Line) → MayBegin header → line_of (Some header) bytes ≡ Ok (read.Line said) → IsLineSaid said
 read_in header bytes said is h = said_in header is said (MayFollow-line_of header bytes said h)
@@ -286,10 +283,10 @@ said_clean (line.Settle n) h = (((omega arith, refl), refl), (number_clean n h, 
 
 entry_clean : (a : Entry) → IsEntry a → AllByRecursion IsClean (entry_words a)
 entry_clean (entry.Head header) h =
-    (((omega arith, refl), refl), (((omega arith, refl), refl), (((omega arith, refl), refl), ((grind arith), hosts_clean header.hosts.items))))
+    (((omega arith, refl), refl), (((omega arith, refl), refl), (((omega arith, refl), refl), (grind arith, hosts_clean header.hosts.items))))
 entry_clean (entry.Echo said) h = (((omega arith, refl), refl), said_clean said h)
 entry_clean (entry.Up e n) h = (((omega arith, refl), refl), (end_clean e, (number_clean n h.1, tt)))
-entry_clean (entry.Down e why) h = (((omega arith, refl), refl), (end_clean e, ((grind arith), tt)))
+entry_clean (entry.Down e why) h = (((omega arith, refl), refl), (end_clean e, (grind arith, tt)))
 entry_clean (entry.Active e) h = (((omega arith, refl), refl), (end_clean e, tt))
 entry_clean (entry.GaveUp e n) h = (((omega arith, refl), refl), (end_clean e, (number_clean n h.1, tt)))
 entry_clean (entry.Sent e n p m) h = (((omega arith, refl), refl), (end_clean e, (number_clean n h.1, (byte_clean p, (hex_clean m h.3.0, tt)))))
@@ -297,7 +294,7 @@ entry_clean (entry.Got e n p m) h = (((omega arith, refl), refl), (end_clean e, 
 entry_clean (entry.Acked e n k) h = (((omega arith, refl), refl), (end_clean e, (number_clean n h.1, (number_clean k h.2, tt))))
 entry_clean (entry.Emit e l) h = (((omega arith, refl), refl), (end_clean e, (hex_clean l h.1.0, tt)))
 entry_clean (entry.Took e l) h = (((omega arith, refl), refl), (end_clean e, (hex_clean l h.1.0, tt)))
-entry_clean (entry.Lost e l why) h = (((omega arith, refl), refl), (end_clean e, (hex_clean l h.1.0, ((grind arith), tt))))
+entry_clean (entry.Lost e l why) h = (((omega arith, refl), refl), (end_clean e, (hex_clean l h.1.0, (grind arith, tt))))
 entry_clean (entry.Turn e p m) h = (((omega arith, refl), refl), (end_clean e, (byte_clean p, (hex_clean m h.2.0, tt))))
 entry_clean (entry.Held e n s) h = (((omega arith, refl), refl), (end_clean e, (number_clean n h.1, (number_clean s h.2, tt))))
 entry_clean (entry.Ask n m) h = (((omega arith, refl), refl), (byte_clean n, (hex_clean m h.1.0, tt)))
@@ -327,7 +324,7 @@ pipe_clean row = (
   ((omega arith, refl), refl),
   (
     byte_clean row.pid,
-    (byte_clean row.creator, (byte_clean row.creator_gate, (byte_clean row.dest, (byte_clean row.dest_gate, ((grind arith), tt))))),
+    (byte_clean row.creator, (byte_clean row.creator_gate, (byte_clean row.dest, (byte_clean row.dest_gate, (grind arith, tt))))),
   ),
 )
 
@@ -372,27 +369,21 @@ spaced_inside [] h = refl
 spaced_inside (w ∷ []) h = h.0.1
 spaced_inside (w ∷ v ∷ ws) h = list_all-append is_inside w (32 ∷ spaced (v ∷ ws)) ∙ rw (h.0.1, (spaced_inside (v ∷ ws) h.1)) refl
 
-inside_end : (b : ℕ) (t : Bool) → (not (b == 10) && t) ≡ true → b ≡ 10 → ⊥
-inside_end b t h e = let bad : (not (10 == 10) && t) ≡ true = subst (λ c. (not (c == 10) && t) ≡ true) e h in cc
-
-rest_inside : (b t : Bool) → (b && t) ≡ true → t ≡ true
-rest_inside b t h = grind arith
-
 -- two texts that go on behind an LF
 cut : (x y r s : List ℕ) → list_all is_inside x ≡ true → list_all is_inside y ≡ true → x ++ (10 ∷ r) ≡ y ++ (10 ∷ s) → (x ≡ y) × (r ≡ s)
 cut [] [] r s a b h = (refl, cc)
-cut [] (c ∷ y) r s a b h = absurd (inside_end c _ b cc)
-cut (c ∷ x) [] r s a b h = absurd (inside_end c _ a cc)
+cut [] (c ∷ y) r s a b h = absurd (grind arith)
+cut (c ∷ x) [] r s a b h = absurd (grind arith)
 cut (c ∷ x) (d ∷ y) r s a b h =
     let same : c ≡ d = cc in
-    let behind = cut x y r s (rest_inside _ _ a) (rest_inside _ _ b) cc in
+    let behind = cut x y r s (grind arith) (grind arith) cc in
     (ap (λ e. e ∷ x) same ∙ ap (λ t. d ∷ t) behind.0, behind.1)
 
 same_words : (ws vs : List (List ℕ)) → IsCleanLine ws → IsCleanLine vs → spaced ws ≡ spaced vs → ws ≡ vs
 same_words ws vs rw rv h = sym (words-spaced ws (all_words ws rw)) ∙ ap words h ∙ words-spaced vs (all_words vs rv)
 
 no_line : (ws : List (List ℕ)) (rest : List ℕ) → told_line ws ++ rest ≡ [] → ⊥
-no_line ws rest h = omega (arith, (length-append (told_line ws) rest), (length-append (spaced ws) (10 ∷ [])), (ap length h))
+no_line ws rest h = omega (arith, length-append (told_line ws) rest, length-append (spaced ws) (10 ∷ []), ap length h)
 
 -- texts of lines
 same_lines : (xs ys : List (List (List ℕ))) → AllByRecursion IsCleanLine xs → AllByRecursion IsCleanLine ys
@@ -475,7 +466,7 @@ same_ended xs ys v w rv rz ra rb h =
     let long = length-append (flat_map entry_lines xs) (v ∷ []) in
     let other = length-append (flat_map entry_lines ys) (w ∷ []) in
     same_said_lines xs ys ra rb
-    (cut_at (flat_map entry_lines xs) (flat_map entry_lines ys) (v ∷ []) (w ∷ []) (omega (arith, long, other, (ap length lines))) lines).0
+    (cut_at (flat_map entry_lines xs) (flat_map entry_lines ys) (v ∷ []) (w ∷ []) (omega (arith, long, other, ap length lines)) lines).0
   where
     with_last : (xs : List Entry) (v : List (List ℕ)) → flat_map entry_line xs ++ told_line v ≡ flat_map told_line (flat_map entry_lines xs ++ v ∷ [])
     with_last xs v =

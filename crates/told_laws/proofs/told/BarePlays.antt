@@ -1,21 +1,21 @@
 -- All that is told of lines, of a history and of plays in a bare world is in its range.
 use Rattle.told_laws.proofs.Words.{Acked, Active, All, AllByRecursion, AreFewPlays, AreOctets, Begins, Bool, Caused, Control, Emit, End, Entry, Event, FewRsets}
 use Rattle.told_laws.proofs.Words.{Follows, GaveUp, Got, Header, History, HostsStay, I, IsByte, IsCause, IsEnd, IsEntry, IsFrontOf, IsHeader, IsLineOf}
-use Rattle.told_laws.proofs.Words.{IsNumber, IsPlayFor, Line, LineRefused, Link, LinkEnd, List, Lost, Message, NoCause, None, Noted, OnWire, Option, Outcome}
-use Rattle.told_laws.proofs.Words.{Play, Rej, Rnr, Rr, Rset, S, Sent, Side, Some, Srej, StepsFollow, Taken, Ticked, Took, Ua, Verdict, [], all_entries}
-use Rattle.told_laws.proofs.Words.{all_events, all_joined, all_mapped, ap, append-nil, append_assoc, arith, as_noted, bare_lines, bare_link, bits_of, by_test}
-use Rattle.told_laws.proofs.Words.{causes_in, causes_of, cons_option, damage_causes, each-append, end_of, end_of_frame, entries_for, entries_of, entries_told}
-use Rattle.told_laws.proofs.Words.{entry_of, event_entries, event_of, events_at, events_of, false, first_verdict, flat_map, flat_map-append, frame_of}
-use Rattle.told_laws.proofs.Words.{frames_to, give_refusal, good_of, host_of, hosts_stay_behind, if_beyond, if_empty, if_out_of_reach, inl, is_good, length}
-use Rattle.told_laws.proofs.Words.{length-append, lines_may_be_played, lines_of_play, lines_played, lines_said, link_after, link_after_all, link_after_line}
-use Rattle.told_laws.proofs.Words.{lpdu_of, machine_of, nat_lt, noted, other_twice, outcome_of, played-append, played_more, refl, refusal, replicate}
-use Rattle.told_laws.proofs.Words.{reset_refusal, rounds_played, said-append, start_of_frame, step_told, stuffed, stuffed_after, subst, suc, sym, taken_of}
-use Rattle.told_laws.proofs.Words.{true, unwrap_or, with_crc, zero, ℕ, ◌%◌, ◌*◌, ◌++◌, ◌+◌, ◌/◌, ◌<◌, ◌==◌, ◌^◌, ◌∙◌, ◌∷◌, ◌≡◌, ◌≤◌}
+use Rattle.told_laws.proofs.Words.{IsNumber, IsPlayFor, Line, LineRefused, Link, List, Lost, Message, NoCause, None, Noted, OnWire, Option, Outcome, Play, Rej}
+use Rattle.told_laws.proofs.Words.{Rnr, Rr, Rset, S, Sent, Side, Some, Srej, StepsFollow, Taken, Ticked, Took, Ua, Verdict, [], all_entries, all_events}
+use Rattle.told_laws.proofs.Words.{all_joined, all_mapped, ap, append-nil, append_assoc, arith, bare_lines, bare_link, bits_of, by_test, causes_in, causes_of}
+use Rattle.told_laws.proofs.Words.{cons_option, damage_causes, each-append, end_of, end_of_frame, entries_for, entries_of, entries_told, entry_of}
+use Rattle.told_laws.proofs.Words.{event_entries, event_of, events_at, events_of, false, first_verdict, flat_map, flat_map-append, frame_of, frames_to, good_of}
+use Rattle.told_laws.proofs.Words.{host_of, hosts_stay_behind, if_beyond, if_out_of_reach, inl, is_good, length, length-append, lines_may_be_played}
+use Rattle.told_laws.proofs.Words.{lines_of_play, lines_played, lines_said, link_after, link_after_all, link_after_line, lpdu_of, nat_lt, noted, other_twice}
+use Rattle.told_laws.proofs.Words.{outcome_of, played-append, played_more, refl, refusal, replicate, rounds_played, said-append, start_of_frame, step_told}
+use Rattle.told_laws.proofs.Words.{stuffed, stuffed_after, subst, suc, sym, taken_of, true, unwrap_or, with_crc, zero, ℕ, ◌%◌, ◌*◌, ◌++◌, ◌+◌, ◌/◌, ◌<◌, ◌==◌}
+use Rattle.told_laws.proofs.Words.{◌^◌, ◌∙◌, ◌∷◌, ◌≡◌, ◌≤◌}
 use Rattle.history.proofs.Filters.{same_end_itself}
 use Rattle.history.proofs.RsetsInBareWorlds.{few_after}
 use Rattle.history.proofs.legal.Sessions.{events_in, in_order}
 use Rattle.history.specs.BareRsets.{rsets_by_bare}
-use Rattle.history.specs.Filters.{Saying, at_end, got_in, got_in_session, said, said_of, sent_by, sent_in}
+use Rattle.history.specs.Filters.{Saying, got_in, got_in_session, said, said_of, sent_by, sent_in}
 use Rattle.history.specs.Filters.Saying.{Sends}
 use Rattle.history.specs.Histories.{Cause, Step}
 use Rattle.history.specs.Legal.{IsInOrder}
@@ -26,8 +26,7 @@ use Rattle.link_laws.specs.messages.Links.IsStart.{IsBare}
 use Rattle.swp_base.proofs.BitLemmas.{length-bits_of}
 use Rattle.swp_crc.specs.Crc.{crc_of}
 use Rattle.trace_model.specs.Ends.{other_end}
-use Rattle.told_laws.proofs.texts.ShownLemmas.{bare_said_in}
-use Rattle.told_laws.proofs.told.Links.{CanTell, IsFrame, LinkIs, WireIs, bare_is, given_by, link_caused, link_more, link_within}
+use Rattle.told_laws.proofs.told.Links.{CanTell, IsFrame, LinkIs, WireIs, given_by, link_caused, link_more, link_within}
 use Rattle.told_laws.proofs.told.Notes.{AreNoted, IsNoted, noted_event}
 use Rattle.trace_model.specs.declared.entry.Entry.TheVariants as entry
 use Rattle.trace_model.specs.declared.line.Line.TheVariants as line
@@ -87,9 +86,8 @@ entry_in h n low small (GaveUp who tries) p = ((end_in h who low, omega (arith, 
 entry_in h n low small (Acked who k count) p = grind arith
 entry_in h n low small (Got who k m) p = let a = p.0 in ((end_in h who low, omega (arith, small, a)), tt)
 entry_in h n low small (Sent who k m) p =
-    let a = p.0 in
     let pipe = p.1.pipe in
-    ((end_in h who low, omega (arith, small, a), omega (arith, pipe), (p.1.some, each_all IsByte m.1 p.1.bytes)), tt)
+    ((end_in h who low, omega (arith, small, p.0), omega (arith, pipe), (p.1.some, each_all IsByte m.1 p.1.bytes)), tt)
 entry_in h n low small (Emit who c) p = ((end_in h who low, (lpdu_in c p).bytes_are), tt)
 entry_in h n low small (Took who c) p = ((end_in h who low, (lpdu_in c p).bytes_are), tt)
 entry_in h n low small (Lost who c why) p = ((end_in h who low, (lpdu_in c p).bytes_are), tt)
@@ -143,8 +141,7 @@ causes_told : (h : ℕ) (cs : List Cause) (n : ℕ) (l : Link) → h < 256 → A
     → CausesTold n l (events_at h l cs) cs
 causes_told h [] n l low can is small = record { told = tt; stands = stands_longer n (n + 0) l (omega arith) is }
 causes_told h (c ∷ cs) n l low can is small =
-    let next : LinkStands (n + cost c) (link_after l c) = link_goes n l c can.0 is in
-    let later = causes_told h cs (n + cost c) (link_after l c) low can.1 next (omega (arith, small)) in
+    let later = causes_told h cs (n + cost c) (link_after l c) low can.1 (link_goes n l c can.0 is) (omega (arith, small)) in
     record {
       told = each-append IsApart (entries_for h (event_entries l (event_of c))) (entries_of (events_at h (link_after l c) cs))
           (entries_in h (n + 24) low (omega (arith, small)) (event_entries l (event_of c)) (noted_event n l c can.0 is.link)) later.told;
@@ -153,21 +150,15 @@ causes_told h (c ∷ cs) n l low can is small =
 
 -- ### Causes of a line
 
-wire_in : (n : ℕ) (l : Link) (e : End) → LinkIs n n l → WireIs IsFrame n (frames_to l e)
-wire_in n l e h = by_test e.at_host (λ q. rw q h.to_far) (λ q. rw q h.to_near)
-
 same_cause : (c : Cause) → CanTell c → (n : ℕ) → AllByRecursion CanTell (replicate n c)
 same_cause c can zero = tt
 same_cause c can (suc n) = (can, same_cause c can n)
-
-can_damage : (e : End) (v : Option Verdict) → AllByRecursion CanTell (damage_causes e v)
-can_damage e v = grind arith
 
 can_tell : (header : Header) (l : Link) (said : Line) → IsLineOf header said → AllByRecursion CanTell (causes_in l said)
 can_tell header l (line.Send e pid message) is = (record { pipe = is.pipe; some = is.some; bytes = all_each IsByte message is.bytes }, tt)
 can_tell header l (line.Deliver e count) is = same_cause (Taken e) tt (taken_of count (frames_to l e))
 can_tell header l (line.Lose e) is = (tt, tt)
-can_tell header l (line.Damage e places) is = can_damage e (first_verdict (frames_to l e) places.items)
+can_tell header l (line.Damage e places) is = grind arith
 can_tell header l (line.Tick times) is = same_cause Ticked tt (unwrap_or times 1)
 can_tell header l (line.Reset e None) is = (tt, tt)
 can_tell header l (line.Reset e (Some w)) is = (is.1.1, tt)
@@ -211,15 +202,6 @@ abbrev pub IfCause : Option NoCause → Type 0
 IfCause None = Unit {0}
 IfCause (Some cause) = IsCause cause
 
-pub give_in : (e : LinkEnd) (m : Message) → IfCause (as_noted (give_refusal e m))
-give_in e m = grind arith
-
-pub reset_in : (e : LinkEnd) → IfCause (as_noted (reset_refusal e))
-reset_in e = grind arith
-
-pub empty_in : (w : List OnWire) → IfCause (if_empty w)
-empty_in w = grind arith
-
 pub beyond_in : (bits : ℕ) (places : List ℕ) → IsNumber bits → IfCause (if_beyond bits places)
 beyond_in bits [] small = tt
 beyond_in bits (place ∷ places) small = by_test (nat_lt place bits) (λ q. rw q (beyond_in bits places small)) (λ q. rw q small)
@@ -232,12 +214,10 @@ stuffed_few ones (true ∷ bits) = by_test (ones == 4) (λ q. rw q (omega (arith
 pub frame_few : (lpdu : List ℕ) → length lpdu ≤ 30 → IsNumber (length (frame_of lpdu))
 frame_few lpdu few =
     let content : List Bool = bits_of (with_crc lpdu) in
-    let a = length-append (start_of_frame ++ stuffed content) end_of_frame in
-    let b = length-append start_of_frame (stuffed content) in
     let c = stuffed_few 0 content in
     let d = length-bits_of (with_crc lpdu) in
     let e = length-append lpdu (crc_of lpdu / 256 ∷ crc_of lpdu % 256 ∷ []) in
-    omega (arith, a, b, c, d, e, few)
+    omega (arith, length-append (start_of_frame ++ stuffed content) end_of_frame, length-append start_of_frame (stuffed content), c, d, e, few)
 
 reach_in : (n : ℕ) (w : List OnWire) (places : List ℕ) → WireIs IsFrame n w → IfCause (if_out_of_reach w places)
 reach_in n [] places h = tt
@@ -245,11 +225,11 @@ reach_in n (x ∷ xs) places h =
     beyond_in (length (frame_of (lpdu_of x.frame))) places (frame_few (lpdu_of x.frame) (lpdu_in x.frame h.frames.0.frame).few)
 
 refusal_in : (n : ℕ) (l : Link) (said : Line) → LinkIs n n l → IfCause (refusal l said)
-refusal_in n l (line.Send e pid message) h = give_in (machine_of l e) (pid, message)
-refusal_in n l (line.Deliver e count) h = empty_in (frames_to l e)
-refusal_in n l (line.Lose e) h = empty_in (frames_to l e)
-refusal_in n l (line.Damage e places) h = reach_in n (frames_to l e) places.items (wire_in n l e h)
-refusal_in n l (line.Reset e window) h = reset_in (machine_of l e)
+refusal_in n l (line.Send e pid message) h = grind arith
+refusal_in n l (line.Deliver e count) h = grind arith
+refusal_in n l (line.Lose e) h = grind arith
+refusal_in n l (line.Damage e places) h = reach_in n (frames_to l e) places.items (grind arith)
+refusal_in n l (line.Reset e window) h = grind arith
 refusal_in n l _ h = tt
 
 -- ### Lines
@@ -277,10 +257,6 @@ line_told header h n l said low is stands small = go (refusal l said) (refusal_i
               (link_after_all l (causes_of (events_at h l (causes_in l said)))) (omega (arith, few)) causes.stands;
         }
 
--- the host of a world is a byte
-pub host_low : (header : Header) → IsHeader header → host_of header < 256
-host_low header is = let one = is.one in let host = is.hosts 0 0 (omega (arith, one)) in let low = host.1 in omega (arith, low)
-
 -- what is told of the steps of lines
 steps_told : (header : Header) (n : ℕ) (l : Link) (lines : List Line) (steps : List Step) → IsHeader header
     → AllByRecursion (IsLineOf header) lines → StepsFollow (host_of header) l lines steps → LinkStands n l → n + lines_cost lines + 24 ≤ top
@@ -291,15 +267,14 @@ steps_told header n l (said ∷ lines) [] is valid follows stands small = absurd
 steps_told header n l (said ∷ lines) (step ∷ steps) is valid follows stands small =
     let here : LineTold n (line_cost said) l step.outcome =
     subst (LineTold n (line_cost said) l) (sym follows.1)
-    (line_told header (host_of header) n l said (host_low header is) valid.0 stands (omega (arith, small))) in
+    (line_told header (host_of header) n l said (grind arith) valid.0 stands (omega (arith, small))) in
     let later = steps_told header (n + line_cost said) (link_after_line l step.outcome) lines steps is valid.1 follows.3 here.stands
     (omega (arith, small)) in
-    let echo : IsApart (entry.Echo step.line) = subst (λ x. IsApart (entry.Echo x)) (sym follows.0) (bare_said_in header is said valid.0) in
-    each-append IsApart (step_told step) (flat_map step_told steps) (echo, here.told) later
+    each-append IsApart (step_told step) (flat_map step_told steps) (grind arith, here.told) later
 
 -- nothing has happened yet
 bare_stands : LinkStands 0 bare_link
-bare_stands = record { link = bare_is; rsets = record { made = omega arith; numbered = start_numbered bare_link IsBare } }
+bare_stands = record { link = grind arith; rsets = record { made = omega arith; numbered = start_numbered bare_link IsBare } }
 
 -- ## The messages that came are among those that were sent, so all that is told of a history is in its range
 
@@ -328,9 +303,6 @@ IfMessage (Some m) = IsMessageIn m
 cons_in : (o : Option Message) (ms : List Message) → IfMessage o → AreMessagesIn ms → AreMessagesIn (cons_option o ms)
 cons_in o ms is h = grind arith
 
-uncons_in : (o : Option Message) (ms : List Message) → AreMessagesIn (cons_option o ms) → AreMessagesIn ms
-uncons_in o ms h = grind arith
-
 -- an entry of a message that was sent is in its range; nothing is said of others
 abbrev IsSentIn : Entry → Type 0
 IsSentIn (entry.Sent e n pid message) = IsMessageIn (pid, message)
@@ -349,19 +321,9 @@ abbrev IsSaidIn : Option (End × Saying) → Type 0
 IsSaidIn None = Unit {0}
 IsSaidIn (Some x) = IsSayingIn (Some x.1)
 
-said_in : (x : Entry) → IsSentIn x → IsSaidIn (said x)
-said_in x h = grind arith
-
-at_in : (e : End) (o : Option (End × Saying)) → IsSaidIn o → IsSayingIn (at_end e o)
-at_in e o h = grind arith
-
-sent_by_in : (n : ℕ) (o : Option Saying) → IsSayingIn o → IfMessage (sent_by n o)
-sent_by_in n o h = grind arith
-
 sent_each : (e : End) (n : ℕ) (t : List Entry) → AllByRecursion IsSentIn t → AreMessagesIn (sent_in t e n)
 sent_each e n [] h = tt
-sent_each e n (x ∷ t) h =
-    cons_in (sent_by n (said_of e x)) (sent_in t e n) (sent_by_in n (said_of e x) (at_in e (said x) (said_in x h.0))) (sent_each e n t h.1)
+sent_each e n (x ∷ t) h = cons_in (sent_by n (said_of e x)) (sent_in t e n) (grind arith) (sent_each e n t h.1)
 
 good_each : (ms : List Message) → AreMessagesIn ms → AreMessagesIn (good_of ms)
 good_each [] h = tt
@@ -379,15 +341,12 @@ got_all t order sent e n =
 
 got_one : (x : Entry) (t : List Entry) → ((e : End) (n : ℕ) → AreMessagesIn (cons_option (got_in_session n (said_of e x)) (got_in t e n))) → IsGotIn x
 got_one (entry.Got e n pid message) t h =
-    let a = same_end_itself e in
-    let b = same_number n in
-    let now = h e n in
-    let here : AreMessagesIn ((pid, message) ∷ got_in t e n) = rw (a, b) at now in here.0
+    let here : AreMessagesIn ((pid, message) ∷ got_in t e n) = rw ((same_end_itself e), (same_number n)) at (h e n) in here.0
 got_one x t h = tt
 
 got_each : (t : List Entry) → ((e : End) (n : ℕ) → AreMessagesIn (got_in t e n)) → AllByRecursion IsGotIn t
 got_each [] h = tt
-got_each (x ∷ t) h = (got_one x t h, got_each t (λ e n. uncons_in (got_in_session n (said_of e x)) (got_in t e n) (h e n)))
+got_each (x ∷ t) h = (got_one x t h, got_each t (λ e n. grind arith))
 
 -- ### All that is told
 
@@ -404,10 +363,7 @@ gathered P (step ∷ steps) h =
     let here : AllByRecursion P (step_told step) = front_each P (step_told step) (flat_map step_told steps) h in
     let later : AllByRecursion P (entries_of (events_in steps)) = gathered P steps (back_each P (step_told step) (flat_map step_told steps) h) in
     subst (AllByRecursion P) (sym (flat_map-append (λ (event : Event). event.entries) (events_of step.outcome) (events_in steps)))
-    (each-append P (entries_of (events_of step.outcome)) (entries_of (events_in steps)) (go step.outcome here.1) later)
-  where
-    go : (o : Outcome) → AllByRecursion P (noted o) → AllByRecursion P (entries_of (events_of o))
-    go o p = grind arith
+    (each-append P (entries_of (events_of step.outcome)) (entries_of (events_in steps)) (grind arith) later)
 
 -- and beside them only lines and refusals
 spread : (steps : List Step) → AllByRecursion IsGotIn (entries_of (events_in steps)) → AllByRecursion IsGotIn (flat_map step_told steps)
@@ -417,10 +373,7 @@ spread (step ∷ steps) h =
     subst (AllByRecursion IsGotIn) (flat_map-append (λ (event : Event). event.entries) (events_of step.outcome) (events_in steps)) h in
     let here = front_each IsGotIn (entries_of (events_of step.outcome)) (entries_of (events_in steps)) parts in
     let later = spread steps (back_each IsGotIn (entries_of (events_of step.outcome)) (entries_of (events_in steps)) parts) in
-    each-append IsGotIn (step_told step) (flat_map step_told steps) (tt, go step.outcome here) later
-  where
-    go : (o : Outcome) → AllByRecursion IsGotIn (entries_of (events_of o)) → AllByRecursion IsGotIn (noted o)
-    go o p = grind arith
+    each-append IsGotIn (step_told step) (flat_map step_told steps) (tt, grind arith) later
 
 append_nil : (t : List Entry) → t ≡ t ++ []
 append_nil [] = refl
@@ -430,11 +383,8 @@ told_in : (header : Header) (lines : List Line) (t : History) → AllByRecursion
     → lines_cost lines + 24 ≤ top → AllByRecursion IsEntry (entries_told t)
 told_in header lines t valid is follows few = entries
   where
-    low : host_of header < 256
-    low = host_low header is
-
     opening : AreApart t.opening
-    opening = subst AreApart (sym follows.opening_is) ((low, omega arith), ((low, omega arith), tt))
+    opening = subst AreApart (sym follows.opening_is) ((grind arith, omega arith), ((grind arith, omega arith), tt))
 
     steps : AreApart (flat_map step_told t.steps)
     steps = steps_told header 0 bare_link lines t.steps is valid follows.steps_follow bare_stands (omega (arith, few))
@@ -477,11 +427,10 @@ pub played_from : (header : Header) (plays before : List Play)
 played_from header [] before = ap (lines_played header) (append-nil before) ∙ sym (append-nil (lines_played header before))
 played_from header (p ∷ plays) before =
     let after : List Play = before ++ p ∷ [] in
-    let now : List Line = lines_of_play header (lines_played header before) p in
     ap (lines_played header) (sym (append_assoc before (p ∷ []) plays))
     ∙ (played_from header plays after
     ∙ (ap (λ (lines : List Line). lines ++ lines_from header after plays) (played_more header before p)
-    ∙ append_assoc (lines_played header before) now (lines_from header after plays)))
+    ∙ append_assoc (lines_played header before) (lines_of_play header (lines_played header before) p) (lines_from header after plays)))
 
 -- ## All that is told of plays in a bare world is in its range
 
@@ -500,21 +449,17 @@ module _ (header : Header) (is : IsHeader header) where
       → lines_cost (lines_from header before plays) ≤ 200 * lines_said plays + 2 * rounds_played plays
   plays_cost [] before may = omega arith
   plays_cost (p ∷ plays) before may =
-      let now = play_cost (lines_played header before) p may.0 in
-      let later = plays_cost plays (before ++ p ∷ []) may.1 in
       let both = cost-append (lines_of_play header (lines_played header before) p) (lines_from header (before ++ p ∷ []) plays) in
       let said = said-append (p ∷ []) plays in
       let rounds = played-append (p ∷ []) plays in
-      omega (arith, now, later, both, said, rounds)
+      omega (arith, play_cost (lines_played header before) p may.0, plays_cost plays (before ++ p ∷ []) may.1, both, said, rounds)
 
   pub bare_told_in : (plays : List Play) (t : History) → AllByRecursion (IsPlayFor header) plays → AreFewPlays plays
       → Follows header (lines_played header plays) t → AllByRecursion IsEntry (entries_told t)
   bare_told_in plays t may most follows =
       let lines : List Line = lines_played header plays in
-      let same = ap lines_cost (played_from header plays []) in
-      let cost = plays_cost plays [] may in
       let said = most.said in
       let rounds = most.rounds in
       told_in header lines t
       (bare_lines header is.bare lines (lines_may_be_played header (inl is) (hosts_stay_behind header) plays may)) is follows
-      (omega (arith, same, cost, said, rounds))
+      (omega (arith, ap lines_cost (played_from header plays []), plays_cost plays [] may, said, rounds))

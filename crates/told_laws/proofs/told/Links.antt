@@ -1,14 +1,13 @@
 -- The frames of ends and wires, and a bare link with them, are in their ranges behind each thing that happens.
-use Rattle.told_laws.proofs.Words.{AllByRecursion, AllByRecursion-get, AllByRecursion-take, AsksReset, Bare, Bool, Control, Due, End, EndEvent, EndIsLow}
-use Rattle.told_laws.proofs.Words.{EndState, FetchMessage, FewRsets, Fragment, Give, Given, GoesOut, Hold, I, IsByte, Link, LinkEnd, LinkInput, List, Lose}
-use Rattle.told_laws.proofs.Words.{Loss, Message, NextFrame, NoInput, None, NumberedEnd, OnWire, Option, Readied, Refused, Reset, Rset, S, Some, Step, Take}
-use Rattle.told_laws.proofs.Words.{Taken, Tick, Ticked, Ua, WasLost, WasReset, WireIsLow, [], after_frames, after_input, aged, aged_wire, all_frames}
-use Rattle.told_laws.proofs.Words.{all_mapped, among, ap, arith, at, bare_link, becomes, by_list, by_option, by_test, common_steps, control_due, drop}
-use Rattle.told_laws.proofs.Words.{each-append, ended_by, exchanged, expected, fetched, fits, fragment_due, frame_due, frames_of, frames_out, give_refusal}
-use Rattle.told_laws.proofs.Words.{given, had_tick, happens, happens_at_controller, has_input, is_open, is_rset, is_some, length, length-append, link_after}
-use Rattle.told_laws.proofs.Words.{map, nat_lt, not, packet_bytes, packet_count, packets_of, parts_of, put, put_all, put_out, refl, sent_all, silent, subst}
-use Rattle.told_laws.proofs.Words.{suc, sym, take, ticks_at_controller, took, took_with, true, turn, unless, with_controller, with_ended, zero, ℕ, ◌%◌, ◌++◌}
-use Rattle.told_laws.proofs.Words.{◌+◌, ◌<◌, ◌∷◌, ◌≡◌, ◌≤◌}
+use Rattle.told_laws.proofs.Words.{AllByRecursion, AllByRecursion-get, AllByRecursion-take, AsksReset, Bare, Bool, Control, Due, End, EndEvent, EndState}
+use Rattle.told_laws.proofs.Words.{FetchMessage, FewRsets, Fragment, Give, Given, GoesOut, Hold, I, IsByte, Link, LinkEnd, LinkInput, List, Lose, Loss, Message}
+use Rattle.told_laws.proofs.Words.{NextFrame, NoInput, None, NumberedEnd, OnWire, Option, Readied, Refused, Reset, Rset, S, Some, Step, Take, Taken, Tick}
+use Rattle.told_laws.proofs.Words.{Ticked, Ua, WasLost, WasReset, WireIsLow, [], after_frames, after_input, aged, aged_wire, all_frames, all_mapped, among, ap}
+use Rattle.told_laws.proofs.Words.{arith, at, becomes, by_list, by_option, by_test, common_steps, control_due, drop, each-append, ended_by, exchanged, expected}
+use Rattle.told_laws.proofs.Words.{fetched, fits, fragment_due, frame_due, frames_of, frames_out, give_refusal, given, happens, happens_at_controller}
+use Rattle.told_laws.proofs.Words.{has_input, is_open, is_rset, is_some, length, length-append, link_after, map, nat_lt, not, packet_bytes, packet_count}
+use Rattle.told_laws.proofs.Words.{packets_of, parts_of, put, put_all, put_out, refl, sent_all, silent, subst, suc, sym, take, ticks_at_controller, took}
+use Rattle.told_laws.proofs.Words.{took_with, true, turn, unless, with_controller, with_ended, zero, ℕ, ◌%◌, ◌++◌, ◌+◌, ◌<◌, ◌∷◌, ◌≡◌, ◌≤◌}
 use Rattle.history.specs.Histories.{Cause}
 
 -- ## The frames of an SHDLC end are in their ranges, whatever comes to it
@@ -40,8 +39,6 @@ Ranged e = RangedFor e.session.out e.own_window e.tries
 fresh : (out : List Fragment) (own tries made : ℕ) → made ≤ 5 → RangedFor out own tries → RangedFor [] own made
 fresh out own tries made few h = record { fragments = tt; window = h.window; few = few }
 
--- ### Frames that come
-
 -- ### Ticks
 
 -- after so many tries an end gives up, where it does
@@ -52,8 +49,7 @@ IfTries (Some tries) = tries ≤ 5
 -- ### What the node asks for
 
 pub ranged_out : (e : EndState) (fragments : List Fragment) → AllByRecursion IsFragment fragments → Ranged e → Ranged (put_out e fragments)
-ranged_out e fragments more h =
-    record { fragments = each-append IsFragment e.session.out fragments h.fragments more; window = h.window; few = h.few }
+ranged_out e fragments more h = record { fragments = each-append IsFragment e.session.out fragments h.fragments more; window = h.window; few = h.few }
 
 -- ### What goes out
 
@@ -164,10 +160,6 @@ left_with l x xs =
 numbered_more : {Q S : LinkEnd → Type 0} (n k : ℕ) (h : NumberedEnd) → n ≤ k → (Q h.side → S h.side) → NumberedSo Q n h → NumberedSo S k h
 numbered_more n k h more becomes is = grind arith
 
-numbered_within : {Q S : LinkEnd → Type 0} (n k r : ℕ) (h : NumberedEnd) → r ≤ k → (Q h.side → S h.side) → EndIsLow r h → NumberedSo Q n h
-    → NumberedSo S k h
-numbered_within n k r h more becomes low is = grind arith
-
 module _ (P : Control → Type 0) where
   -- nothing is on its way
   pub no_wire : (n : ℕ) → WireIs P n []
@@ -196,8 +188,8 @@ module _ (P : Control → Type 0) where
   so_within n k l few near far h =
       let low : l.resets ≤ k = omega (arith, few.made) in
       record {
-        near = numbered_within n k l.resets l.controller low near few.numbered.controller h.near;
-        far = numbered_within n k l.resets l.host low far few.numbered.host h.far;
+        near = grind arith;
+        far = grind arith;
         to_near = wire_within P n k l.resets l.to_controller low h.to_near few.numbered.to_controller;
         to_far = wire_within P n k l.resets l.to_host low h.to_far few.numbered.to_host;
         resets = low;
@@ -292,7 +284,7 @@ take_few (suc n) (x ∷ xs) = let few = take_few n xs in omega (arith, few)
 parts_in : (pipe n : ℕ) (left : List ℕ) → pipe < 112 → AllByRecursion IsByte left → AllByRecursion IsFragment (map packet_bytes (parts_of pipe n left))
 parts_in pipe zero left low h = tt
 parts_in pipe (suc n) left low h = (
-  (((grind arith), AllByRecursion-take IsByte 28 left h), let few = take_few 28 left in omega (arith, few)),
+  ((grind arith, AllByRecursion-take IsByte 28 left h), let few = take_few 28 left in omega (arith, few)),
   parts_in pipe n (drop 28 left) low (drop_each IsByte 28 left h),
 )
 
@@ -320,16 +312,10 @@ end_took n e c is h = grind arith
 pub opens : (n : ℕ) (e : LinkEnd) → EndIs n e → is_open e.role ≡ true
 opens n e h = ap is_open h.bare
 
-pub end_ticked : (n : ℕ) (e : LinkEnd) → EndIs n e → EndIs n (had_tick e)
-end_ticked n e h = grind arith
-
 -- a window that a reset names
 abbrev pub IsLowWindow : Option ℕ → Type 0
 IsLowWindow None = Unit {0}
 IsLowWindow (Some w) = w ≤ 4
-
-pub end_reset : (n : ℕ) (e : LinkEnd) (window : Option ℕ) → IsLowWindow window → EndIs n e → EndIs n (after_input e (Reset window))
-end_reset n e window low h = grind arith
 
 pub end_given : (n : ℕ) (e : LinkEnd) (m : Message) → IsTellable m → EndIs n e → EndIs (n + 1) (turn e (Give m))
 end_given n e m is h =
@@ -339,9 +325,6 @@ end_given n e m is h =
       few = let l = length-append e.sent (m ∷ []) in let f = h.few in omega (arith, l, f);
       ranged = ranged_out e.shdlc (map packet_bytes (packets_of m.0 m.1)) (fragments_in m is) h.ranged;
     })
-
-pub end_held : (n : ℕ) (e : LinkEnd) (held : Bool) → EndIs n e → EndIs n (turn e (Hold held))
-end_held n e held h = record { bare = h.bare; acts = h.acts; few = h.few; ranged = (grind arith) }
 
 -- ### The link
 
@@ -358,8 +341,7 @@ link_within most n k l few h = so_within IsFrame n k l few (λ s. s) (λ s. s) h
 
 -- all frames that are due at a bare end
 pub out_is : (n : ℕ) (e : LinkEnd) → EndIs n e → AllByRecursion IsFrame (frames_out e)
-out_is n e h =
-    subst (λ acts. AllByRecursion IsFrame (among 0 acts (all_frames e.shdlc))) (sym h.acts) (frames_in 12 e.shdlc h.ranged)
+out_is n e h = subst (λ acts. AllByRecursion IsFrame (among 0 acts (all_frames e.shdlc))) (sym h.acts) (frames_in 12 e.shdlc h.ranged)
 
 out_few : (n : ℕ) (e : LinkEnd) → EndIs n e → length (frames_out e) ≤ 12
 out_few n e h = subst (λ acts. length (among 0 acts (all_frames e.shdlc)) ≤ 12) (sym h.acts) (frames_few 12 e.shdlc)
@@ -386,19 +368,14 @@ link_taken most n l h = by_list l.to_controller
     (so_longer IsFrame n (n + 12) (record l { to_controller = [] }) (omega arith)
     (record { near = h.near; far = h.far; to_near = no_wire IsFrame n; to_far = h.to_far; resets = h.resets })))
     (λ x xs q. let wire : WireIs IsFrame n (x ∷ xs) = subst (WireIs IsFrame n) q h.to_near in
-    let e : LinkEnd = after_input l.controller.side (Take x.frame) in
-    rw q (link_becomes most n (left_with l x xs) (turn e FetchMessage)
+    rw q (link_becomes most n (left_with l x xs) (turn (after_input l.controller.side (Take x.frame)) FetchMessage)
     (grind arith) (so_left IsFrame n l x xs q h)))
 
 pub link_ticked : (most n : ℕ) (l : Link) → LinkIs most n l → LinkIs most (n + 12) (ticks_at_controller l [] GoesOut)
-link_ticked most n l h = link_input most n l Tick (end_ticked most l.controller.side h.near.side) h
-
-link_reset : (most n : ℕ) (window : Option ℕ) (l : Link) → IsLowWindow window → LinkIs most n l
-    → LinkIs most (n + 12) (happens_at_controller l (Step (AsksReset window) [] GoesOut))
-link_reset most n window l low h = link_input most n l (Reset window) (end_reset most l.controller.side window low h.near.side) h
+link_ticked most n l h = link_input most n l Tick (grind arith) h
 
 link_held : (most n : ℕ) (held : Bool) (l : Link) → LinkIs most n l → LinkIs most (n + 12) (happens_at_controller l (Step NoInput (Hold held ∷ []) GoesOut))
-link_held most n held l h = link_becomes most n l (turn l.controller.side (Hold held)) (end_held most l.controller.side held h.near.side) h
+link_held most n held l h = link_becomes most n l (turn l.controller.side (Hold held)) (grind arith) h
 
 link_given : (most n : ℕ) (m : Message) (l : Link) → IsTellable m → LinkIs most n l
     → LinkIs (most + 1) (n + 12) (happens_at_controller l (Step NoInput (Give m ∷ []) GoesOut))
@@ -436,7 +413,7 @@ link_caused most n l (WasLost e why) can h =
     (link_either most most n n l e (Lose why) (λ k g. so_lost IsFrame n k why g) h)
 link_caused most n l (WasReset e window) can h =
     link_more most (most + 0) (n + 12) (n + 24) _ (omega arith) (omega arith)
-    (link_either most most n (n + 12) l e (Step (AsksReset window) [] GoesOut) (λ k g. link_reset most n window k can g) h)
+    (link_either most most n (n + 12) l e (Step (AsksReset window) [] GoesOut) (λ k g. (link_input most n k (Reset window) (grind arith) g)) h)
 link_caused most n l (Readied e ready) can h =
     link_more most (most + 0) (n + 12) (n + 24) _ (omega arith) (omega arith)
     (link_either most most n (n + 12) l e (Step NoInput (Hold (not ready) ∷ []) GoesOut) (link_held most n (not ready)) h)
@@ -445,7 +422,3 @@ link_caused most n l Ticked can h =
     link_more most (most + 0) ((n + 12) + 12) (n + 24) _ (omega arith) (omega arith)
     (so_exchanged IsFrame ((n + 12) + 12) (ticks_at_controller (exchanged near) [] GoesOut)
     (link_ticked most (n + 12) (exchanged near) (so_exchanged IsFrame (n + 12) near (link_ticked most n (aged l) (so_aged IsFrame n l h)))))
-
--- nothing has happened yet
-pub bare_is : LinkIs 0 0 bare_link
-bare_is = grind arith

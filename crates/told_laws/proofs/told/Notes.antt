@@ -1,19 +1,18 @@
 -- What is noted of an input, of frames and of an event of a bare link is in its range, but for the messages that came.
 use Rattle.std.specs.Prelude.{is_some, not}
-use Rattle.told_laws.proofs.Words.{Acked, AllByRecursion, AsksReset, Bool, Control, Controller, Emit, EndEvent, FetchMessage, GaveUp, Give, Given}
-use Rattle.told_laws.proofs.Words.{GoesOut, Got, HasTick, Hold, Host, Link, LinkEnd, LinkInput, List, Lost, Message, NamedEnd, NextFrame, NoInput}
-use Rattle.told_laws.proofs.Words.{NumberedEnd, OnWire, Option, Readied, Report, Reset, Sent, Take, Taken, Ticked, TooMany, Took, WasLost, WasReset}
-use Rattle.told_laws.proofs.Words.{[], after_input, aged, aged_entries, all_map, all_mapped, anyone, arith, at, by_test, cond_both, each-append, ended_by}
-use Rattle.told_laws.proofs.Words.{event_entries, event_of, exchanged, far, first_lost, frames_out, gave_up_by, here_entries, idle, if_so, length}
-use Rattle.told_laws.proofs.Words.{nat_lt, number_of, pushed_out, put, put_entries, puts_entries, refl, report, rest_entries}
-use Rattle.told_laws.proofs.Words.{step_entries, subst, sym, taken_entries, tick_entries, ticks_at_controller, told, told_of, took_with, turn}
-use Rattle.told_laws.proofs.Words.{turn_entries, turn_entry, whole_acked, wire_with, with_ended, ℕ, ◌++◌, ◌+◌, ◌∷◌, ◌≡◌, ◌≤◌}
+use Rattle.told_laws.proofs.Words.{Acked, AllByRecursion, AsksReset, Bool, Control, Controller, Emit, EndEvent, FetchMessage, GaveUp, Give, Given, GoesOut, Got}
+use Rattle.told_laws.proofs.Words.{HasTick, Hold, Host, Link, LinkEnd, LinkInput, List, Lost, Message, NamedEnd, NextFrame, NoInput, NumberedEnd, OnWire}
+use Rattle.told_laws.proofs.Words.{Option, Readied, Report, Reset, Sent, Take, Taken, Ticked, Took, WasLost, WasReset, [], after_input, aged, aged_entries}
+use Rattle.told_laws.proofs.Words.{all_map, all_mapped, anyone, arith, at, by_test, each-append, ended_by, event_entries, event_of, exchanged, frames_out}
+use Rattle.told_laws.proofs.Words.{gave_up_by, here_entries, idle, if_so, nat_lt, number_of, put, put_entries, puts_entries, refl, report, rest_entries}
+use Rattle.told_laws.proofs.Words.{step_entries, subst, sym, taken_entries, tick_entries, ticks_at_controller, told, told_of, took_with, turn, turn_entries}
+use Rattle.told_laws.proofs.Words.{turn_entry, whole_acked, wire_with, with_ended, ℕ, ◌++◌, ◌+◌, ◌∷◌, ◌≡◌, ◌≤◌}
 use Rattle.history.specs.Histories.{Cause}
 use Rattle.link_laws.proofs.machine.Sound.{whole_few}
 use Rattle.link_laws.specs.entries.Entries.{End, Entry}
 use Rattle.link_laws.specs.entries.Entries.Entry.{Up}
-use Rattle.told_laws.proofs.told.Links.{CanTell, EndIs, FrameIs, IfTries, IsFrame, IsLowWindow, IsTellable, LinkIs, WireIs, end_given, end_held}
-use Rattle.told_laws.proofs.told.Links.{end_reset, end_ticked, end_took, left_with, link_more, link_ticked, out_is, so_aged, so_ended, so_exchanged, so_left}
+use Rattle.told_laws.proofs.told.Links.{CanTell, EndIs, FrameIs, IfTries, IsFrame, IsLowWindow, IsTellable, LinkIs, WireIs, end_given, end_took, left_with}
+use Rattle.told_laws.proofs.told.Links.{link_more, link_ticked, out_is, so_aged, so_ended, so_exchanged, so_left}
 
 -- ## What is noted of an input and of frames is in its range, whichever frames and messages may be
 
@@ -58,19 +57,13 @@ module _ (P : Control → Type 0) (S G : Message → Type 0) (n : ℕ) where
   noted_aged who [] h = tt
   noted_aged who (x ∷ xs) h = by_test (nat_lt x.age 4) (λ q. rw q (noted_aged who xs h.1)) (λ q. rw q (h.0, noted_aged who xs h.1))
 
-  pushed : (who : End) (w : List OnWire) → AreFrames P w → AreNotedOfNoting (pushed_out who w)
-  pushed who w h = cond_both (nat_lt 64 (length w)) (first_lost who TooMany w) [] AreNotedOfNoting (λ _. (grind arith)) (λ _. tt)
-
-  wire_after : (l : Link) (c : Control) → AreFrames P (wire_with l c) → AreFrames P (put l c).to_host
-  wire_after l c h = grind arith
-
   -- they go out
   pub noted_puts : (who : End) (cs : List Control) (l : Link) → AllByRecursion P cs → AreFrames P l.to_host → AreNotedOfNoting (puts_entries who l cs)
   noted_puts who [] l is h = tt
   noted_puts who (c ∷ cs) l is h =
       let more : AreFrames P (wire_with l c) = each-append (λ (x : OnWire). P x.frame) l.to_host _ h (is.0, tt) in
-      each-append IsNotedOfNoting (put_entries who l c) (puts_entries who (put l c) cs) (is.0, pushed (far who) (wire_with l c) more)
-      (noted_puts who cs (put l c) is.1 (wire_after l c more))
+      each-append IsNotedOfNoting (put_entries who l c) (puts_entries who (put l c) cs) (is.0, grind arith)
+      (noted_puts who cs (put l c) is.1 (grind arith))
 
 -- ## What is noted of an event of a bare link is in its range, but for the messages that came
 
@@ -96,17 +89,11 @@ all_more n k t more h = all_mapped Entry (IsNoted n) (IsNoted k) t (noted_more n
 acked_low : (n : ℕ) (e : LinkEnd) → EndIs n e → whole_acked e ≤ n
 acked_low n e h = let w = whole_few e.sent e.shdlc.session.acked in let f = h.few in omega (arith, w, f)
 
-number_low : (n : ℕ) (h : NumberedEnd) → h.emitted ≤ n → h.took ≤ n → number_of h ≤ n
-number_low n h a b = omega (arith, a, b)
-
-tick_tries : (n : ℕ) (e : LinkEnd) → EndIs n e → IfTries (gave_up_by e HasTick)
-tick_tries n e h = grind arith
-
 noted_input : (n : ℕ) (who : End) (h : NumberedEnd) (i : LinkInput) → h.emitted ≤ n → h.took ≤ n → EndIs n (after_input h.side i)
     → IfTries (gave_up_by h.side i)
     → AreNoted n (told_of who h i)
 noted_input n who h i a b is tries =
-    noted_told IsFrame IsTellable AnyMessage n who (number_of h) (report h.side i) (whole_acked (after_input h.side i)) (number_low n h a b)
+    noted_told IsFrame IsTellable AnyMessage n who (number_of h) (report h.side i) (whole_acked (after_input h.side i)) (omega (arith, a, b))
     (acked_low n (after_input h.side i) is) tries (anyone AnyMessage (λ m. tt) (report h.side i).got)
 
 -- ### Of the frames that go out
@@ -129,13 +116,13 @@ noted_sent n who l m is h =
 
 noted_held : (n : ℕ) (who : End) (l : Link) (held : Bool) → LinkIs n n l → AreNoted n (step_entries who l NoInput (Hold held ∷ []) GoesOut)
 noted_held n who l held h =
-    let e : LinkEnd = turn l.controller.side (Hold held) in noted_out n n who (frames_out e) l (out_is n e (end_held n l.controller.side held h.near.side)) h
+    let e : LinkEnd = turn l.controller.side (Hold held) in noted_out n n who (frames_out e) l (out_is n e (grind arith)) h
 
 noted_reset : (n : ℕ) (who : End) (l : Link) (window : Option ℕ) → IsLowWindow window → LinkIs n n l
     → AreNoted n (step_entries who l (AsksReset window) [] GoesOut)
 noted_reset n who l window low h =
     let i : LinkInput = Reset window in
-    let is : EndIs n (after_input l.controller.side i) = end_reset n l.controller.side window low h.near.side in
+    let is : EndIs n (after_input l.controller.side i) = grind arith in
     let m : Link = with_ended l (is_some (ended_by l.controller.side i)) in
     each-append (IsNoted n) (told_of who l.controller i) (rest_entries who m (after_input l.controller.side i) [] GoesOut)
     (noted_input n who l.controller i h.near.emitted h.near.took is tt)
@@ -143,10 +130,10 @@ noted_reset n who l window low h =
 
 noted_tick : (n : ℕ) (who : End) (l : Link) → LinkIs n n l → AreNoted n (tick_entries who l idle)
 noted_tick n who l h =
-    let is : EndIs n (after_input l.controller.side HasTick) = end_ticked n l.controller.side h.near.side in
+    let is : EndIs n (after_input l.controller.side HasTick) = grind arith in
     let m : Link = with_ended l (is_some (ended_by l.controller.side HasTick)) in
     each-append (IsNoted n) (told_of who l.controller HasTick) (rest_entries who m (after_input l.controller.side HasTick) [] GoesOut)
-    (noted_input n who l.controller HasTick h.near.emitted h.near.took is (tick_tries n l.controller.side h.near.side))
+    (noted_input n who l.controller HasTick h.near.emitted h.near.took is (grind arith))
     (noted_rest n n who m (after_input l.controller.side HasTick) is (so_ended IsFrame n l (is_some (ended_by l.controller.side HasTick)) h))
 
 noted_taken : (n : ℕ) (who : End) (l : Link) → LinkIs n n l → AreNoted n (step_entries who l NextFrame (FetchMessage ∷ []) GoesOut)

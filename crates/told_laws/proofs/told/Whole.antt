@@ -73,18 +73,13 @@ module _ (header : Header) where
     steps_on l (said ∷ lines) =
         record { line = said; outcome = outcome_of (host_of header) l said } ∷ steps_on (link_after_line l (outcome_of (host_of header) l said)) lines
 
-    one_more : (before : List Line) (said : Line)
-        → bare_link_behind header (before ++ said ∷ [])
-        ≡ link_after_line (bare_link_behind header before) (outcome_of (host_of header) (bare_link_behind header before) said)
-    one_more before said = lines-append (host_of header) before (said ∷ []) bare_link
-
     bare_follows : header.hci ≡ false → (lines before : List Line) (l : Link) → bare_link_behind header before ≡ l → AreSure before lines
         → StepsFollow (host_of header) l lines (steps_on l lines)
     bare_follows bare [] before l is sure = tt
     bare_follows bare (said ∷ lines) before l is sure =
         let same : misread_below header before said ≡ misread l said = rw bare (ap (λ (m : Link). misread m said) is) in
         let next : bare_link_behind header (before ++ said ∷ []) ≡ link_after_line l (outcome_of (host_of header) l said) =
-        one_more before said ∙ ap (λ (m : Link). link_after_line m (outcome_of (host_of header) m said)) is in
+        (lines-append (host_of header) before (said ∷ []) bare_link) ∙ ap (λ (m : Link). link_after_line m (outcome_of (host_of header) m said)) is in
         (refl, refl, sym same ∙ sure.0, bare_follows bare lines (before ++ said ∷ []) (link_after_line l (outcome_of (host_of header) l said)) next sure.1)
 
     bare_behind : header.hci ≡ false → (lines before : List Line) (l : Link) → bare_link_behind header before ≡ l
@@ -95,7 +90,7 @@ module _ (header : Header) where
         let here : List Entry = noted outcome in
         let later : List Entry = flat_map step_told (steps_on (link_after_line l outcome) lines) in
         let next : bare_link_behind header (before ++ said ∷ []) ≡ link_after_line l outcome =
-        one_more before said ∙ ap (λ (m : Link). link_after_line m (outcome_of (host_of header) m said)) is in
+        (lines-append (host_of header) before (said ∷ []) bare_link) ∙ ap (λ (m : Link). link_after_line m (outcome_of (host_of header) m said)) is in
         each-append IsEntry (told_below header before said) (told_behind header (before ++ said ∷ []) lines)
         (subst (AllByRecursion IsEntry) (sym (grind arith)) (front_each IsEntry here later told.1))
         (bare_behind bare lines (before ++ said ∷ []) (link_after_line l outcome) next (back_each IsEntry here later told.1))
@@ -141,11 +136,6 @@ module _ (header : Header) where
         (rounds_told n (before ++ Round ∷ []) ∙ ap (λ (ls : List Line). told_behind header ls rest) (played_more header before Round))
         ∙ sym (behind-append header round rest lines)
 
-    said_told : (before : List Play) (said : Line)
-        → AllByRecursion IsEntry (told_behind header (lines_played header before) (lines_from header before (Said said ∷ [])))
-        → AllByRecursion IsEntry (told_below header (lines_played header before) said)
-    said_told before said told = front_each IsEntry (told_below header (lines_played header before) said) [] told
-
     line_told : (before : List Play) (said : Line) → MayFollow header said
         → AllByRecursion IsEntry (told_behind header (lines_played header before) (lines_from header before (plays_of_line header before said)))
         → AllByRecursion IsEntry (told_of_line header before said)
@@ -153,7 +143,7 @@ module _ (header : Header) where
         let few = at_most header before n in
         each-append IsEntry (told_of_rounds header before (rounds_to_rest header before n)) _
         (subst (AllByRecursion IsEntry) (sym (rounds_told (rounds_to_rest header before n) before)) told) (omega (arith, few, may.1), tt)
-    line_told before l may told = said_told before l told
+    line_told before l may told = (front_each IsEntry (told_below header (lines_played header before) l) [] told)
 
     abbrev NoneIsMisreadOf : List Line → Type 0
     NoneIsMisreadOf lines =
@@ -174,7 +164,7 @@ module _ (header : Header) where
         let told : AllByRecursion IsEntry (told_of_line header before said) =
         line_told before said may_said
         (told_later before (plays_of_line header before said) (subst (AllByRecursion (IsPlayFor header)) next (plays_for header now may_now))
-        (subst AreFewPlays next (few_plays header now may_now (omega (arith, (ap length parts), (length-append now lines), few)))) sure_now) in
+        (subst AreFewPlays next (few_plays header now may_now (omega (arith, ap length parts, length-append now lines, few)))) sure_now) in
         let rest : AllByRecursion IsEntry (told_of_lines header (plays_of header now) lines) =
         lines_told lines now whole parts may few none (subst AreSurePlays (sym next) sure_now) in
         each-append IsEntry (Echo said ∷ told_of_line header before said) (told_of_lines header (before ++ plays_of_line header before said) lines)

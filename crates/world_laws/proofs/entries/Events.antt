@@ -4,9 +4,9 @@ use Rattle.world_laws.proofs.Words.{ActTick, Activate, Activation, AllAllowed, A
 use Rattle.world_laws.proofs.Words.{Control, Controller, CoreActs, CoreAreTurns, CoreAtController, CoreAtHost, CoreEndEvent, CoreLink, CoreLinkEvent, CoreTick}
 use Rattle.world_laws.proofs.Words.{CoreTickWithout, CoreTurn, CutOff, EndEvent, EndState, EndStep, Ending, GoesOut, Good, HasItsTick, HasTick, Host, IsAllowed}
 use Rattle.world_laws.proofs.Words.{IsDown, IsEvent, IsNode, IsOwn, IsStart, IsUicc, Link, LinkEnd, LinkEvent, List, Lose, Mid, Node, None, NoneIsCut}
-use Rattle.world_laws.proofs.Words.{NumberedEnd, Option, Reached, Rests, Role, SafeLink, Some, Starts, StartsSo, Step, Tells, Ticks, TicksWithout, Turn, Turns}
-use Rattle.world_laws.proofs.Words.{[], act_answer, act_mid, activated, after_input, aged, aged_entries, all_at_controller, all_here-append, all_step, allowed}
-use Rattle.world_laws.proofs.Words.{ap, append-nil, append_assoc, arith, can_start, clf_starts, core_after, core_aged, core_all, core_all_here, core_event}
+use Rattle.world_laws.proofs.Words.{NumberedEnd, Option, Reached, Rests, Role, SafeLink, Some, Starts, Step, Tells, Ticks, TicksWithout, Turn, Turns, []}
+use Rattle.world_laws.proofs.Words.{act_answer, act_mid, activated, after_input, aged, aged_entries, all_at_controller, all_here-append, all_step, allowed, ap}
+use Rattle.world_laws.proofs.Words.{append-nil, append_assoc, arith, can_start, clf_starts, core_after, core_aged, core_all, core_all_here, core_event}
 use Rattle.world_laws.proofs.Words.{core_events, core_exchanged, core_happens, core_happens_here, core_here, core_of, core_starts, core_tick, core_tick_rest}
 use Rattle.world_laws.proofs.Words.{core_tick_rests, core_ticks_here, core_ticks_if_waiting, core_ticks_or_cut, core_turned, core_turns, emitted, emitted_event}
 use Rattle.world_laws.proofs.Words.{emitted_here, emitted_if_waiting, emitted_tick, emitted_turns, ended_by, entries, entries_of_events, event_entries}
@@ -484,7 +484,7 @@ event_notes l (TicksWithout es h) a g r q =
     let b : List Control = emitted_turns (core_of near) all in
     let none : reports_to true (got_turns (core_of near) all) ≡ [] = ap (reports_to true) (turns_bring_none all (core_of near) two.turns) in
     let x : CoreLink = core_all_here start all in
-    let n = tick_frames l m x h u [] [] b ((grind arith)) in
+    let n = tick_frames l m x h u [] [] b (grind arith) in
     let us : List Control = emitted_if_waiting (core_aged (core_of l)) ++ emitted_turns start all in
     let last = far_power l m h host far_tick.ends in
     tick_done l (CoreTickWithout all (core_tick l.host.side h.turns h.ending)) x us h
@@ -546,9 +546,6 @@ run_notes (e ∷ events) l a g r q =
           (both-append (emitted (core_of l) es) (emitted (core_of m) fs) one.written two.written);
     }
 
-starts_so : (l : Link) → IsStart l → StartsSo (is_bare l.controller.side.role) (core_of l)
-starts_so l a = grind arith
-
 -- a new tap over all frames of a run reports what was got
 pub tap_reports : (l : Link) → IsStart l → (events : List LinkEvent) → AllAllowed l events → NoCut (trace l events)
     → tapped (is_bare l.controller.side.role) (frames_heard (trace l events)) ≡ gots_noted (trace l events)
@@ -559,7 +556,7 @@ tap_reports l s events a q =
     let n = run_notes events l a (start_good l s) (start_reached l s) (no_cut_parts (first_entries r) t q).1 in
     let all = notes_then (first_entries r) t [] (emitted (core_of l) es) [] (got (core_of l) es) (grind arith) n.notes in
     ap (tapped (is_bare r)) all.frames
-    ∙ (reported (is_bare r) (core_of l) (core_starts l s) (starts_so l s) es (allowed l s events a) n.power ∙ sym all.gots)
+    ∙ (reported (is_bare r) (core_of l) (core_starts l s) (grind arith) es (allowed l s events a) n.power ∙ sym all.gots)
 
 -- so it does over the LPDUs of these frames
 pub tap_reports_lpdus : (l : Link) → IsStart l → (events : List LinkEvent) → AllAllowed l events → NoCut (trace l events)

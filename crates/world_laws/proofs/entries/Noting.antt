@@ -2,16 +2,14 @@
 use Rattle.std.specs.Prelude.{is_some, nat_lt, ◌||◌}
 use Rattle.world_laws.proofs.Words.{Acked, ActEvent, ActStart, ActStop, Active, AllKeepPower, AreSendableTurns, AsksReset, Bool, Comes, ComesFirst, Control}
 use Rattle.world_laws.proofs.Words.{CoreDeliver, CoreEndEvent, CoreReset, CoreTurns, Cut, CutOff, EndEvent, Ending, FromHost, GaveUp, GoesOut, Got, IsAllowed}
-use Rattle.world_laws.proofs.Words.{IsOwn, Link, LinkEnd, LinkInput, List, Lose, Loss, Message, NextFrame, NoInput, None, NumberedEnd, OnWire, Option}
-use Rattle.world_laws.proofs.Words.{Report, Reset, Rests, Some, Start, Starts, Step, Stop, Stops, Take, TapReport, Tells, TooMany, Turn, [], activated}
-use Rattle.world_laws.proofs.Words.{after_input, aged_entries, ap, append-nil, arith, by_list, by_option, by_test, core_ending, core_first}
-use Rattle.world_laws.proofs.Words.{core_happens_here, core_here, core_of, core_reset, core_restart, core_step, core_take, core_turns, deactivated}
-use Rattle.world_laws.proofs.Words.{emitted_turns, ended_by, false, far, first_lost, frames_by, frames_heard, frames_out, got_by, got_turns, gots_noted}
-use Rattle.world_laws.proofs.Words.{here_entries, if_so, is_clf, is_cut, left_after, length, list_any, map, moved, number_of, option_to_list, or_parts}
-use Rattle.world_laws.proofs.Words.{pushed_out, put, put_entries, puts_entries, refl, report, reports_to, reset_by, reset_refusal, rest_entries}
-use Rattle.world_laws.proofs.Words.{restart_entries, silent, started, step_entries, stopped, subst, sym, taken_entries, told, told_of, took_with, true, turn}
-use Rattle.world_laws.proofs.Words.{turn_entries, turn_entry, turned, whole_acked, window_of, wire_with, with_ended, ℕ, ◌++◌, ◌∙◌, ◌∷◌, ◌≡◌}
-use Rattle.link_laws.specs.machine.Machine.{Refused}
+use Rattle.world_laws.proofs.Words.{IsOwn, Link, LinkEnd, LinkInput, List, Lose, Message, NextFrame, NoInput, NumberedEnd, OnWire, Option, Report, Reset, Rests}
+use Rattle.world_laws.proofs.Words.{Start, Starts, Step, Stop, Stops, Take, TapReport, Tells, Turn, [], activated, after_input, aged_entries, ap, append-nil}
+use Rattle.world_laws.proofs.Words.{arith, by_list, by_option, by_test, core_ending, core_first, core_happens_here, core_here, core_of, core_restart, core_step}
+use Rattle.world_laws.proofs.Words.{core_take, core_turns, deactivated, emitted_turns, ended_by, false, far, frames_by, frames_heard, frames_out, got_by}
+use Rattle.world_laws.proofs.Words.{got_turns, gots_noted, here_entries, if_so, is_clf, is_cut, left_after, length, list_any, map, moved, number_of}
+use Rattle.world_laws.proofs.Words.{option_to_list, or_parts, pushed_out, put, put_entries, puts_entries, refl, report, reports_to, reset_by, reset_refusal}
+use Rattle.world_laws.proofs.Words.{rest_entries, restart_entries, silent, started, step_entries, stopped, subst, sym, taken_entries, told, told_of, took_with}
+use Rattle.world_laws.proofs.Words.{true, turn, turn_entries, turn_entry, turned, whole_acked, window_of, wire_with, with_ended, ℕ, ◌++◌, ◌∙◌, ◌∷◌, ◌≡◌}
 use Rattle.link_laws.proofs.messages.ActsInOrder.{LinkInOrder, IsPolite, polite_of}
 use Rattle.link_laws.specs.entries.Entries.{End, Entry}
 use Rattle.link_laws.specs.entries.Entries.Entry.{Up, Down, Emit}
@@ -82,11 +80,8 @@ notes_turns who n e [] = silent_none
 notes_turns who n e (t ∷ ts) =
     notes_then (turn_entry who n e t) (turn_entries who n (turn e t) ts) [] [] [] [] (grind arith) (notes_turns who n (turn e t) ts)
 
-pub silent_first : (who : End) (why : Loss) (w : List OnWire) → Silent (first_lost who why w)
-silent_first who why w = grind arith
-
 silent_pushed : (who : End) (w : List OnWire) → Silent (pushed_out who w)
-silent_pushed who w = by_test (nat_lt 64 (length w)) (λ q. rw q (silent_first who TooMany w)) (λ q. rw q silent_none)
+silent_pushed who w = by_test (nat_lt 64 (length w)) (λ q. rw q (grind arith)) (λ q. rw q silent_none)
 
 pub silent_aged : (who : End) (w : List OnWire) → Silent (aged_entries who w)
 silent_aged who [] = silent_none
@@ -162,11 +157,11 @@ reset_notes : (who : End) (l : Link) (window : Option ℕ) (ts : List Turn) → 
 reset_notes who l window ts a h = by_option (reset_refusal e)
     (λ q. let is : after_input e (Reset window) ≡ reset_by e w = rw q refl in
     let fs : List CoreEndEvent = CoreReset w (core_turns (reset_by e w) ts) ∷ [] in
-    notes_same who l es fs t t (core_is None q) refl
+    notes_same who l es fs t t (grind arith) refl
     (noted who l fs t (frames_out (turned (reset_by e w) ts)) [] (reset_sends l w ts a h q) (notes (reset_by e w) is) (tt, tt)))
     (λ why q. let is : after_input e (Reset window) ≡ e = rw q refl in
     let fs : List CoreEndEvent = CoreTurns (core_turns e ts) ∷ [] in
-    notes_same who l es fs t t (core_is (Some why) q) refl
+    notes_same who l es fs t t (grind arith) refl
     (noted who l fs t (frames_out (turned e ts)) [] (idle_sends l ts a h) (notes e is) (tt, tt)))
   where
     e : LinkEnd
@@ -180,9 +175,6 @@ reset_notes who l window ts a h = by_option (reset_refusal e)
 
     t : List Entry
     t = step_entries who l (AsksReset window) ts GoesOut
-
-    core_is : (o : Option Refused) → reset_refusal e ≡ o → es ≡ core_reset o e w ts GoesOut
-    core_is o q = ap (λ z. core_reset z e w ts GoesOut) q
 
     notes : (f : LinkEnd) → after_input e (Reset window) ≡ f → Notes t (frames_by (is_clf who) (frames_out (turned f ts))) []
     notes f q =
@@ -239,9 +231,9 @@ own_notes who l NoInput ts CutOff o a h q = absurd (cut_noted who l l.controller
 frame_notes : (who : End) (l : Link) (ts : List Turn) (ending : Ending) → AreSendableTurns ts → Ready l → NoCut (step_entries who l NextFrame ts ending)
     → StepNotes who l (core_step l NextFrame ts ending) (step_entries who l NextFrame ts ending)
 frame_notes who l ts ending a b q = by_list l.to_controller
-    (λ w. notes_same who l es [] t [] (none_core w) (none_entries w) (record { notes = record { frames = refl; gots = refl }; power = tt; written = tt }))
+    (λ w. notes_same who l es [] t [] (none_core w) (rw w refl) (record { notes = record { frames = refl; gots = refl }; power = tt; written = tt }))
     (λ x xs w. let P : List Entry → Type 0 = λ z. NoCut z in
-    notes_same who l es (core_take e x.frame ts ++ core_ending ending) t (taken_entries who l x xs ts ending) (some_core x xs w) (some_entries x xs w)
+    notes_same who l es (core_take e x.frame ts ++ core_ending ending) t (taken_entries who l x xs ts ending) (rw w refl) (some_entries x xs w)
     (by x xs w ending (subst P (some_entries x xs w) q)))
   where
     e : LinkEnd
@@ -256,17 +248,8 @@ frame_notes who l ts ending a b q = by_list l.to_controller
     none_core : l.to_controller ≡ [] → es ≡ []
     none_core w = rw w refl
 
-    none_entries : l.to_controller ≡ [] → t ≡ []
-    none_entries w = rw w refl
-
-    some_core : (x : OnWire) (xs : List OnWire) → l.to_controller ≡ x ∷ xs → es ≡ core_take e x.frame ts ++ core_ending ending
-    some_core x xs w = rw w refl
-
     some_entries : (x : OnWire) (xs : List OnWire) → l.to_controller ≡ x ∷ xs → t ≡ taken_entries who l x xs ts ending
     some_entries x xs w = rw w refl
-
-    polite : IsPolite e l.to_controller
-    polite = polite_of e l.host.side.role l.to_controller l.to_host b.in_order b.tells.now.closed
 
     by : (x : OnWire) (xs : List OnWire) → l.to_controller ≡ x ∷ xs → (ending : Ending) → NoCut (taken_entries who l x xs ts ending)
         → StepNotes who l (core_take e x.frame ts ++ core_ending ending) (taken_entries who l x xs ts ending)
@@ -277,7 +260,7 @@ frame_notes who l ts ending a b q = by_list l.to_controller
     by x xs w GoesOut q =
         let comes : ComesFirst l x xs = record {
           first = w;
-          polite = subst (IsPolite e) w polite;
+          polite = subst (IsPolite e) w (polite_of e l.host.side.role l.to_controller l.to_host b.in_order b.tells.now.closed);
           tells = b.tells;
           host = b.host;
           rests = b.rests;
@@ -294,6 +277,6 @@ frame_notes who l ts ending a b q = by_list l.to_controller
 -- whatever happens at the controller's end
 pub here_notes : (who : End) (l : Link) (e : EndEvent) → IsAllowed l e → Ready l → NoCut (here_entries who l e)
     → StepNotes who l (core_here l e) (here_entries who l e)
-here_notes who l (Lose why) a b q = record { notes = silent_first who why l.to_controller; power = (tt, tt); written = tt }
+here_notes who l (Lose why) a b q = record { notes = grind arith; power = (tt, tt); written = tt }
 here_notes who l (Step NextFrame ts ending) a b q = frame_notes who l ts ending a.1.0 b q
 here_notes who l (Step comes ts ending) a b q = own_notes who l comes ts ending tt a.1.0 b.tells q

@@ -227,12 +227,6 @@ take_sends l ts x xs a comes = go x.frame refl
     Goal : Type 0
     Goal = Sends l (core_take e x.frame ts) (frames_out (turned (took e x.frame) ts)) (got_now l x)
 
-    take_open : (y : Control) → is_act y ≡ false → is_open e.role ≡ true → core_take e y ts ≡ CoreDeliver (core_turns (took e y) ts) ∷ []
-    take_open y q o = grind arith
-
-    take_closed : (y : Control) → is_act y ≡ false → is_open e.role ≡ false → core_take e y ts ≡ CoreIgnore (core_turns (took e y) ts) ∷ []
-    take_closed y q o = grind arith
-
     -- an end that is open became f, and got these messages
     open_as : (f : LinkEnd) (b : Bool) → is_act x.frame ≡ false → is_open e.role ≡ true → took e x.frame ≡ f → Heard e f x b
         → got_with (core_number_of c.controller) e.shdlc.session.acc (take_answer e.shdlc x.frame).accepted ≡ got_now l x → Goal
@@ -242,7 +236,7 @@ take_sends l ts x xs a comes = go x.frame refl
         let s : EndState = core_turned (taken e.shdlc x.frame) us in
         let shdlc : (turned f ts).shdlc ≡ s = tm.is ∙ ap (λ z. core_turned z us) heard.shdlc in
         sends_same l (core_take e x.frame ts) (CoreDeliver us ∷ []) (frames_out (turned (took e x.frame) ts)) (got_now l x)
-        (take_open x.frame q o ∙ ap (λ g. CoreDeliver (core_turns g ts) ∷ []) is)
+        ((grind arith) ∙ ap (λ g. CoreDeliver (core_turns g ts) ∷ []) is)
         (record {
           frames = append-nil (emitted_here c (CoreDeliver us)) ∙ (grind arith);
           gets = append-nil (got_here c (CoreDeliver us)) ∙ ((rw comes.first refl) ∙ gets);
@@ -258,16 +252,12 @@ take_sends l ts x xs a comes = go x.frame refl
         let shdlc : (turned f ts).shdlc ≡ s = tm.is ∙ ap (λ z. core_turned z us) same in
         let down = comes.tells.now.closed o in
         sends_same l (core_take e x.frame ts) (CoreIgnore us ∷ []) (frames_out (turned (took e x.frame) ts)) (got_now l x)
-        (take_closed x.frame q o ∙ ap (λ g. CoreIgnore (core_turns g ts) ∷ []) is)
+        ((grind arith) ∙ ap (λ g. CoreIgnore (core_turns g ts) ∷ []) is)
         (record {
           frames = append-nil (emitted_here c (CoreIgnore us)) ∙ (grind arith);
           gets = gets;
           written = subst (λ g. AreWritten (frames_out (turned g ts))) (sym is) (out_written None (turned f ts) tm.mid);
         })
-
-    got_open : (y : Control) → is_shdlc y ≡ true → is_open e.role ≡ true → is_faulty (taken e.shdlc y).session ≡ false
-        → got_by e (Take y) ≡ news e.shdlc.session (taken e.shdlc y)
-    got_open y q o f = grind arith
 
     got_closed : (y : Control) → is_open e.role ≡ false → got_by e (Take y) ≡ []
     got_closed y o = grind arith
@@ -291,7 +281,7 @@ take_sends l ts x xs a comes = go x.frame refl
         let acc : List Fragment = e.shdlc.session.acc in
         open_as (heard_end e x) (is_some (take_answer e.shdlc x.frame).ended) q o f.0 (heard_is e x comes.tells.now o)
         (numbers x.frame refl acc ∙ ((grind arith)
-        ∙ ap (numbered n) (sym (got_open x.frame s o sound ∙ news_is e.shdlc x.frame sound))))
+        ∙ ap (numbered n) (sym ((grind arith) ∙ news_is e.shdlc x.frame sound))))
     shdlc false o s q =
         let f = took_closed e x.frame s o in closed_as e q o f.0 refl comes.tells.now (ap (numbered n) (sym (got_closed x.frame o)))
 
@@ -368,9 +358,8 @@ restart_sends l event ts a h =
     let e : LinkEnd = l.controller.side in
     let o : Option Activation = (act_answer e.role event).send in
     let f : LinkEnd = activated (moved e true (stopped e.shdlc)) event in
-    let m = restart_mid e event h.now in
     let us : List CoreTurn = core_turns f ts in
-    let tm = turns_mid o f ts a m.mid in
+    let tm = turns_mid o f ts a (restart_mid e event h.now).mid in
     let s : EndState = core_turned (stopped e.shdlc) us in
     record {
       frames = append-nil (frames_now o ++ sent_then (core_silent (core_of l) (stopped e.shdlc)).controller.side us)

@@ -49,10 +49,6 @@ KnowsLink bare t l = Knows bare t l.controller l.host l.to_controller l.to_host 
 
 -- ### Sessions by number
 
--- an end that isn't Up has ended sessions alone
-pub session_ended : (h : NumberedShdlc) → (h.side.phase ≡ Up → ⊥) → (k : ℕ) → shdlc_session_of h k ≡ ended_session h.past k
-session_ended h down k = grind arith
-
 -- the session of an end at a number that it doesn't have
 session_other : (h : NumberedShdlc) (k : ℕ) → (k ≡ shdlc_number_of h → ⊥) → shdlc_session_of h k ≡ ended_session h.past k
 session_other h k other = grind arith
@@ -110,12 +106,6 @@ still_no_ua w x q (inr p) = inr p
 -- a number that says what is counted already
 tells_none : (s t : TapSide) (n : ℕ) → s.count ≡ n → tells_more s t (n % 8) ≡ false
 tells_none s t n q = grind arith
-
-same_number : (s t : TapSide) (nr : ℕ) → tells_more s t nr ≡ false → with_number s t nr ≡ s
-same_number s t nr q = rw q refl
-
-told_none : (s t : TapSide) (nr : ℕ) → tells_more s t nr ≡ false → told_by s t nr ≡ []
-told_none s t nr q = rw q refl
 
 either : {X : Type 0} (b : Bool) (x : X) → cond b x x ≡ x
 either b x = grind arith
@@ -265,10 +255,10 @@ goes_fragment {bare} {t} {n} {f} {to_n} {to_f} {r} {info} x frame up is g = (
     heard : tap_hears bare t (I ns nr info) ≡ record t { clf = side }
     heard =
         ap (λ b. cond b (record t { clf = with_number side t.uicc nr }) t) counts
-        ∙ ap (λ z. record t { clf = z }) (same_number side t.uicc nr (tells_none side t.uicc (length s.acc) c.1))
+        ∙ ap (λ z. record t { clf = z }) (rw (tells_none side t.uicc (length s.acc) c.1) refl)
 
     quiet : tap_tells bare t (I ns nr info) ≡ []
-    quiet = ap (λ b. cond b (told_by t.clf t.uicc nr) []) counts ∙ told_none t.clf t.uicc nr (tells_none t.clf t.uicc (length s.acc) c.1)
+    quiet = ap (λ b. cond b (told_by t.clf t.uicc nr) []) counts ∙ (rw (tells_none t.clf t.uicc (length s.acc) c.1) refl)
 
     list : (t.uicc.number ≡ t.clf.number) ⊎ (t.uicc.number ≡ t.clf.number → ⊥) → listed_at side t.uicc.number ≡ ever_sent (shdlc_session_of m t.uicc.number)
     list (inl q) =
@@ -466,17 +456,14 @@ pub record Went (bare : Bool) (t : TapState) (l : ShdlcLink) (e : EndState) (tol
 goes_out : (bare : Bool) (t : TapState) (l : ShdlcLink) (e : EndState) (told : List (ℕ × ℕ × List ℕ)) → TapPending bare t l e told → Went bare t l e told
 goes_out bare t l e told h =
     let f = frames_in_order e.due 12 e refl (omega (arith, h.few)) in
-    let q : EndState = record e { due = [] } in
-    let u : TapState = hears_all bare t (controls e) in
-    let k : ShdlcLink = shdlc_put_all l (controls e) in
-    let d = drains bare f.0 q u k refl h.goes in
+    let d = drains bare f.0 (record e { due = [] }) (hears_all bare t (controls e)) (shdlc_put_all l (controls e)) refl h.goes in
     let P : TapState → ShdlcLink → EndState → Type 0 = λ z j x. KnowsLink bare z (record j { controller = record j.controller { side = x } }) in
     grind arith
 
 -- an end with nothing to answer
 pub went_none : (bare : Bool) (t : TapState) (ts : List ShdlcTurn) (l : ShdlcLink) (e : EndState) → e.due ≡ [] → GoesAt bare t l e
     → Went bare t l (shdlc_turned e ts) []
-went_none bare t ts l e due g = let h0 = goes_out bare t l (shdlc_turned e ts) [] (turns_wait bare t l ts e [] ((grind arith))) in grind arith
+went_none bare t ts l e due g = let h0 = goes_out bare t l (shdlc_turned e ts) [] (turns_wait bare t l ts e [] (grind arith)) in grind arith
 
 -- an end with one control frame to send, which goes first, and tells this
 pub went_one : (bare : Bool) (t : TapState) (ts : List ShdlcTurn) (l : ShdlcLink) (e : EndState) (d : Due) (told : List (ℕ × ℕ × List ℕ)) → e.due ≡ d ∷ []

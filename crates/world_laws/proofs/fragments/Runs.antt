@@ -81,8 +81,7 @@ ignore_heard bare t ts l s h = go l.controller.side.phase refl l.to_controller r
         let m : NumberedShdlc = record n { took = took_with n.took x } in
         let k : ShdlcLink = record l { to_controller = xs; controller = m } in
         let c = counts l x xs q (subst (λ v. Safe 0 0 n l.host (sans v) (sans l.to_host) l.resets) w s) in
-        let g : GoesAt bare t k n.side = grind arith in
-        went_none bare t ts k n.side s.n_due g
+        went_none bare t ts k n.side s.n_due (grind arith)
       where
         left : (x : OnWire) (xs : List OnWire) → NoUa (x ∷ xs) ⊎ (n.emitted ≤ t.uicc.number) → NoUa xs ⊎ (n.emitted ≤ t.uicc.number)
         left x xs (inl z) = inl (grind arith)
@@ -166,8 +165,7 @@ idle_asks {bare} {t} ts l q no_up waits none due out s h =
     let n : NumberedShdlc = l.controller in
     let v : EndState = record q { due = [] } in
     let m : NumberedShdlc = record { side = v; emitted = l.resets + 1; took = n.took; past = n.past } in
-    let alike : Alike n m = grind arith in
-    went_one bare t ts l q Rset_due [] due (goes_rset l v n.past q.own_window 0 waits none alike h.near.past out s h) refl
+    went_one bare t ts l q Rset_due [] due (goes_rset l v n.past q.own_window 0 waits none (grind arith) h.near.past out s h) refl
 
 reset_heard : {kf : ℕ} (bare : Bool) (t : TapState) (ts : List ShdlcTurn) (l : ShdlcLink) (w : ℕ) → SafeLink 0 kf l → KnowsLink bare t l
     → HeardHere bare t l (Reset w ts)
@@ -198,11 +196,8 @@ stop_heard bare t l s h = record { knows = grind arith; tells = refl }
     n : NumberedShdlc
     n = l.controller
 
-    q : EndState
-    q = stopped n.side
-
-    made : (past : List (ℕ × Session)) → Alike n (record n { side = q; past = past }) → Below (t.clf.number + 1) past
-        → Knows bare t (record n { side = q; past = past }) l.host [] [] l.resets
+    made : (past : List (ℕ × Session)) → Alike n (record n { side = (stopped n.side); past = past }) → Below (t.clf.number + 1) past
+        → Knows bare t (record n { side = (stopped n.side); past = past }) l.host [] [] l.resets
     made past alike below = grind arith
 
     no : (u : Down ≡ Up) → ⊥
@@ -248,14 +243,8 @@ tick_heard {kf} bare t ts l s h = go e.phase (runs_timer e.session) (nat_lt (e.t
     Goal : Type 0
     Goal = Heard bare t (shdlc_ticks_at_controller l ts) (emitted_tick l (Some ts)) []
 
-    g : GoesAt bare t l e
-    g = goes_of l s h
-
     by_parts : (q : EndState) (b : Bool) → ticked e ≡ q → is_some (tick_answer e).ended ≡ b → Went bare t (with_shdlc_ended l b) (shdlc_turned q ts) [] → Goal
     by_parts q b p r w = record { knows = rw (p, r) w.knows; tells = rw p w.tells }
-
-    counted : GoesAt bare t l (record e { timer = e.timer + 1 })
-    counted = grind arith
 
     again : e.phase ≡ Up → GoesAt bare t l (sent_again e)
     again up = grind arith
@@ -264,18 +253,18 @@ tick_heard {kf} bare t ts l s h = go e.phase (runs_timer e.session) (nat_lt (e.t
     late r = nothing_out s.hand (let i = ltb-false (e.timer + 1) 10 r in omega (arith, i))
 
     go : (p : LinkState) (a b c : Bool) → e.phase ≡ p → runs_timer e.session ≡ a → nat_lt (e.timer + 1) 10 ≡ b → nat_lt e.tries 5 ≡ c → Goal
-    go Down a b c p q r v = by_parts e false (rw p refl) (rw p refl) (went_none bare t ts l e s.n_due g)
-    go Up false b c p q r v = by_parts e false (rw (p, q) refl) (rw (p, q) refl) (went_none bare t ts l e s.n_due g)
+    go Down a b c p q r v = by_parts e false (rw p refl) (rw p refl) (went_none bare t ts l e s.n_due (goes_of l s h))
+    go Up false b c p q r v = by_parts e false (rw (p, q) refl) (rw (p, q) refl) (went_none bare t ts l e s.n_due (goes_of l s h))
     go Up true true c p q r v =
         by_parts (record e { timer = e.timer + 1 }) false (rw (p, q, r) refl) (rw (p, q, r) refl)
-        (went_none bare t ts l (record e { timer = e.timer + 1 }) s.n_due counted)
+        (went_none bare t ts l (record e { timer = e.timer + 1 }) s.n_due (grind arith))
     go Up true false true p q r v =
         by_parts (sent_again e) false (rw (p, q, r, v) refl) (rw (p, q, r, v) refl) (went_none bare t ts l (sent_again e) s.n_due (again p))
     go Up true false false p q r v =
         by_parts (waiting_from e) true (rw (p, q, r, v) refl) (rw (p, q, r, v) refl) (up_asks ts l e p p s h)
     go Waiting a true c p q r v =
         by_parts (record e { timer = e.timer + 1 }) false (rw (p, r) refl) (rw (p, r) refl)
-        (went_none bare t ts l (record e { timer = e.timer + 1 }) s.n_due counted)
+        (went_none bare t ts l (record e { timer = e.timer + 1 }) s.n_due (grind arith))
     go Waiting a false true p q r v =
         let no_up : e.phase ≡ Up → ⊥ = λ u. let y = sym p ∙ u in cc in
         by_parts (asked_again e) false (rw (p, r, v) refl) (rw (p, r, v) refl)

@@ -4,14 +4,13 @@ use Rattle.world_laws.proofs.Words.{OnWire, Option, Rej, Rej_due, Rnr, Rnr_due, 
 use Rattle.world_laws.proofs.Words.{TakenUp, TapSide, TapState, Ua, Ua_due, Up, Waiting, [], ap, append_assoc, are_taken, arith, below_more, brought_by}
 use Rattle.world_laws.proofs.Words.{by_option, by_test, cond, drop, ended_session, eq-eqb, expected, false, fits, frame_cases, given_by, good_of, got_with}
 use Rattle.world_laws.proofs.Words.{hears_all, inl, inr, is_in_session, is_some, length, length-append, length-take-le, listed_at, live, lt-ltb, ltb-true, map}
-use Rattle.world_laws.proofs.Words.{max, min, nat_lt, ne_eqb, new_session, news_behind, no_session, none_ended, not_rset, packets_in, pair_from, passes, refl}
-use Rattle.world_laws.proofs.Words.{rset_told, rsets, sans, sent_then, session_with, shdlc_number_of, shdlc_put, shdlc_session_of, shdlc_turned, subst, suc}
-use Rattle.world_laws.proofs.Words.{sym, take, take_answer, taken, taken_up, tap_hears, tap_tells, tells_all, tells_more, told_by, took_other, took_with, true}
-use Rattle.world_laws.proofs.Words.{ua_told, up_with, with_number, with_shdlc_ended, zero, ℕ, ◌%◌, ◌++◌, ◌+◌, ◌<◌, ◌==◌, ◌∙◌, ◌∷◌, ◌≡◌, ◌≤◌, ◌⊎◌}
+use Rattle.world_laws.proofs.Words.{max, min, nat_lt, ne_eqb, news_behind, no_session, none_ended, not_rset, packets_in, pair_from, passes, refl, rset_told}
+use Rattle.world_laws.proofs.Words.{rsets, sans, sent_then, session_with, shdlc_number_of, shdlc_put, shdlc_session_of, shdlc_turned, subst, suc, sym, take}
+use Rattle.world_laws.proofs.Words.{take_answer, taken, taken_up, tap_hears, tap_tells, tells_all, tells_more, told_by, took_other, took_with, true, ua_told}
+use Rattle.world_laws.proofs.Words.{up_with, with_number, with_shdlc_ended, zero, ℕ, ◌%◌, ◌++◌, ◌+◌, ◌<◌, ◌==◌, ◌∙◌, ◌∷◌, ◌≡◌, ◌≤◌, ◌⊎◌}
 use Rattle.link_laws.proofs.sessions.Steps.{took}
-use Rattle.world_laws.proofs.fragments.Going.{Alike, CanSend, GoesAt, Knows, KnowsLink, Tracks, Went, can_send, count_up, ever_sent}
-use Rattle.world_laws.proofs.fragments.Going.{goes_answer, in_session, knows_side, session_above, session_ended, session_now, still_no_ua, tracks_far}
-use Rattle.world_laws.proofs.fragments.Going.{tracks_renumbered, went_none, went_one}
+use Rattle.world_laws.proofs.fragments.Going.{Alike, GoesAt, Knows, KnowsLink, Tracks, Went, can_send, count_up, ever_sent, goes_answer, in_session, knows_side}
+use Rattle.world_laws.proofs.fragments.Going.{session_above, session_now, still_no_ua, tracks_far, tracks_renumbered, went_none, went_one}
 use Rattle.world_laws.proofs.fragments.Wires.{NoUa, is_ua}
 
 -- ## What the tap knows after an RSET or a UA of an end, and after the answer to a fragment that was accepted
@@ -34,9 +33,6 @@ pub knows_rset : {bare : Bool} {t : TapState} {n m f : NumberedShdlc} {to_n to_f
     → Knows bare (tap_hears bare t (Rset w c)) m f to_n (fits (to_f ++ x ∷ [])) (r + 1)
 knows_rset {bare} {t} {n} {m} {f} {to_n} {to_f} {r} x w c plain a h = subst P (sym (grind arith)) (record { near = near; far = far; rsets = refl })
   where
-    not_up : m.side.phase ≡ Up → ⊥
-    not_up u = let e = sym a.waits ∙ u in cc
-
     side : TapSide
     side = record t.clf { number = r + 1; count = 0; asked = r + 1 }
 
@@ -47,7 +43,7 @@ knows_rset {bare} {t} {n} {m} {f} {to_n} {to_f} {r} x w c plain a h = subst P (s
     low = omega (arith, h.near.upto, h.near.took, a.bound, a.far_bound)
 
     none : shdlc_session_of m (r + 1) ≡ no_session
-    none = session_ended m not_up (r + 1) ∙ none_ended (t.clf.number + 1) (r + 1) m.past (omega (arith, low)) a.past
+    none = (grind arith) ∙ none_ended (t.clf.number + 1) (r + 1) m.past (omega (arith, low)) a.past
 
     near : Tracks bare side t.uicc m f to_n
     near = record {
@@ -61,7 +57,7 @@ knows_rset {bare} {t} {n} {m} {f} {to_n} {to_f} {r} x w c plain a h = subst P (s
       count = sym (ap (λ (z : Session). length z.acc) none);
       list = h.near.list ∙ sym (a.alike t.uicc.number).sent;
       low = h.near.low;
-      met = λ u. absurd (not_up u);
+      met = λ u. absurd (grind arith);
       told = inl a.no_ua;
     }
 
@@ -99,7 +95,7 @@ knows_ua {bare} {t} {n} {m} {f} {to_n} {to_n'} {to_f} {to_f'} {r} a told h = by_
     let none : shdlc_session_of n k ≡ no_session =
     session_above n t.clf.number k h.near.past (omega (arith, i, h.near.from, h.far.asked, a.newer)) i in
     let f_none : shdlc_session_of f k ≡ no_session =
-    session_ended f far_not_up k ∙ none_ended f.emitted k f.past (omega (arith, h.far.asked)) a.far_past in
+    (grind arith) ∙ none_ended f.emitted k f.past (omega (arith, h.far.asked)) a.far_past in
     subst P (sym (rw q refl)) (record {
       near = near z refl refl refl (omega (arith, i)) (omega (arith, i, h.far.asked))
           (sym ((ap (length {A = Fragment}) (a.alike k).acc) ∙ ap (λ (y : Session). length y.acc) none));
@@ -324,12 +320,7 @@ heard_so : (bare : Bool) (t : TapState) (ts : List ShdlcTurn) (l : ShdlcLink) (x
     (o : Option Fragment) → TakesSo l x ends number q o
     → Went bare t (with_taken l xs ends number) (shdlc_turned q ts) (got_with (shdlc_number_of l.controller) l.controller.side.session.acc o)
     → Heard bare t (took l ts x xs) (sent_then (taken l.controller.side x.frame) ts) (got_now l x)
-heard_so bare t ts l x xs ends number q o so w =
-    record { knows = rw (so.ended, so.took, so.end) w.knows; tells = rw (so.end, so.accepted) w.tells }
-
--- a new session has nothing to send
-new_sends : (w : ℕ) (r : Session) → w ≤ 4 → CanSend (new_session w) r
-new_sends w r i = record { from = omega arith; sent = omega arith; offered = omega arith; within = omega arith; most = i; acked = omega arith }
+heard_so bare t ts l x xs ends number q o so w = record { knows = rw (so.ended, so.took, so.end) w.knows; tells = rw (so.end, so.accepted) w.tells }
 
 pub takes_heard : (bare : Bool) (t : TapState) (ts : List ShdlcTurn) (l : ShdlcLink) (x : OnWire) (xs : List OnWire)
     → Safe 0 0 l.controller l.host (x ∷ sans xs) (sans l.to_host) l.resets
@@ -381,7 +372,7 @@ takes_heard bare t ts l x xs s h = go (frame_cases x) e.phase refl
         -- where nothing was accepted
         goes_for : (v : EndState) → v.phase ≡ Up → v.session ≡ q.session → Accepted None e q → GoesAt bare t next v
         goes_for v p same a = record {
-          knows = knows_side v (p ∙ sym up) ((grind arith)) rest;
+          knows = knows_side v (p ∙ sym up) (grind arith) rest;
           sends = λ _. rw same (can_send tu.0.pair.mine);
           none = λ no_up. absurd (no_up p);
         }
@@ -465,7 +456,7 @@ takes_heard bare t ts l x xs s h = go (frame_cases x) e.phase refl
         let y : OnWire = record { frame = Ua; age = 0; number = 0 } in
         let goes : GoesAt bare (tap_hears bare t Ua) (shdlc_put k Ua) (record b { due = [] }) = record {
           knows = knows_ua {to_f' = fits (l.to_host ++ y ∷ [])} answers (left h.near.told) h;
-          sends = λ _. new_sends w (shdlc_session_of f (max n.emitted f.emitted)) (omega arith);
+          sends = λ _. (grind arith);
           none = λ no_up. absurd (no_up refl);
         } in
         let P : ShdlcLink → Type 0 = λ z. Went bare t z (shdlc_turned b ts) [] in
@@ -482,7 +473,7 @@ takes_heard bare t ts l x xs s h = go (frame_cases x) e.phase refl
         let early : Below n.emitted n.past = rw p at s.n_past in
         let none : ended_session n.past (shdlc_number_of m) ≡ no_session = none_ended n.emitted (shdlc_number_of m) n.past (omega arith) early in
         let goes : GoesAt bare t next b = grind arith in
-        heard_so bare t ts l x xs false n.took b None ((grind arith)) (went_none bare t ts next b s.n_due goes)
+        heard_so bare t ts l x xs false n.took b None (grind arith) (went_none bare t ts next b s.n_due goes)
       where
         by : x.frame ≡ Ua → NoUa (x ∷ xs) ⊎ (n.emitted ≤ t.uicc.number) → n.emitted ≤ t.uicc.number
         by q (inl z) = absurd (let y : true ≡ false = rw q at z in cc)

@@ -41,7 +41,7 @@ taken_near (suc k) l i = go l.to_controller i (taken_near k)
     go [] j later = absurd (omega (arith, j))
     go (x ∷ xs) j later =
         let m : Link = happens (record l { to_controller = x ∷ xs }) (AtController take_one) in
-        let t = later m (omega (arith, j, (ap (length {A = OnWire}) (wire_after l x xs (FetchMessage ∷ []))))) in
+        let t = later m (omega (arith, j, ap (length {A = OnWire}) (wire_after l x xs (FetchMessage ∷ [])))) in
         grind arith
 
 taken_far : (k : ℕ) (l : Link) → k ≤ length l.to_host → Takes l (replicate k (AtHost take_one)) 0 k
@@ -54,7 +54,7 @@ taken_far (suc k) l i = go l.to_host i (taken_far k)
     go [] j later = absurd (omega (arith, j))
     go (x ∷ xs) j later =
         let m : Link = happens (record l { to_host = x ∷ xs }) (AtHost take_one) in
-        let t = later m (omega (arith, j, (ap (length {A = OnWire}) (wire_after (exchanged l) x xs (FetchMessage ∷ []))))) in
+        let t = later m (omega (arith, j, ap (length {A = OnWire}) (wire_after (exchanged l) x xs (FetchMessage ∷ [])))) in
         grind arith
 
 -- ### A round
@@ -183,7 +183,7 @@ module _ (h : ℕ) where
       go [] j later = absurd (omega (arith, j))
       go (x ∷ xs) j later =
           let m : Link = link_after (record l { to_controller = x ∷ xs }) (Taken (end_of h Controller)) in
-          ((refl, omega arith), later m (omega (arith, j, (ap (length {A = OnWire}) (wire_after l x xs (FetchMessage ∷ []))))))
+          ((refl, omega arith), later m (omega (arith, j, ap (length {A = OnWire}) (wire_after l x xs (FetchMessage ∷ [])))))
 
   far_are : (k : ℕ) (l : Link) → k ≤ length l.to_host → AreRoundCauses h l (replicate k (Taken (end_of h Host)))
   far_are zero l i = tt
@@ -195,7 +195,7 @@ module _ (h : ℕ) where
       go [] j later = absurd (omega (arith, j))
       go (x ∷ xs) j later =
           let m : Link = link_after (record l { to_host = x ∷ xs }) (Taken (end_of h Host)) in
-          ((refl, omega arith), later m (omega (arith, j, (ap (length {A = OnWire}) (wire_after (exchanged l) x xs (FetchMessage ∷ []))))))
+          ((refl, omega arith), later m (omega (arith, j, ap (length {A = OnWire}) (wire_after (exchanged l) x xs (FetchMessage ∷ [])))))
 
   abbrev pub near : Link → List Cause
   near l = replicate (length l.to_controller) (Taken (end_of h Controller))
@@ -228,13 +228,13 @@ module _ (h : ℕ) where
   one_tick l =
       let one = no_ticks (length l.to_controller) Controller in
       let two = no_ticks (length (link_after_all l (near l)).to_host) Host in
-      omega (arith, (ticks-append (near l) (far l ++ Ticked ∷ [])), (ticks-append (far l) (Ticked ∷ [])), one, two)
+      omega (arith, ticks-append (near l) (far l ++ Ticked ∷ []), ticks-append (far l) (Ticked ∷ []), one, two)
 
   pub ticks_are : (r : ℕ) (l : Link) → times_ticked (causes_of_rounds r h l) ≡ r
   ticks_are zero l = refl
   ticks_are (suc r) l =
       let rest = ticks_are r (link_after_round h l) in
-      omega (arith, (ticks-append (causes_of_round h l) (causes_of_rounds r h (link_after_round h l))), (one_tick l), rest)
+      omega (arith, ticks-append (causes_of_round h l) (causes_of_rounds r h (link_after_round h l)), one_tick l, rest)
 
   -- ### Their number
 
@@ -246,14 +246,14 @@ module _ (h : ℕ) where
       let one = length-replicate (length l.to_controller) (Taken (end_of h Controller)) in
       let two = length-replicate (length (link_after_all l (near l)).to_host) (Taken (end_of h Host)) in
       let q = (causes_few l (near l) a).to_host in
-      omega (arith, (length-append (near l) (far l ++ Ticked ∷ [])), (length-append (far l) (Ticked ∷ [])), one, two, a.to_controller, q)
+      omega (arith, length-append (near l) (far l ++ Ticked ∷ []), length-append (far l) (Ticked ∷ []), one, two, a.to_controller, q)
 
   pub rounds_few : (r : ℕ) (l : Link) → IsFewWires l → length (causes_of_rounds r h l) ≤ (2 * 64 + 1) * r
   rounds_few zero l a = omega arith
   rounds_few (suc r) l a =
       let m : Link = link_after_round h l in
       let rest = rounds_few r m (causes_few l (causes_of_round h l) a) in
-      omega (arith, (length-append (causes_of_round h l) (causes_of_rounds r h m)), (round_few l a), rest)
+      omega (arith, length-append (causes_of_round h l) (causes_of_rounds r h m), round_few l a, rest)
 
 pub bare_few : (cs : List Cause) → IsFewWires (link_after_all bare_link cs)
 bare_few cs = subst IsFewWires (sym (after_causes cs bare_link)) (after_few (map event_of cs) bare_link (grind arith))

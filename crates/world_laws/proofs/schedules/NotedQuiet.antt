@@ -7,7 +7,7 @@ use Rattle.world_laws.proofs.Words.{LinkSettled, List, NodeHistory, NodeWorld, N
 use Rattle.world_laws.proofs.Words.{Some, Talk, Up, [], acked_in, after_causes, after_link_events, after_steps, alike, all_entries, all_events, all_happen, ap}
 use Rattle.world_laws.proofs.Words.{append-nil, append_assoc, are_read, arith, bare_comes_to_rest, bare_link, bare_link_behind, bare_played_rounds, bare_round}
 use Rattle.world_laws.proofs.Words.{bare_round_goes, behind_lines, bytes_on, causes_of, controller_heard, end_c, end_h, end_of, end_takes_all, ends_in_order}
-use Rattle.world_laws.proofs.Words.{ends_take_all, entries_for, eq-eqb, events_in, events_of_steps, false, far_now, fragments_left, fragments_noted, frames_at}
+use Rattle.world_laws.proofs.Words.{ends_take_all, entries_for, events_in, events_of_steps, false, far_now, fragments_left, fragments_noted, frames_at}
 use Rattle.world_laws.proofs.Words.{host_heard, host_number, host_of, is_clear, is_run, is_running, known_after, length, line_step, lines_lead, lines_played}
 use Rattle.world_laws.proofs.Words.{lines_played_of, link_after_round, link_events, link_rests, near_now, new_world, node_entries, node_of, nodes_behind}
 use Rattle.world_laws.proofs.Words.{nodes_come_to_rest, notes_of, number_of, occurrences_in, occurrences_of, of_allowed, of_can, of_steps, plain_trace}
@@ -16,7 +16,7 @@ use Rattle.world_laws.proofs.Words.{round_behind, round_causes, round_first, rou
 use Rattle.world_laws.proofs.Words.{rounds_to_settle, run_entries, sent_in, session-all, session_number, session_up, settling_causes, settling_events, site_at}
 use Rattle.world_laws.proofs.Words.{start_good, start_reached, steps_from, subst, suc, sym, takes_so, taking_in, talk_now, talk_of, true, up_far, up_near}
 use Rattle.world_laws.proofs.Words.{wire-controller, wire-host, world_after, world_after_round, world_behind, world_round, world_rounds_to_settle}
-use Rattle.world_laws.proofs.Words.{world_settling, zero, ℕ, ◌*◌, ◌++◌, ◌+◌, ◌==◌, ◌∙◌, ◌∷◌, ◌≡◌, ◌≤◌}
+use Rattle.world_laws.proofs.Words.{world_settling, zero, ℕ, ◌*◌, ◌++◌, ◌+◌, ◌∙◌, ◌∷◌, ◌≡◌, ◌≤◌}
 use Rattle.history.proofs.legal.Sessions.{acked-all, got-all, sent-all}
 use Rattle.link_laws.proofs.entries.Seeing.{read_off as seen_off}
 use Rattle.link_laws.specs.entries.Reading.{Seen, nothing_seen}
@@ -208,10 +208,6 @@ module _ (header : Header) (are : AreHosts header.hosts.items) (lines : List Lin
 
 -- ## The session of an end that is up
 
--- the session that goes on
-talk_in : (k : NumberedEnd) (n : ℕ) → k.side.shdlc.phase ≡ Up → number_of k ≡ n → talk_of k n ≡ talk_now k.side
-talk_in k n up is = let same : (n == number_of k) ≡ true = eq-eqb n (number_of k) (sym is) in rw (up, same) refl
-
 -- as many messages count as acknowledged at a quiet end as it sent, as it is noted
 acked_all : (t : List Entry) (e : End) (n : ℕ) (k : NumberedEnd) → IsReadOff t e n (talk_of k n) → IsEndQuiet k.side → k.side.shdlc.phase ≡ Up
     → number_of k ≡ n → acked_in t e n ≡ length (sent_in t e n)
@@ -255,9 +251,9 @@ module _ (header : Header) (lines : List Line) (t : History) (valid : AllByRecur
       let P : Talk → Type 0 = λ k. IsReadOff (entries_for h (notes_of xs)) (end_c h) n k in
       let Q : Talk → Type 0 = λ k. IsReadOff (entries_for h (notes_of xs)) (end_h h) n k in
       let here : P (talk_now m.controller.side) =
-      subst P (talk_in m.controller n near.0 near.1) (history_read h xs n Controller _ (read_here bare_link IsBare (link_events xs) may n)) in
+      subst P (grind arith) (history_read h xs n Controller _ (read_here bare_link IsBare (link_events xs) may n)) in
       let there : Q (talk_now m.host.side) =
-      subst Q (talk_in m.host n far.0 far.1) (history_read h xs n Host _ (read_there bare_link IsBare (link_events xs) may n)) in
+      subst Q (grind arith) (history_read h xs n Host _ (read_there bare_link IsBare (link_events xs) may n)) in
       let known : Known m =
       (known_after (link_events xs) bare_link may (record { good = start_good bare_link IsBare; reached = start_reached bare_link IsBare })).0 in
       let one = end_left (entries_for h (notes_of xs)) (end_c h) n (talk_now m.controller.side) known.good.controller.now.says here in

@@ -1,11 +1,11 @@
 -- Behind plays a world that settles has brought all, and links at rest are quiet.
 use Rattle.world_laws.proofs.Words.{AllByRecursion, AreBothReady, AreBothUpIn, AreHosts, AreLeftReady, ArePlayable, ArePoweredNotes, AreUndisturbedNotes}
-use Rattle.world_laws.proofs.Words.{AreUnheldNotes, AreUpWith, Bool, BothBrought, Follows, FollowsNodes, Header, History, IsHeader, IsLinkQuiet, IsNodeHeader}
-use Rattle.world_laws.proofs.Words.{IsPlayFor, IsPlayedLine, Line, Link, List, MayBegin, NodeHistory, Play, Round, Site, Some, [], all-append, all_entries}
-use Rattle.world_laws.proofs.Words.{and_parts, ap, arith, bare_lines, bare_link_behind, by_test, entries_since, false, fragments_noted, host_of, hosts_are}
-use Rattle.world_laws.proofs.Words.{hosts_stay_behind, is_settling, lines_may_be_played, lines_played, link_rests, node_entries, nodes_behind}
-use Rattle.world_laws.proofs.Words.{playable, refl, replicate, rounds_for, rounds_to_rest, site_at, sites_rest, subst, sym, true, true≢false, ℕ, ◌&&◌, ◌*◌}
-use Rattle.world_laws.proofs.Words.{◌++◌, ◌+◌, ◌==◌, ◌∙◌, ◌∷◌, ◌≡◌, ◌≤◌}
+use Rattle.world_laws.proofs.Words.{AreUnheldNotes, AreUpWith, Bool, BothBrought, Follows, FollowsNodes, Header, History, IsHeader, IsLinkQuiet, IsPlayFor}
+use Rattle.world_laws.proofs.Words.{IsPlayedLine, Line, Link, List, MayBegin, NodeHistory, Play, Round, Site, Some, [], all-append, all_entries, and_parts, ap}
+use Rattle.world_laws.proofs.Words.{arith, bare_lines, bare_link_behind, by_test, entries_since, false, fragments_noted, host_of, hosts_are, hosts_stay_behind}
+use Rattle.world_laws.proofs.Words.{is_settling, lines_may_be_played, lines_played, link_rests, node_entries, nodes_behind, playable, refl, replicate}
+use Rattle.world_laws.proofs.Words.{rounds_for, rounds_to_rest, site_at, sites_rest, subst, sym, true, true≢false, ℕ, ◌&&◌, ◌*◌, ◌++◌, ◌+◌, ◌==◌, ◌∙◌, ◌∷◌, ◌≡◌}
+use Rattle.world_laws.proofs.Words.{◌≤◌}
 use Rattle.node_laws.specs.schedules.Ranges.{AreNodeLinesOf}
 use Rattle.world_laws.specs.worlds.BroughtBehind.{BringsAll}
 use Rattle.world_laws.proofs.schedules.NotedQuiet.{bare_behind, noted_behind}
@@ -48,9 +48,6 @@ module _ (header : Header) (are : AreHosts header.hosts.items) (plays : List Pla
       (nodes_up_later header are plays n p later_p t later follows goes_on h s found k up ready notes)
       (nodes_undisturbed header are plays n p later_p t later follows goes_on h s found k up ready notes)
 
-nodes_header : (header : Header) → header.hci ≡ true → MayBegin header → IsNodeHeader header
-nodes_header header nodes a = grind arith
-
 bare_header : (header : Header) → header.hci ≡ false → MayBegin header → IsHeader header
 bare_header header bare a = grind arith
 
@@ -73,7 +70,7 @@ module _ (header : Header) (begun : MayBegin header) (plays : List Play) (may : 
         → ArePoweredNotes (entries_since (node_entries t) (node_entries later)) h
         → 24 * (fragments_noted (node_entries t) h k + 1) ≤ n → BothBrought (node_entries t) (node_entries later) h k
     of_nodes nodes t later follows goes_on =
-        unheld_behind header (hosts_are header (nodes_header header nodes begun)) plays n (played_playable header (lines_played header plays) first_played)
+        unheld_behind header (hosts_are header (grind arith)) plays n (played_playable header (lines_played header plays) first_played)
         (played_playable header (lines_played header (settled header plays n)) all_played) t later follows goes_on
 
     of_link : header.hci ≡ false → (t later : History) → Follows header (lines_played header plays) t
@@ -98,8 +95,6 @@ module _ (header : Header) (begun : MayBegin header) (plays : List Play) (may : 
   brings_all r is = subst (BringsAll header plays n) (sym is) brings_least
 
 -- ## Links at rest are quiet, and quiet links are at rest
-
--- ### Ends and wires
 
 -- ### Links
 

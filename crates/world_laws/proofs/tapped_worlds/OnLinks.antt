@@ -53,8 +53,7 @@ strange_reports h t none = let h0 = gots_on h in let h1 = lpdus_on h in let h2 =
 pub tap_reports_world : (header : Header) (lines : List Line) (t : NodeHistory) → FollowsNodes header lines t → AreHosts header.hosts.items
     → ArePlayable lines → (front back : List Occurrence) → occurrences_in t ≡ front ++ back → (h : ℕ) → list_any (cuts_on h) (entries_in front) ≡ false
     → tapped_lpdus false (lpdus_on h (entries_in front)) ≡ gots_on h (entries_in front)
-tap_reports_world header lines t follows are p front back q h uncut =
-    go (whether (world_behind (new_world header.hosts.items) front) h)
+tap_reports_world header lines t follows are p front back q h uncut = go (whether (world_behind (new_world header.hosts.items) front) h)
   where
     so : IsSo header.hosts.items front (world_behind (new_world header.hosts.items) front)
     so = history_so header lines t follows are p front back q

@@ -22,7 +22,7 @@ use Rattle.world_laws.proofs.links.RoundCauses.{rounds_are}
 use Rattle.world_laws.proofs.schedules.NotedQuiet.{as_many, happened_leads, one_round, settled_link}
 use Rattle.world_laws.proofs.undisturbed.Runs.{AreBothUpNow, AreRoundEvents, Calm, Unbegun, calm_run, keeps, trace-append, way_to}
 use Rattle.world_laws.proofs.undisturbed.Nodes.{noted_calm}
-use Rattle.world_laws.proofs.undisturbed.Holding.{ready_after, sent_ready, took_ready, turn_ready}
+use Rattle.world_laws.proofs.undisturbed.Holding.{ready_after, sent_ready, turn_ready}
 use Rattle.trace_model.specs.declared.line.Line.TheVariants as saying
 
 -- ## What a history of a bare world notes behind an earlier one, where rounds stand between them; and whether its ends take fragments
@@ -161,7 +161,7 @@ frame_readied l ts none = go l.to_controller refl
         let f : LinkEnd = turned (after_input e (Take x.frame)) ts in
         let P : Link → Type 0 = λ m. HasReady l m l.controller.side.shdlc.ready in
         subst P (sym (rw q refl)) (became l k f e.shdlc.ready (host_ended (record l { to_controller = xs }) b)
-        (turned_ready (after_input e (Take x.frame)) ts e.shdlc.ready (took_ready e x.frame) ∙ none))
+        (turned_ready (after_input e (Take x.frame)) ts e.shdlc.ready (grind arith) ∙ none))
 
 -- ## Whether the ends of a bare world take fragments behind the lines of a schedule: the last line that says so decides
 
@@ -209,11 +209,8 @@ cause_readies at_host l (Readied e ready) =
     (λ k. with_turn (Hold (not ready)) (λ b. ready) k
     (turned_ready k.controller.side (Hold (not ready) ∷ []) k.controller.side.shdlc.ready refl ∙ not_not ready))
 cause_readies at_host l Ticked = by_test at_host
-    (λ q. rw q ((ticked_here (exchanged m)).near ∙ (ticked_here (aged l)).far))
-    (λ q. rw q ((ticked_here (exchanged m)).far ∙ (ticked_here (aged l)).near))
-  where
-    m : Link
-    m = ticks_at_controller (aged l) [] GoesOut
+    (λ q. rw q ((ticked_here (exchanged (ticks_at_controller (aged l) [] GoesOut))).near ∙ (ticked_here (aged l)).far))
+    (λ q. rw q ((ticked_here (exchanged (ticks_at_controller (aged l) [] GoesOut))).far ∙ (ticked_here (aged l)).near))
 
 abbrev readied_by_all : Bool → Bool → List Cause → Bool
 readied_by_all at_host before [] = before
@@ -238,8 +235,7 @@ by_refusal P h l line none some = let h0 = refusal l line in let h1 = events_at 
 
 repeated_ready : (at_host : Bool) (c : Cause) → ((b : Bool) → readied_by at_host b c ≡ b) → (n : ℕ) (b : Bool) → readied_by_all at_host b (replicate n c) ≡ b
 repeated_ready at_host c none zero b = refl
-repeated_ready at_host c none (suc n) b =
-    repeated_ready at_host c none n (readied_by at_host b c) ∙ none b
+repeated_ready at_host c none (suc n) b = repeated_ready at_host c none n (readied_by at_host b c) ∙ none b
 
 module _ (header : Header) (is : IsHeader header) (at_host : Bool) where
   abbrev here : End
@@ -265,8 +261,7 @@ module _ (header : Header) (is : IsHeader header) (at_host : Bool) where
       → ready_at at_host (link_after_line l (outcome_of (host_of header) l line)) ≡ not (busy_after here (not (ready_at at_host l)) line)
   line_ready l (saying.Deliver e count) may plain =
       kept l (saying.Deliver e count) (repeated_ready at_host (Taken e) (λ b. refl) (taken_of count (frames_to l e)))
-  line_ready l (saying.Damage e places) may plain =
-      kept l (saying.Damage e places) (λ b. grind arith)
+  line_ready l (saying.Damage e places) may plain = kept l (saying.Damage e places) (λ b. grind arith)
   line_ready l (saying.Tick times) may plain = kept l (saying.Tick times) (repeated_ready at_host Ticked (λ b. refl) (unwrap_or times 1))
   line_ready l (saying.Busy e) may plain = cause_readies at_host l (Readied e false) ∙ sym (same e may.1 true (ready_at at_host l))
   line_ready l (saying.Ready e) may plain = cause_readies at_host l (Readied e true) ∙ sym (same e may.1 false (ready_at at_host l))
@@ -362,10 +357,8 @@ round_events h l (Ticked ∷ cs) a = (tt, round_events h (link_after l Ticked) c
 round_events h l (_ ∷ cs) a = absurd a.0
 
 ready_next : (h : ℕ) (l : Link) (c : Cause) → AreRoundCauses h l (c ∷ []) → AreBothReady l → AreBothReady (link_after l c)
-ready_next h l (Taken e) a r =
-    record { controller = cause_readies false l (Taken e) ∙ r.controller; host = cause_readies true l (Taken e) ∙ r.host }
-ready_next h l Ticked a r =
-    record { controller = cause_readies false l Ticked ∙ r.controller; host = cause_readies true l Ticked ∙ r.host }
+ready_next h l (Taken e) a r = record { controller = cause_readies false l (Taken e) ∙ r.controller; host = cause_readies true l (Taken e) ∙ r.host }
+ready_next h l Ticked a r = record { controller = cause_readies false l Ticked ∙ r.controller; host = cause_readies true l Ticked ∙ r.host }
 ready_next h l _ a r = absurd a.0
 
 ready_throughout : (h : ℕ) (cs : List Cause) (l : Link) → AreRoundCauses h l cs → AreBothReady l → AreReadyThroughout l (map event_of cs)

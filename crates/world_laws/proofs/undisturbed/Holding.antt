@@ -1,14 +1,13 @@
 -- Whether an end takes fragments is told by the turns of its node, and one that takes none has its first message noted as held.
-use Rattle.world_laws.proofs.Words.{About, ActEvent, ActStart, ActStop, AsksReset, AtEnd, Bool, Comes, Control, CutOff, Deed, Desk, EndState, Ending, Entry}
-use Rattle.world_laws.proofs.Words.{FetchMessage, Give, GoesOut, Hold, IsComing, IsOutside, Link, LinkEnd, LinkInput, List, Message, NextFrame, NoInput}
-use Rattle.world_laws.proofs.Words.{NodeInput, None, Option, Port, Release, Reset, Role, SetAside, Some, Start, Starts, Stop, Stops, Take, Tick, TimePasses}
-use Rattle.world_laws.proofs.Words.{Turn, Work, [], activated, after_input, after_sessions, after_turn, all_come, all_done, all_owed, ap, arith, by_list}
-use Rattle.world_laws.proofs.Words.{by_option, by_test, changed_if, cond, done, end_of_node, ended_by, eqb-true, false, finished, flat_map, forgets}
-use Rattle.world_laws.proofs.Words.{forgotten, has_come, input_at, input_of, is_forgotten, is_held, is_held_at, is_over, is_some, is_waiting, lacking}
-use Rattle.world_laws.proofs.Words.{map, most_frames, moved, new_link_end, not, notified, noting, option_map_or, port_at, refl, renewed, reset_late}
-use Rattle.world_laws.proofs.Words.{reset_with, sent_all, sent_same, silent, steps, steps_at_controller, stopped, subst, sym, synced, ticked_so}
-use Rattle.world_laws.proofs.Words.{ticks_at_controller, times_out, took, true, true≢false, turn, turn_at, turned, unless_cut, waiting_at, with_desk}
-use Rattle.world_laws.proofs.Words.{with_ended, with_older, with_port, without_notice, ℕ, ◌&&◌, ◌++◌, ◌==◌, ◌∙◌, ◌∷◌, ◌≡◌}
+use Rattle.world_laws.proofs.Words.{About, AsksReset, AtEnd, Bool, Comes, CutOff, Deed, Desk, EndState, Ending, Entry, FetchMessage, Give, GoesOut, Hold}
+use Rattle.world_laws.proofs.Words.{IsComing, IsOutside, Link, LinkEnd, LinkInput, List, Message, NextFrame, NoInput, NodeInput, None, Option, Port, Release}
+use Rattle.world_laws.proofs.Words.{Reset, SetAside, Some, Start, Starts, Stop, Stops, Take, Tick, TimePasses, Turn, Work, [], after_input, after_sessions}
+use Rattle.world_laws.proofs.Words.{after_turn, all_come, all_done, all_owed, ap, arith, by_list, by_option, by_test, changed_if, cond, done, end_of_node}
+use Rattle.world_laws.proofs.Words.{ended_by, eqb-true, false, finished, flat_map, forgets, forgotten, has_come, input_at, input_of, is_forgotten, is_held}
+use Rattle.world_laws.proofs.Words.{is_held_at, is_over, is_some, is_waiting, lacking, map, most_frames, not, notified, noting, option_map_or, port_at, refl}
+use Rattle.world_laws.proofs.Words.{reset_late, reset_with, sent_all, sent_same, silent, steps, steps_at_controller, subst, sym, synced, ticked_so}
+use Rattle.world_laws.proofs.Words.{ticks_at_controller, times_out, true, true≢false, turn, turn_at, turned, unless_cut, waiting_at, with_desk, with_ended}
+use Rattle.world_laws.proofs.Words.{with_older, with_port, without_notice, ℕ, ◌&&◌, ◌++◌, ◌==◌, ◌∙◌, ◌∷◌, ◌≡◌}
 use Rattle.node_laws.proofs.kept.Doing.{stays_cut, uncut}
 use Rattle.node_laws.proofs.passes.Passing.{have_handled, have_held}
 use Rattle.node_laws.proofs.passes.Replying.{other_stays, own_changed}
@@ -25,14 +24,6 @@ use Rattle.trace_model.specs.declared.entry.Entry.TheVariants as entry
 
 reset_ready : (e : EndState) (w : ℕ) → (reset_with e w).ready ≡ e.ready
 reset_ready e w = by_test (is_waiting e) (λ q. rw q refl) (λ q. rw q refl)
-
--- ### An end over messages
-
-activated_ready : (e : LinkEnd) (event : ActEvent) → (activated e event).shdlc.ready ≡ e.shdlc.ready
-activated_ready e event = grind arith
-
-pub took_ready : (e : LinkEnd) (c : Control) → (took e c).shdlc.ready ≡ e.shdlc.ready
-took_ready e c = grind arith
 
 -- ### Its node's turns
 
@@ -68,11 +59,11 @@ turned_ready e (t ∷ ts) = turned_ready (turn e t) ts ∙ ap (λ b. readied b t
 -- ### What comes
 
 coming_ready : (e : LinkEnd) (i : LinkInput) → IsComing i → (after_input e i).shdlc.ready ≡ e.shdlc.ready
-coming_ready e (Take c) is = took_ready e c
+coming_ready e (Take c) is = grind arith
 coming_ready e Tick is = grind arith
 coming_ready e (Reset window) is = grind arith
-coming_ready e (Start value) is = activated_ready (moved e true (stopped e.shdlc)) (ActStart value)
-coming_ready e Stop is = activated_ready (moved e true (stopped e.shdlc)) ActStop
+coming_ready e (Start value) is = grind arith
+coming_ready e Stop is = grind arith
 coming_ready e _ is = absurd is
 
 -- ### Steps
@@ -82,12 +73,9 @@ abbrev pub ready_at_end : Ending → Bool → Bool
 ready_at_end GoesOut ready = ready
 ready_at_end CutOff ready = true
 
-new_ready : (r : Role) → (new_link_end (renewed r)).shdlc.ready ≡ true
-new_ready r = grind arith
-
 finished_ready : (l : Link) (e : LinkEnd) (ending : Ending) → (finished l e ending).controller.side.shdlc.ready ≡ ready_at_end ending e.shdlc.ready
 finished_ready l e GoesOut = sent_ready e
-finished_ready l e CutOff = new_ready (sent_all e).role
+finished_ready l e CutOff = grind arith
 
 all_ready : (l : Link) (e : LinkEnd) (ts : List Turn) (ending : Ending)
     → (finished l (turned e ts) ending).controller.side.shdlc.ready ≡ ready_at_end ending (readied e.shdlc.ready ts)
@@ -174,9 +162,6 @@ module _ (k : ℕ) (ready : Bool) where
 
   abbrev pub Kept : Work → Type 0
   Kept w = There (KeepsHeld ready) (port_at w.ports k)
-
-  kept_told : (w : Work) → Kept w → Told w
-  kept_told w a = grind arith
 
   -- ### What is told
 
@@ -332,7 +317,7 @@ module _ (k : ℕ) (ready : Bool) where
       first : IfOn Kept v
       first = by_test (h == k)
           (λ q. let P : ℕ → Type 0 = λ j. IfOn Kept (have_turns j (waiting_at w.ports j) w) in
-          subst P (sym (eqb-true h k q)) (own_turns (waiting_at w.ports k) w (kept_told w a)))
+          subst P (sym (eqb-true h k q)) (own_turns (waiting_at w.ports k) w (grind arith)))
           (λ q. λ on. other_turns h q (waiting_at w.ports h) w a)
 
   -- ### What comes

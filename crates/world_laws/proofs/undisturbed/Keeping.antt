@@ -1,7 +1,7 @@
 -- Whatever happens to a world, an end of a link that takes no fragments is one whose first message was noted as held, and its node runs.
-use Rattle.world_laws.proofs.Words.{Activates, Arms, AsksReset, AtController, AtEnd, AtHost, Bool, Boots, Broken, Comes, Controller, CutOff, Deed, End, Entry}
-use Rattle.world_laws.proofs.Words.{Gives, GoesOut, Happening, HasEnds, Host, IfItRuns, Inits, IsCut, IsOrderly, Link, LinkEnd, LinkInput, List, Lose, Loss}
-use Rattle.world_laws.proofs.Words.{MayBoot, NextFrame, NoInput, NodeWorld, None, NumberedEnd, Option, Port, Resets, Running, Site, Some, Starts, Step, Takes}
+use Rattle.world_laws.proofs.Words.{Activates, Arms, AsksReset, AtController, AtEnd, Bool, Boots, Broken, Comes, Controller, CutOff, Deed, End, Entry, Gives}
+use Rattle.world_laws.proofs.Words.{GoesOut, Happening, HasEnds, Host, IfItRuns, Inits, IsCut, IsOrderly, Link, LinkEnd, LinkInput, List, Loss, MayBoot}
+use Rattle.world_laws.proofs.Words.{NextFrame, NoInput, NodeWorld, None, NumberedEnd, Option, Port, Resets, Running, Site, Some, Starts, Step, Takes}
 use Rattle.world_laws.proofs.Words.{TimePasses, TimePassing, Work, [], after_controller, after_host, after_tick, aged, all_aged, ap, arith, arrival, beginning}
 use Rattle.world_laws.proofs.Words.{begins_with, boot_found, boot_writes, boot_written, boots, by_boot, by_coming, by_controller, by_controller_tick, by_host}
 use Rattle.world_laws.proofs.Words.{by_host_tick, by_loss, by_memory, by_power, by_running, changed_if, comes_at, comes_goes, comes_to, cond, controller_does}
@@ -83,15 +83,13 @@ module _ (h : ℕ) where
     -- all sites become others
     mapped : (c : Option Running) (g : Site → Site) → ((s : Site) → (g s).host ≡ s.host)
         → ((s : Site) → site_at w.sites s.host ≡ Some s → SiteHeld w.controller s → SiteHeld c (g s)) → HeldAt c (site_at (map g w.sites) h)
-    mapped c g host one =
-        sites_is g host w.sites h (HeldAt c) (λ q. tt) (λ s q. one s (own_site s q) (subst (HeldAt w.controller) q before))
+    mapped c g host one = sites_is g host w.sites h (HeldAt c) (λ q. tt) (λ s q. one s (own_site s q) (subst (HeldAt w.controller) q before))
 
     -- one of them does
     changed : (c : Option Running) (k : ℕ) (g : Site → Site) → ((s : Site) → (g s).host ≡ s.host)
         → ((s : Site) → site_at w.sites k ≡ Some s → (s.host == k) ≡ true → SiteHeld w.controller s → SiteHeld c (g s))
         → ((s : Site) → SiteHeld w.controller s → SiteHeld c s) → HeldAt c (site_at (with_site k g w.sites) h)
-    changed c k g host mine other =
-        mapped c (λ s. by_if (s.host == k) s) (λ s. kept (s.host == k) s) (λ s q a. go s q a (s.host == k) refl)
+    changed c k g host mine other = mapped c (λ s. by_if (s.host == k) s) (λ s. kept (s.host == k) s) (λ s q a. go s q a (s.host == k) refl)
       where
         by_if : Bool → Site → Site
         by_if b s = changed_if b g s
@@ -264,19 +262,13 @@ module _ (h : ℕ) where
     counts_held (Broken fault) k (Some r) j e a = λ busy. error_held k r.desks j ∙ a busy
     counts_held _ k o j e a = a
 
-    lost_near : (why : Loss) (b : Bool) (l : Link) → (happens l (cond b (AtHost (Lose why)) (AtController (Lose why)))).controller.side ≡ l.controller.side
-    lost_near why b l = grind arith
-
-    lost_far : (why : Loss) (b : Bool) (l : Link) → (happens l (cond b (AtHost (Lose why)) (AtController (Lose why)))).host.side ≡ l.host.side
-    lost_far why b l = grind arith
-
     lost_held : (e : End) (why : Loss) → HeldIn (frame_lost w e why).0
     lost_held e why =
         by_loss (λ p. HeldIn p.0) w e why
         (λ at. changed w.controller e.link (λ s. record (site_lost e why s) { node = counts why e.link s.node }) (λ s. refl)
         (λ s there y a. record {
-          near = subst (λ x. IsHeldSo w.controller s.host x) (sym (lost_near why e.at_host s.link)) a.near;
-          far = subst (λ x. IsHeldSo (counts why e.link s.node) s.host x) (sym (lost_far why e.at_host s.link))
+          near = subst (λ x. IsHeldSo w.controller s.host x) (sym (grind arith)) a.near;
+          far = subst (λ x. IsHeldSo (counts why e.link s.node) s.host x) (sym (grind arith))
               (counts_held why e.link s.node s.host s.link.host.side a.far);
         })
         (λ s a. a))
@@ -284,17 +276,16 @@ module _ (h : ℕ) where
         let c : Option Running = counts why e.link w.controller in
         changed c e.link (site_lost e why) (λ s. refl)
         (λ s there y a. record {
-          near = subst (λ x. IsHeldSo c s.host x) (sym (lost_near why e.at_host s.link))
+          near = subst (λ x. IsHeldSo c s.host x) (sym (grind arith))
               (counts_held why e.link w.controller s.host s.link.controller.side a.near);
-          far = subst (λ x. IsHeldSo s.node s.host x) (sym (lost_far why e.at_host s.link)) a.far;
+          far = subst (λ x. IsHeldSo s.node s.host x) (sym (grind arith)) a.far;
         })
         (λ s a. record { near = counts_held why e.link w.controller s.host s.link.controller.side a.near; far = a.far }))
 
     -- ## Time
 
     aged_held : HeldIn (all_aged w).0
-    aged_held =
-        mapped w.controller (λ (s : Site). record s { link = aged s.link }) (λ s. refl) (λ s there a. record { near = a.near; far = a.far })
+    aged_held = mapped w.controller (λ (s : Site). record s { link = aged s.link }) (λ s. refl) (λ s there a. record { near = a.near; far = a.far })
 
     near_tick_held : IsOrderly w → HeldIn (controller_ticks w).0
     near_tick_held orderly =
@@ -375,7 +366,7 @@ module _ (h : ℕ) where
       by_memory (λ v. node_at v n ≡ None) n w m (λ z. off)
       (λ z.
       rw z (sites_is (λ (s : Site). changed_if (s.host == n) (λ (x : Site). record x { memory = m }) s)
-      (λ s. (grind arith)) w.sites n (λ o. node_in o ≡ None) (λ q. refl)
+      (λ s. grind arith) w.sites n (λ o. node_in o ≡ None) (λ q. refl)
       (λ s q. let none : s.node ≡ None = rw q at (rw z at off) in (grind arith) ∙ none)))
     where
       f : Site → Site

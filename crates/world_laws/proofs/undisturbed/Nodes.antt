@@ -83,9 +83,6 @@ one_told : (h : ℕ) (l : Link) (e : LinkEvent) (u : List Entry) → IsRoundEven
     → IsTold h l (e ∷ []) u
 one_told h l e u round told stands unstarted = let h0 = append-nil (event_entries l e) in grind arith
 
-none_told : (h : ℕ) (l : Link) (es : List LinkEvent) (u : List Entry) → es ≡ [] → of_link h u ≡ [] → ((x : Standing) → standing h x u ≡ x) → IsTold h l es u
-none_told h l es u q none leaves = grind arith
-
 event_told : (h : ℕ) (l : Link) (e : LinkEvent) (es : List LinkEvent) (u v : List Entry) → es ≡ e ∷ [] → u ≡ v → IsTold h l (e ∷ []) v → IsTold h l es u
 event_told h l e es u v q noted told = subst (λ z. IsTold h l z u) (sym q) (subst (λ z. IsTold h l (e ∷ []) z) (sym noted) told)
 
@@ -133,12 +130,6 @@ module _ (w : NodeWorld) (h : ℕ) (s : Site) (orderly : IsOrderly w) (found : s
       u : List Entry
       u = (world_step w (Takes (end_c k))).1
 
-      Steps : NodeWorld × List Entry → Type 0
-      Steps p = world_step w (Takes (end_c k)) ≡ p
-
-      noted : (p : NodeWorld × List Entry) → Steps p → u ≡ p.1
-      noted p q = ap (λ (z : NodeWorld × List Entry). z.1) q
-
       first : es ≡ controller_takes s.host w k
       first = rw found refl
 
@@ -150,7 +141,7 @@ module _ (w : NodeWorld) (h : ℕ) (s : Site) (orderly : IsOrderly w) (found : s
           let at : ℕ → LinkEvent = λ m. AtController (Step (comes_to k NextFrame m) (turns_at work m) (ending_of work)) in
           let node : HasEnds 0 (hosts_in w.sites) n = subst (IfItRuns 0 (hosts_in w.sites)) r orderly.controller in
           event_told h s.link (at h) es u (after_controller w k NextFrame work).1 (first ∙ ((rw (p, r) refl) ∙ ap (λ m. at m ∷ []) number_of_taking))
-          (noted (after_controller w k NextFrame work) (rw (p, r) refl))
+          (grind arith)
           (one_told h s.link (at h) (after_controller w k NextFrame work).1 (grind arith)
           (controller_tells w n k NextFrame h s orderly node found i p) (controller_stands w n k NextFrame h s orderly node found i p)
           (frame_unstarted Controller s.link i (turns_at work h) (ending_of work) (h == k)
@@ -192,7 +183,7 @@ module _ (w : NodeWorld) (h : ℕ) (s : Site) (orderly : IsOrderly w) (found : s
       let both = by_coming Leaves w (end_h k) NextFrame (refl, λ x. refl)
       (λ i side q. by_host Leaves w k NextFrame (steps (AtEnd k i)) (refl, λ x. refl) (λ t n there runs. by_step i q t n there runs))
       (λ i side q. absurd (true≢false side)) in
-      none_told h s.link (link_events_in h w (Takes (end_h k))) (world_step w (Takes (end_h k))).1 (rw (found, other) refl) both.0 both.1
+      grind arith
     where
       Leaves : NodeWorld × List Entry → Type 0
       Leaves p = (of_link h p.1 ≡ []) × ((x : Standing) → standing h x p.1 ≡ x)

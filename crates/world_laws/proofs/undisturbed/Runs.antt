@@ -151,9 +151,6 @@ there_calm : (es : List CoreEndEvent) (c : CoreLink) (fs : List CoreLinkEvent) �
 there_calm [] c fs a u = u
 there_calm (e ∷ es) c fs a u = (other c a.0, a.1, there_calm es (core_happens c (CoreAtHost e)) fs a.2 u)
 
-came_none : (c : CoreLink) (b : Bool) → (came_up no_losses c b).lost ≡ false
-came_none c b = grind arith
-
 -- an end that is open takes this frame
 module _ (l : Link) (ts : List Turn) (x : OnWire) (xs : List OnWire) (first : l.to_controller ≡ x ∷ xs) (opened : is_open l.controller.side.role ≡ true)
     (both : BothTakeFragments (core_of l))
@@ -187,7 +184,7 @@ step_calm who l ts ending a b opened both calm = go l.to_controller refl
             let lost : (noted_turns no_losses (core_of l) (core_take l.controller.side x.frame ts ++ [])).lost ≡ false =
             ap (λ (n : Losses). n.lost) (taken_noted no_losses l ts GoesOut x xs q a.0 b)
             ∙ rest_calm (came_up no_losses (core_of k) (began_by l.controller.side (Take x.frame))) who k f ts
-            (came_none (core_of k) (began_by l.controller.side (Take x.frame))) ((calm_parts noted (rest_entries who k f ts GoesOut) c).1) in
+            (grind arith) ((calm_parts noted (rest_entries who k f ts GoesOut) c).1) in
             take_calm l ts x xs q opened both lost
 
 -- its node has turns there
@@ -332,13 +329,11 @@ module _ (l : Link) {t : List Entry} (w : IsUnderWay t l) (both : BothTakeFragme
         (as_out Host (exchanged m) h far_out calm.far) in
         let Q : CoreLink → NumberedEnd → Type 0 =
         λ d z. (noted_tick n2 (Some (core_turns (after_input z.side HasTick) h.turns)) (core_exchanged d)).lost ≡ false in
-        let as_host : Q (core_of m) l.host = subst (Q (core_of m)) host_is third in
-        subst (λ (d : CoreLink). Q d l.host) ticked_of_events as_host
+        subst (λ (d : CoreLink). Q d l.host) ticked_of_events (subst (Q (core_of m)) host_is third)
 
   calm_event : (e : LinkEvent) → IsRoundEvent e → IsEvent l e → Calm (event_entries l e) → (fs : List CoreLinkEvent)
       → AreUndisturbed (core_of (happens l e)) fs → AreUndisturbed (core_of l) (core_event l e ++ fs)
-  calm_event e is a calm fs later =
-      go e is a calm (subst (λ (c : CoreLink). AreUndisturbed c fs) (event_step l e a w.good w.reached).core later)
+  calm_event e is a calm fs later = go e is a calm (subst (λ (c : CoreLink). AreUndisturbed c fs) (event_step l e a w.good w.reached).core later)
     where
       go : (e : LinkEvent) → IsRoundEvent e → IsEvent l e → Calm (event_entries l e) → AreUndisturbed (core_after (core_of l) (core_event l e)) fs
           → AreUndisturbed (core_of l) (core_event l e ++ fs)
@@ -377,9 +372,6 @@ both_none : (t u : List Entry) → Unbegun t → Unbegun u → Unbegun (t ++ u)
 both_none [] u a b = b
 both_none (x ∷ t) u a b = (a.0, both_none t u a.1 b)
 
-so_none : (b : Bool) (e : Entry) → begins_one e ≡ false → Unbegun (if_so b e)
-so_none b e q = grind arith
-
 map_none : {A : Type 0} (f : A → Entry) (xs : List A) → ((x : A) → begins_one (f x) ≡ false) → Unbegun (map f xs)
 map_none f [] q = tt
 map_none f (x ∷ xs) q = (q x, map_none f xs q)
@@ -392,19 +384,16 @@ told_none who n r acked q =
     let one : List Entry = if_so r.became_active (Active who) ++ two in
     both_none (map (Down who) (option_to_list r.ended)) (if_so r.began (Up who n) ++ one) (map_none (Down who) (option_to_list r.ended) (λ x. refl))
     (both_none (if_so r.began (Up who n)) one (subst (λ b. Unbegun (if_so b (Up who n))) (sym q) tt)
-    (both_none (if_so r.became_active (Active who)) two (so_none r.became_active (Active who) refl)
+    (both_none (if_so r.became_active (Active who)) two (grind arith)
     (both_none (map (GaveUp who) (option_to_list r.gave_up)) three (map_none (GaveUp who) (option_to_list r.gave_up) (λ x. refl))
-    (both_none (if_so (nat_lt 0 r.acked) (Acked who n acked)) four (so_none (nat_lt 0 r.acked) (Acked who n acked) refl)
+    (both_none (if_so (nat_lt 0 r.acked) (Acked who n acked)) four (grind arith)
     (map_none (Got who n) r.got (λ x. refl))))))
 
 -- ### What goes out
 
-turn_none : (who : End) (n : ℕ) (e : LinkEnd) (t : Turn) → Unbegun (turn_entry who n e t)
-turn_none who n e t = grind arith
-
 turns_none : (who : End) (n : ℕ) (e : LinkEnd) (ts : List Turn) → Unbegun (turn_entries who n e ts)
 turns_none who n e [] = tt
-turns_none who n e (t ∷ ts) = both_none (turn_entry who n e t) (turn_entries who n (turn e t) ts) (turn_none who n e t) (turns_none who n (turn e t) ts)
+turns_none who n e (t ∷ ts) = both_none (turn_entry who n e t) (turn_entries who n (turn e t) ts) (grind arith) (turns_none who n (turn e t) ts)
 
 rest_none : (who : End) (k : Link) (e : LinkEnd) (ts : List Turn) (ending : Ending) → Unbegun (rest_entries who k e ts ending)
 rest_none who k e ts ending =
@@ -428,11 +417,10 @@ frame_none who l ts ending sound up calm = go l.to_controller refl
     go (x ∷ xs) q =
         let is : step_entries who l NextFrame ts ending ≡ taken_entries who l x xs ts ending = rw q refl in
         let h : NumberedEnd = record l.controller { took = took_with l.controller.took x } in
-        let rest : List Entry = rest_entries who (left_after l x xs) (after_input e (Take x.frame)) ts ending in
         let none : is_some (ended_by e (Take x.frame)) ≡ false = grind arith in
         subst Unbegun (sym is) (
           refl,
-          both_none (told_of who h (Take x.frame)) rest
+          both_none (told_of who h (Take x.frame)) (rest_entries who (left_after l x xs) (after_input e (Take x.frame)) ts ending)
               (told_none who (number_of h) (report e (Take x.frame)) (whole_acked (after_input e (Take x.frame))) (grind arith))
               (rest_none who (left_after l x xs) (after_input e (Take x.frame)) ts ending),
         )

@@ -57,9 +57,6 @@ AreFewEvents (e ∷ f ∷ es) = ⊥
 few_ready : (l : Link) (es : List LinkEvent) → AreFewEvents es → AreBothReady l → AreBothReady (after_link_events l es) → AreReadyThroughout l es
 few_ready l es few a b = grind arith
 
-few_ticks : (h : ℕ) (w : NodeWorld) → AreFewEvents (link_events_in h w TimePassing)
-few_ticks h w = grind arith
-
 module _ (h : ℕ) where
   -- ## Moments
 
@@ -216,7 +213,7 @@ module _ (h : ℕ) where
       let second : Step = all_happen v causes in
       let both = none_parts first.1 second.1 none in
       let g = ticks_go w h s q in
-      let one = one_ready t w s TimePassing q m tt (few_ticks h w) g both.0 in
+      let one = one_ready t w s TimePassing q m tt (grind arith) g both.0 in
       let more = all_ready causes (t ++ entries_in first.1) v g.later p g.is one.moment both.1 in
       then_ready t s.link (link_events_in h w TimePassing) (events_on h v causes) first second one
       (subst (λ l. StaysReady (t ++ entries_in first.1) l (events_on h v causes) second) g.link more)

@@ -1,16 +1,16 @@
 -- A round of a world: its causes, which are few, what these do, and that its ends take the frames on their wires.
 use Rattle.std.proofs.lemmas.List.{length-append}
 use Rattle.std.specs.Prelude.{is_some, replicate}
-use Rattle.world_laws.proofs.Words.{AllByRecursion, AllCanHappen, AreFewOnWires, AreOfRounds, ArePassing, AtEnd, Bool, End, Ending, GoesOnLink}
-use Rattle.world_laws.proofs.Words.{GoesOut, Happening, IsFewWires, IsOfRound, IsOrderly, IsTakeOrTick, LinkEvent, List, MayBoot, NextFrame, NodeWorld}
-use Rattle.world_laws.proofs.Words.{None, Occurrence, OnWire, Option, Running, Site, Some, Step, Take, Takes, TimePassing, Work, [], after_controller}
-use Rattle.world_laws.proofs.Words.{after_few, after_host, all_happen, ap, arith, by_option, by_test, can_happen, changed_if, changed_site}
-use Rattle.world_laws.proofs.Words.{comes_to, controller_work, end_c, end_h, end_takes_all, ending_of, ends_in_order, ends_take_all, eq-eqb, exchanged, false}
-use Rattle.world_laws.proofs.Words.{fine_there, flat_map, frames_at, happened_in, happenings, happens_at_controller, host_work, hosts_in, input_of, is_running}
-use Rattle.world_laws.proofs.Words.{length, length-map, length-replicate, link_after_controller, link_events_in, link_to, map-append, node_of, refl}
-use Rattle.world_laws.proofs.Words.{rounds_of_world, run_few, runs_on, site_at, site_host, site_is, site_map, step_kept, step_orderly, steps, subst, suc, sym}
-use Rattle.world_laws.proofs.Words.{takes_go, takes_pass, ticks_go, true, true≢false, turns_at, with_site, world_after_round, world_round, world_round_causes}
-use Rattle.world_laws.proofs.Words.{world_rounds_to_settle, world_settling, world_step, world_ticks_in, zero, ℕ, ◌*◌, ◌++◌, ◌+◌, ◌<◌, ◌==◌, ◌∙◌, ◌∷◌, ◌≡◌, ◌≤◌}
+use Rattle.world_laws.proofs.Words.{AllByRecursion, AllCanHappen, AreFewOnWires, AreOfRounds, ArePassing, AtEnd, Bool, End, Ending, GoesOnLink, GoesOut}
+use Rattle.world_laws.proofs.Words.{Happening, IsFewWires, IsOfRound, IsOrderly, IsTakeOrTick, LinkEvent, List, MayBoot, NextFrame, NodeWorld, None, Occurrence}
+use Rattle.world_laws.proofs.Words.{OnWire, Option, Running, Site, Some, Step, Take, Takes, TimePassing, Work, [], after_controller, after_few, after_host}
+use Rattle.world_laws.proofs.Words.{all_happen, ap, arith, by_option, by_test, can_happen, changed_if, changed_site, comes_to, controller_work, end_c, end_h}
+use Rattle.world_laws.proofs.Words.{end_takes_all, ending_of, ends_in_order, ends_take_all, eq-eqb, exchanged, false, fine_there, flat_map, frames_at}
+use Rattle.world_laws.proofs.Words.{happened_in, happenings, happens_at_controller, host_work, hosts_in, input_of, is_running, length, length-map}
+use Rattle.world_laws.proofs.Words.{length-replicate, link_after_controller, link_events_in, link_to, map-append, node_of, refl, rounds_of_world, run_few}
+use Rattle.world_laws.proofs.Words.{site_at, site_host, site_is, site_map, step_kept, step_orderly, steps, subst, suc, sym, takes_go, takes_pass, ticks_go}
+use Rattle.world_laws.proofs.Words.{true, turns_at, with_site, world_after_round, world_round, world_round_causes, world_rounds_to_settle, world_settling}
+use Rattle.world_laws.proofs.Words.{world_step, world_ticks_in, zero, ℕ, ◌*◌, ◌++◌, ◌+◌, ◌<◌, ◌==◌, ◌∙◌, ◌∷◌, ◌≡◌, ◌≤◌}
 use Rattle.node_laws.specs.kept.Worlds.{MayHappen}
 use Rattle.node_laws.specs.readings.Worlds.{MayBeRead}
 use Rattle.node_machine.specs.world.World.Happening.{Ticks}
@@ -114,10 +114,6 @@ whole_settling n w = whole_rounds (world_rounds_to_settle n w) w
 
 -- ### A frame is gone from its wire
 
--- a node that runs on wasn't cut off
-goes_out : (k : Work) → is_some (runs_on k) ≡ true → ending_of k ≡ GoesOut
-goes_out k runs = by_test k.cut (λ q. let no : is_some (runs_on k) ≡ false = rw q refl in absurd (true≢false (sym runs ∙ no))) (λ q. rw q refl)
-
 module _ (w : NodeWorld) (h : ℕ) (s : Site) (q : site_at w.sites h ≡ Some s) where
   number : (s.host == h) ≡ true
   number = eq-eqb s.host h (site_host w.sites h s q)
@@ -130,15 +126,14 @@ module _ (w : NodeWorld) (h : ℕ) (s : Site) (q : site_at w.sites h ≡ Some s)
       let link : link_to w.sites h ≡ s.link = rw q refl in
       let input : input_of (link_to w.sites h) NextFrame ≡ Some (Take x.frame) = ap (λ l. input_of l NextFrame) link ∙ rw wire refl in
       let world : (world_step w (Takes (end_c h))).0 ≡ v = rw (input, runs) refl in
-      let out : ending_of work ≡ GoesOut = goes_out work (subst (λ (u : NodeWorld). is_running u 0 ≡ true) world on) in
+      let out : ending_of work ≡ GoesOut = grind arith in
       let F : Site → Site = link_after_controller h NextFrame work in
-      let at : site_at v.sites h ≡ Some (F s) = (site_map F (λ x. refl) w.sites h s q).0 in
       let came : comes_to h NextFrame s.host ≡ NextFrame = rw number refl in
       let gone : (F s).link.to_controller ≡ xs =
       ap (λ c. (happens_at_controller s.link (Step c (turns_at work s.host) (ending_of work))).to_controller) came
       ∙ (ap (λ (d : Ending). (happens_at_controller s.link (Step NextFrame (turns_at work s.host) d)).to_controller) out
       ∙ (let h0 = wire_after s.link x xs (turns_at work s.host) in grind arith)) in
-      ap (λ (u : NodeWorld). frames_at u (end_c h)) world ∙ ((rw at refl) ∙ gone)
+      ap (λ (u : NodeWorld). frames_at u (end_c h)) world ∙ ((rw ((site_map F (λ x. refl) w.sites h s q).0) refl) ∙ gone)
 
   far_gone : (h == 0) ≡ false → (r : Running) → s.node ≡ Some r → (x : OnWire) (xs : List OnWire) → s.link.to_host ≡ x ∷ xs
       → is_running (world_step w (Takes (end_h h))).0 h ≡ true → frames_at (world_step w (Takes (end_h h))).0 (end_h h) ≡ xs
@@ -209,8 +204,7 @@ one_less w e orderly runs stands on = go e.at_host runs stands on (there_where_s
 takes_of : (k : ℕ) (w : NodeWorld) (e : End) → IsOrderly w → k ≤ length (frames_at w e)
     → AreOfRounds w (happened_in (all_happen w (replicate k (Takes e))).1)
 takes_of zero w e orderly few = tt
-takes_of (suc k) w e orderly few =
-    go (can_happen w (Takes e)) refl (takes_of k (world_step w (Takes e)).0 e (step_orderly w (Takes e) orderly))
+takes_of (suc k) w e orderly few = go (can_happen w (Takes e)) refl (takes_of k (world_step w (Takes e)).0 e (step_orderly w (Takes e) orderly))
   where
     v : NodeWorld
     v = (world_step w (Takes e)).0
@@ -359,19 +353,19 @@ no_ticks_of_ends : (ends : List End) (w : NodeWorld) → world_ticks_in (happene
 no_ticks_of_ends [] w = refl
 no_ticks_of_ends (e ∷ ends) w =
     let v : NodeWorld = (end_takes_all w e).0 in
-    omega (arith, (ticks_both (end_takes_all w e) (ends_take_all v ends)), (no_ticks (length (frames_at w e)) w e), (no_ticks_of_ends ends v))
+    omega (arith, ticks_both (end_takes_all w e) (ends_take_all v ends), no_ticks (length (frames_at w e)) w e, no_ticks_of_ends ends v)
 
 one_tick : (w : NodeWorld) → world_ticks_in (happened_in (world_round w).1) ≡ 1
 one_tick w =
     let taken : NodeWorld × List Occurrence = ends_take_all w (ends_in_order w) in
     let last : world_ticks_in (happened_in (all_happen taken.0 (Ticks ∷ [])).1) ≡ 1 = refl in
-    omega (arith, (ticks_both taken (all_happen taken.0 (Ticks ∷ []))), (no_ticks_of_ends (ends_in_order w) w), last)
+    omega (arith, ticks_both taken (all_happen taken.0 (Ticks ∷ [])), no_ticks_of_ends (ends_in_order w) w, last)
 
 pub ticks_are : (r : ℕ) (w : NodeWorld) → world_ticks_in (world_round_causes r w) ≡ r
 ticks_are zero w = refl
 ticks_are (suc r) w =
     let first : NodeWorld × List Occurrence = world_round w in
-    omega (arith, (ticks_both first (rounds_of_world r first.0)), (one_tick w), (ticks_are r first.0))
+    omega (arith, ticks_both first (rounds_of_world r first.0), one_tick w, ticks_are r first.0)
 
 -- ## No wire of a world holds more than 64 frames, and so it stays over its rounds
 
@@ -381,13 +375,13 @@ frames_of w e s q a = by_test e.at_host (λ is. rw is (rw q a.to_host)) (λ is. 
 
 -- all are few where those of each site are
 few_by_sites : (w : NodeWorld) → ((h : ℕ) (s : Site) → site_at w.sites h ≡ Some s → IsFewWires s.link) → AreFewOnWires w
-few_by_sites w a e = by_option (site_at w.sites e.link) (λ q. (grind arith)) (λ s q. frames_of w e s q (a e.link s q))
+few_by_sites w a e = by_option (site_at w.sites e.link) (λ q. grind arith) (λ s q. frames_of w e s q (a e.link s q))
 
 wires_of : (w : NodeWorld) (h : ℕ) (s : Site) → AreFewOnWires w → site_at w.sites h ≡ Some s → IsFewWires s.link
 wires_of w h s a q =
     let near : length (frames_at w (end_c h)) ≡ length s.link.to_controller = rw q refl in
     let far : length (frames_at w (end_h h)) ≡ length s.link.to_host = rw q refl in
-    record { to_controller = omega (arith, near, (a (end_c h))); to_host = omega (arith, far, (a (end_h h))) }
+    record { to_controller = omega (arith, near, a (end_c h)); to_host = omega (arith, far, a (end_h h)) }
 
 -- worlds with the same hosts have links with the same ones
 none_alike : (xs ys : List Site) (h : ℕ) → hosts_in xs ≡ hosts_in ys → site_at xs h ≡ None → site_at ys h ≡ None
@@ -410,12 +404,10 @@ few_after w v same goes a e = by_option (site_at w.sites e.link)
     frames_of v e g.1.later g.1.is (subst IsFewWires (sym g.1.link) (after_few g.0 s.link (wires_of w e.link s a q))))
 
 takes_few : (w : NodeWorld) (e : End) → AreFewOnWires w → AreFewOnWires (world_step w (Takes e)).0
-takes_few w e a =
-    few_after w (world_step w (Takes e)).0 (step_kept w (Takes e)) (λ h s q. (link_events_in h w (Takes e), takes_go w e h s q)) a
+takes_few w e a = few_after w (world_step w (Takes e)).0 (step_kept w (Takes e)) (λ h s q. (link_events_in h w (Takes e), takes_go w e h s q)) a
 
 ticks_few : (w : NodeWorld) → AreFewOnWires w → AreFewOnWires (world_step w TimePassing).0
-ticks_few w a =
-    few_after w (world_step w TimePassing).0 (step_kept w TimePassing) (λ h s q. (link_events_in h w TimePassing, ticks_go w h s q)) a
+ticks_few w a = few_after w (world_step w TimePassing).0 (step_kept w TimePassing) (λ h s q. (link_events_in h w TimePassing, ticks_go w h s q)) a
 
 -- ## A round of a world has few causes: no more than 64 frames stand on each wire
 
@@ -429,15 +421,14 @@ at_most [] w = omega arith
 at_most (c ∷ causes) w = let h0 = can_happen w c in let h1 = at_most causes (world_step w c).0 in grind arith
 
 end_few : (w : NodeWorld) (e : End) → AreFewOnWires w → length (happened_in (end_takes_all w e).1) ≤ 64
-end_few w e few =
-    omega (arith, (at_most (replicate (length (frames_at w e)) (Takes e)) w), (length-replicate (length (frames_at w e)) (Takes e)), (few e))
+end_few w e few = omega (arith, at_most (replicate (length (frames_at w e)) (Takes e)) w, length-replicate (length (frames_at w e)) (Takes e), few e)
 
 ends_few : (ends : List End) (w : NodeWorld) → AreFewOnWires w → length (happened_in (ends_take_all w ends).1) ≤ 64 * length ends
 ends_few [] w few = omega arith
 ends_few (e ∷ ends) w few =
     let v : NodeWorld = (end_takes_all w e).0 in
     let rest = ends_few ends v (kept_end AreFewOnWires takes_few ticks_few w e few) in
-    omega (arith, (count_both (end_takes_all w e) (ends_take_all v ends)), (end_few w e few), rest)
+    omega (arith, count_both (end_takes_all w e) (ends_take_all v ends), end_few w e few, rest)
 
 -- each link has two ends
 two_ends : (sites : List Site) → length (flat_map (λ (s : Site). end_c s.host ∷ end_h s.host ∷ []) sites) ≡ 2 * length sites
@@ -448,7 +439,7 @@ pub round_few : (w : NodeWorld) → AreFewOnWires w → length (happened_in (wor
 round_few w few =
     let taken : NodeWorld × List Occurrence = ends_take_all w (ends_in_order w) in
     let last = at_most (Ticks ∷ []) taken.0 in
-    omega (arith, (count_both taken (all_happen taken.0 (Ticks ∷ []))), (ends_few (ends_in_order w) w few), (two_ends w.sites), last)
+    omega (arith, count_both taken (all_happen taken.0 (Ticks ∷ [])), ends_few (ends_in_order w) w few, two_ends w.sites, last)
 
 -- ### Rounds
 
@@ -460,7 +451,7 @@ record IsSmall (w : NodeWorld) : Type 0 where
 small_step : (w : NodeWorld) (c : Happening) → length w.sites ≤ 7 → length (world_step w c).0.sites ≤ 7
 small_step w c few =
     let now = length-map (world_step w c).0.sites (λ (s : Site). s.host) in
-    omega (arith, (ap (length {A = ℕ}) (step_kept w c)), (length-map w.sites (λ (s : Site). s.host)), now, few)
+    omega (arith, ap (length {A = ℕ}) (step_kept w c), (length-map w.sites (λ (s : Site). s.host)), now, few)
 
 small_takes : (w : NodeWorld) (e : End) → IsSmall w → IsSmall (world_step w (Takes e)).0
 small_takes w e a = record { wires = takes_few w e a.wires; hosts = small_step w (Takes e) a.hosts }
@@ -473,7 +464,7 @@ all_few zero w a = omega arith
 all_few (suc r) w a =
     let first : NodeWorld × List Occurrence = world_round w in
     let rest = all_few r first.0 (kept_round IsSmall small_takes small_ticks w a) in
-    omega (arith, (count_both first (rounds_of_world r first.0)), (round_few w a.wires), a.hosts, rest)
+    omega (arith, count_both first (rounds_of_world r first.0), round_few w a.wires, a.hosts, rest)
 
 pub rounds_few : (r : ℕ) (w : NodeWorld) → AreFewOnWires w → length w.sites ≤ 7 → length (world_round_causes r w) ≤ (14 * 64 + 1) * r
 rounds_few r w wires hosts = all_few r w (record { wires = wires; hosts = hosts })
@@ -487,4 +478,4 @@ pub reached_few : (hosts : List ℕ) (w : NodeWorld) → IsReached hosts w → A
 reached_few hosts w r = few_by_sites w (λ h s q. run_few s.link (fine_there w h s r.so.well.fine q).link.run)
 
 pub reached_small : (hosts : List ℕ) (w : NodeWorld) → IsReached hosts w → length hosts ≤ 7 → length w.sites ≤ 7
-reached_small hosts w r few = omega (arith, (ap (length {A = ℕ}) r.so.hosts_are), (length-map w.sites (λ (s : Site). s.host)), few)
+reached_small hosts w r few = omega (arith, ap (length {A = ℕ}) r.so.hosts_are, (length-map w.sites (λ (s : Site). s.host)), few)

@@ -33,12 +33,10 @@ pub record IsReached (hosts : List ℕ) (w : NodeWorld) : Type 0 where
 
 module _ (hosts : List ℕ) where
   pub reached_takes : (w : NodeWorld) (e : End) → IsReached hosts w → IsReached hosts (world_step w (Takes e)).0
-  reached_takes w e r =
-      record { events = _; so = next_so of_none hosts r.events w (Takes e) r.so tt (λ h q. absurd (true≢false (sym q))) }
+  reached_takes w e r = record { events = _; so = next_so of_none hosts r.events w (Takes e) r.so tt (λ h q. absurd (true≢false (sym q))) }
 
   pub reached_ticks : (w : NodeWorld) → IsReached hosts w → IsReached hosts (world_step w TimePassing).0
-  reached_ticks w r =
-      record { events = _; so = next_so of_none hosts r.events w TimePassing r.so tt (λ h q. absurd (true≢false (sym q))) }
+  reached_ticks w r = record { events = _; so = next_so of_none hosts r.events w TimePassing r.so tt (λ h q. absurd (true≢false (sym q))) }
 
   reached_all : (causes : List Happening) (w : NodeWorld) → ArePassing causes → IsReached hosts w → IsReached hosts (all_happen w causes).0
   reached_all [] w p r = r
@@ -56,8 +54,7 @@ module _ (hosts : List ℕ) where
   reached_ends (e ∷ ends) w r = reached_ends ends (end_takes_all w e).0 (reached_end w e r)
 
   pub reached_round : (w : NodeWorld) → IsReached hosts w → IsReached hosts (world_after_round w)
-  reached_round w r =
-      reached_all (TimePassing ∷ []) (ends_take_all w (ends_in_order w)).0 tt (reached_ends (ends_in_order w) w r)
+  reached_round w r = reached_all (TimePassing ∷ []) (ends_take_all w (ends_in_order w)).0 tt (reached_ends (ends_in_order w) w r)
 
 -- ### What is known of an undisturbed link
 
@@ -104,14 +101,11 @@ ordinary-append (e ∷ es) fs a b = (a.0, ordinary-append es fs a.1 b)
 stretch_then : (l : Link) (es fs : List LinkEvent) (a b c a2 b2 c2 x y z : ℕ) → x ≡ a + a2 → y ≡ b + b2 → z ≡ c + c2 → IsLinkStretch l es a b c
     → IsLinkStretch (after_link_events l es) fs a2 b2 c2 → IsLinkStretch l (es ++ fs) x y z
 stretch_then l es fs a b c a2 b2 c2 x y z p q r one two =
-    let near = come_near-append es fs l in
-    let far = come_far-append es fs l in
-    let times = times-append es fs in
     record {
       ordinary = ordinary-append es fs one.ordinary two.ordinary;
-      at_controller = omega (arith, near, one.at_controller, two.at_controller);
-      at_host = omega (arith, far, one.at_host, two.at_host);
-      passes = omega (arith, times, one.passes, two.passes);
+      at_controller = omega (arith, come_near-append es fs l, one.at_controller, two.at_controller);
+      at_host = omega (arith, come_far-append es fs l, one.at_host, two.at_host);
+      passes = omega (arith, times-append es fs, one.passes, two.passes);
     }
 
 stretch_none : (l : Link) → IsLinkStretch l [] 0 0 0
@@ -207,9 +201,8 @@ module _ (hosts : List ℕ) (h : ℕ) where
   behind : (w : NodeWorld) (s : Site) (e : End) (m : ℕ) → IsReached hosts w → site_at w.sites h ≡ Some s → can_happen w (Takes e) ≡ true
       → IsLinkUndisturbed s.link (events_on h w (replicate (suc m) (Takes e))) → Behind w s e m
   behind w s e m r q can u =
-      let v : NodeWorld = (world_step w (Takes e)).0 in
       let now : List LinkEvent = link_events_in h w (Takes e) in
-      let rest : List LinkEvent = events_on h v (replicate m (Takes e)) in
+      let rest : List LinkEvent = events_on h ((world_step w (Takes e)).0) (replicate m (Takes e)) in
       let all : events_on h w (replicate (suc m) (Takes e)) ≡ now ++ rest = on_first h w e (replicate m (Takes e)) can in
       let may : AllAllowed s.link (now ++ rest) =
       subst (AllAllowed s.link) all (on_allowed (replicate (suc m) (Takes e)) w h s (takes_pass (suc m) e) r.so.well.fine q) in
@@ -244,8 +237,7 @@ module _ (hosts : List ℕ) (h : ℕ) where
           → (es ≡ []) ⊎ ((ts : List Turn) × (ending : Ending) × (es ≡ AtController (Step NoInput ts ending) ∷ [])) → IsIdle s.link es
       first es calm (inl none) = subst (IsIdle s.link) (sym none) (idle_none s.link)
       first es calm (inr some) =
-          let out : some.1 ≡ GoesOut = grind arith in
-          subst (IsIdle s.link) (sym (some.2 ∙ ap (λ e. AtController (Step NoInput some.0 e) ∷ []) out)) (idle_step s.link some.0)
+          subst (IsIdle s.link) (sym (some.2 ∙ ap (λ e. AtController (Step NoInput some.0 e) ∷ []) (grind arith))) (idle_step s.link some.0)
 
   -- the host's end of another link does
   other_many : (m k : ℕ) (w : NodeWorld) (s : Site) → site_at w.sites h ≡ Some s → (s.host == k) ≡ false
@@ -282,17 +274,12 @@ module _ (hosts : List ℕ) (h : ℕ) where
       let b = behind w s e m r q can u in
       let take = near_take w h s q runs.0 x xs runs.1 p in
       let ts : List Turn = take.0 in
-      let calm : IsLinkUndisturbed s.link (AtController (Step NextFrame ts take.1) ∷ []) = subst (IsLinkUndisturbed s.link) take.2 b.now in
       let out : take.1 ≡ GoesOut = take_goes_out s.link ts take.1 x xs
-      (subst (λ z. IsLinkUndisturbed (record s.link { to_controller = z }) (AtController (Step NextFrame ts take.1) ∷ [])) p calm) in
-      let now : link_events_in h w (Takes e) ≡ AtController (Step NextFrame ts GoesOut) ∷ [] =
-      take.2 ∙ ap (λ z. AtController (Step NextFrame ts z) ∷ []) out in
+      (subst (λ z. IsLinkUndisturbed (record s.link { to_controller = z }) (AtController (Step NextFrame ts take.1) ∷ [])) p (grind arith)) in
+      let now : link_events_in h w (Takes e) ≡ AtController (Step NextFrame ts GoesOut) ∷ [] = grind arith in
       let one = near_step s.link x xs ts p in
-      let left : b.later.link.to_controller ≡ xs =
-      ap (λ (l : Link). l.to_controller) (b.link ∙ ap (after_link_events s.link) now) ∙ one.1 in
-      let size : length b.later.link.to_controller ≡ length xs = ap (length {A = OnWire}) left in
-      let whole : length s.link.to_controller ≡ suc (length xs) = ap (length {A = OnWire}) p in
-      let more = (near_many m) v b.later b.reached b.is (omega (arith, long, size, whole)) b.then in
+      let left : b.later.link.to_controller ≡ xs = grind arith in
+      let more = (near_many m) v b.later b.reached b.is (omega (arith, long, ap (length {A = OnWire}) left, ap (length {A = OnWire}) p)) b.then in
       subst (λ es. IsLinkStretch s.link es (suc m) 0 0) (sym (on_first h w e (replicate m (Takes e)) can))
       (stretch_then s.link (link_events_in h w (Takes e)) (events_on h v (replicate m (Takes e))) 1 0 0 m 0 0 (suc m) 0 0 (omega arith) refl refl
       (subst (λ es. IsLinkStretch s.link es 1 0 0) (sym now) one.0)
@@ -315,16 +302,12 @@ module _ (hosts : List ℕ) (h : ℕ) where
       let b = behind w s e m r q can u in
       let take = far_take w h s q runs.0 x xs runs.1 p in
       let ts : List Turn = take.0 in
-      let calm : IsLinkUndisturbed s.link (AtHost (Step NextFrame ts take.1) ∷ []) = subst (IsLinkUndisturbed s.link) take.2 b.now in
       let out : take.1 ≡ GoesOut = host_take_goes_out s.link ts take.1 x xs
-      (subst (λ z. IsLinkUndisturbed (record s.link { to_host = z }) (AtHost (Step NextFrame ts take.1) ∷ [])) p calm) in
-      let now : link_events_in h w (Takes e) ≡ AtHost (Step NextFrame ts GoesOut) ∷ [] =
-      take.2 ∙ ap (λ z. AtHost (Step NextFrame ts z) ∷ []) out in
+      (subst (λ z. IsLinkUndisturbed (record s.link { to_host = z }) (AtHost (Step NextFrame ts take.1) ∷ [])) p (grind arith)) in
+      let now : link_events_in h w (Takes e) ≡ AtHost (Step NextFrame ts GoesOut) ∷ [] = grind arith in
       let one = far_step s.link x xs ts p in
       let left : b.later.link.to_host ≡ xs = ap (λ (l : Link). l.to_host) (b.link ∙ ap (after_link_events s.link) now) ∙ one.1 in
-      let size : length b.later.link.to_host ≡ length xs = ap (length {A = OnWire}) left in
-      let whole : length s.link.to_host ≡ suc (length xs) = ap (length {A = OnWire}) p in
-      let more = (far_many m) v b.later b.reached b.is (omega (arith, long, size, whole)) b.then in
+      let more = (far_many m) v b.later b.reached b.is (omega (arith, long, ap (length {A = OnWire}) left, ap (length {A = OnWire}) p)) b.then in
       subst (λ es. IsLinkStretch s.link es 0 (suc m) 0) (sym (on_first h w e (replicate m (Takes e)) can))
       (stretch_then s.link (link_events_in h w (Takes e)) (events_on h v (replicate m (Takes e))) 0 1 0 0 m 0 0 (suc m) 0 refl (omega arith) refl
       (subst (λ es. IsLinkStretch s.link es 0 1 0) (sym now) one.0)
@@ -413,8 +396,7 @@ module _ (hosts : List ℕ) (h : ℕ) where
       → IsLinkUndisturbed s.link (ends_events h w (e ∷ ends)) → EndThen w s e ends
   end_then w s e ends r q u =
       let causes : List Happening = happenings w (line.Deliver e None) in
-      let v : NodeWorld = (end_takes_all w e).0 in
-      let rest : List LinkEvent = ends_events h v ends in
+      let rest : List LinkEvent = ends_events h ((end_takes_all w e).0) ends in
       let parts = in_parts (events_on h w causes) rest s.link (ends_allowed (e ∷ ends) w h s r.so.well.fine q).0 (known_there hosts w h s r q) u in
       let g = all_go causes w h s (takes_pass (length (frames_at w e)) e) q in
       record {
@@ -444,10 +426,7 @@ module _ (hosts : List ℕ) (h : ℕ) where
       let host : two.later.host ≡ s.host = two.host ∙ one.host in
       let more : IsIdle two.later.link rest =
       others_take ks o two.later two.reached two.is (subst (λ n. AreOthers n ks) (sym host) a.1) two.then in
-      let last : IsIdle one.later.link (far ++ rest) =
-      idle_then one.later.link far rest (subst (IsIdle one.later.link) (sym none) (idle_none one.later.link))
-      (subst (λ l. IsIdle l rest) two.link more) in
-      idle_then s.link near (far ++ rest) first (subst (λ l. IsIdle l (far ++ rest)) one.link last)
+      idle_then s.link near (far ++ rest) first (subst (λ l. IsIdle l (far ++ rest)) one.link (grind arith))
 
   -- time passes
   time_passes : (w : NodeWorld) (s : Site) → IsReached hosts w → site_at w.sites h ≡ Some s → IsLinkUndisturbed s.link (events_on h w (TimePassing ∷ []))
@@ -458,11 +437,10 @@ module _ (hosts : List ℕ) (h : ℕ) where
       let d : Node = site_ticks t.between in
       let near = t.near in
       let is : events_on h w (TimePassing ∷ []) ≡ tick_so s.link c.1 c.0 d ∷ [] = rw (q, near) refl in
-      let calm : IsLinkUndisturbed s.link (tick_so s.link c.1 c.0 d ∷ []) = subst (IsLinkUndisturbed s.link) is u in
       let k : Known s.link = known_there hosts w h s r q in
       let tick = calm_tick s.link c.1 c.0 d
       (open_up s.link.controller k.good.controller.now.closed (near_up s.link (events_on h w (TimePassing ∷ [])) u))
-      (open_up s.link.host k.good.host.now.closed (far_up s.link (events_on h w (TimePassing ∷ [])) u)) calm in
+      (open_up s.link.host k.good.host.now.closed (far_up s.link (events_on h w (TimePassing ∷ [])) u)) (subst (IsLinkUndisturbed s.link) is u) in
       subst (λ es. IsLinkStretch s.link es 0 0 1) (sym (is ∙ ap (λ e. e ∷ []) tick.is))
       (record { ordinary = ((tick.near, tt, tick.far), tt); at_controller = refl; at_host = refl; passes = refl })
 
@@ -488,13 +466,11 @@ module _ (hosts : List ℕ) (h : ℕ) where
       let is : taken ≡ f1 ++ (f2 ++ (f3 ++ f4)) = ap (ends_events h w) order ∙ events-append h a (end_c h ∷ end_h h ∷ b) w in
       -- what is undisturbed
       let whole = in_parts taken time s.link (round_allowed w h s r.so.well.fine q).0 (known_there hosts w h s r q) u in
-      let may : AllAllowed s.link (f1 ++ (f2 ++ (f3 ++ f4))) =
-      subst (AllAllowed s.link) is (ends_allowed (ends_in_order w) w h s r.so.well.fine q).0 in
+      let may : AllAllowed s.link (f1 ++ (f2 ++ (f3 ++ f4))) = grind arith in
       let ends = in_parts f1 (f2 ++ (f3 ++ f4)) s.link may (known_there hosts w h s r q) (subst (IsLinkUndisturbed s.link) is whole.calm_first) in
       let g = ends_go a w h s q in
       let r1 : IsReached hosts w1 = reached_ends hosts a w r in
-      let u1 : IsLinkUndisturbed g.later.link (f2 ++ (f3 ++ f4)) = subst (λ l. IsLinkUndisturbed l (f2 ++ (f3 ++ f4))) (sym g.link) ends.calm_second in
-      let one = end_then w1 g.later (end_c h) (end_h h ∷ b) r1 g.is u1 in
+      let one = end_then w1 g.later (end_c h) (end_h h ∷ b) r1 g.is (grind arith) in
       let two = end_then w2 one.later (end_h h) b one.reached one.is one.then in
       -- the frames that are taken first
       let idle : IsIdle s.link f1 = others_take p.before w s r q (subst (λ n. AreOthers n p.before) number p.first) ends.calm_first in
@@ -502,10 +478,9 @@ module _ (hosts : List ℕ) (h : ℕ) where
       let is1 : m1 ≡ length g.later.link.to_controller = rw g.is refl in
       let wire1 : length g.later.link.to_controller ≡ length s.link.to_controller =
       ap (λ (l : Link). length l.to_controller) g.link ∙ ap (length {A = OnWire}) idle.wire in
-      let near : IsLinkStretch g.later.link f2 m1 0 0 = near_many hosts h m1 w1 g.later r1 g.is (omega (arith, is1)) one.now in
       let first : IsLinkStretch s.link (f1 ++ f2) (length s.link.to_controller) 0 0 =
       stretch_then s.link f1 f2 0 0 0 m1 0 0 (length s.link.to_controller) 0 0 (omega (arith, is1, wire1)) refl refl idle.stretch
-      (subst (λ l. IsLinkStretch l f2 m1 0 0) g.link near) in
+      (subst (λ l. IsLinkStretch l f2 m1 0 0) g.link (near_many hosts h m1 w1 g.later r1 g.is (omega (arith, is1)) one.now)) in
       -- and then
       let m2 : ℕ = length (frames_at w2 (end_h h)) in
       let is2 : m2 ≡ length one.later.link.to_host = counted_far w2 h one.later one.is in
@@ -583,10 +558,9 @@ left_behind (m ∷ ms) n =
 pub end_left : (t : List Entry) (e : End) (n : ℕ) (talk : Talk) → Says talk → IsReadOff t e n talk → undelivered talk.session ≤ fragments_unacked t e n
 end_left t e n talk says read =
     let out : length talk.session.out ≡ length (fragments_of talk.sent) = ap (λ (fs : List (List ℕ)). length fs) says.out in
-    let left = left_behind talk.sent talk.session.acked in
     let is : fragments_unacked t e n ≡ length (fragments_of (drop (whole_among talk.sent talk.session.acked) talk.sent)) =
     ap₂ (λ k (ms : List Message). length (fragments_of (drop k ms))) read.acked read.sent in
-    omega (arith, out, left, is)
+    omega (arith, out, left_behind talk.sent talk.session.acked, is)
 
 -- of a link whose ends are both up in the session with this number, as it is noted
 pub link_left : (hosts : List ℕ) (w : NodeWorld) (h : ℕ) (s : Site) (r : IsReached hosts w) → site_at w.sites h ≡ Some s → (n : ℕ)

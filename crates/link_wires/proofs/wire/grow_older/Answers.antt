@@ -3,8 +3,7 @@ use Rattle.link_wires.proofs.Wires.{aging_starts, aging_goes_on, aging_ends}
 use Rattle.link_wires.proofs.wire.grow_older.Goals as goal
 
 pub loop-init : goal.loop-init
-loop-init c frames w =
-    aging_starts w (let z = c.len-end.ensures.len in omega (arith, z))
+loop-init c frames w = aging_starts w (let z = c.len-end.ensures.len in omega (arith, z))
 
 pub loop-preserved : goal.loop-preserved
 loop-preserved c frames w =

@@ -8,5 +8,4 @@ pub returns-clause-fit : goal.returns-clause-fit
 returns-clause-fit c hosts d legs m few h s q = legs_fit hosts legs d m few h s q
 
 pub returns-clause-fit_in_midst : goal.returns-clause-fit_in_midst
-returns-clause-fit_in_midst c hosts d legs m few front back e k order most h s q =
-    amid_fit hosts legs d m few front back e k order most h s q
+returns-clause-fit_in_midst c hosts d legs m few front back e k order most h s q = amid_fit hosts legs d m few front back e k order most h s q

@@ -5,8 +5,7 @@ use Rattle.node_sites.proofs.NodesRun.{bare, asked_so, asked_bare, gives_so, beg
 use Rattle.node_sites.proofs.nodes.give.Goals as goal
 
 pub returns-in-Send-clause-refusal : goal.returns-in-Send-clause-refusal
-returns-in-Send-clause-refusal c core ports p runs here =
-    rw c.in-Send.is (c.send.ensures.refusal core ports p runs here)
+returns-in-Send-clause-refusal c core ports p runs here = rw c.in-Send.is (c.send.ensures.refusal core ports p runs here)
 
 pub returns-in-Send-clause-given : goal.returns-in-Send-clause-given
 returns-in-Send-clause-given c w begins =
@@ -26,8 +25,7 @@ returns-in-Send-clause-noted c sessions start w begins told =
     c.send.ensures.given)
 
 pub returns-in-Init-clause-refusal : goal.returns-in-Init-clause-refusal
-returns-in-Init-clause-refusal c core ports p runs here =
-    rw c.in-Init.is (c.init.ensures.refusal core ports p runs here)
+returns-in-Init-clause-refusal c core ports p runs here = rw c.in-Init.is (c.init.ensures.refusal core ports p runs here)
 
 pub returns-in-Init-clause-given : goal.returns-in-Init-clause-given
 returns-in-Init-clause-given c w begins =

@@ -22,5 +22,4 @@ loop-i-preserved c hosts a =
     (ne_eqb (slice_index_or c.args.sites.now c.loop-i.i c.index-sites-i.result).host c.args.host c.if-sites-i.false)
 
 pub returns-clause-place : goal.returns-clause-place
-returns-clause-place c hosts a =
-    none_there c.loop-i.i c.args.host c.args.sites.now hosts a (c.loop-i.invariant hosts a) c.loop-i-test.false
+returns-clause-place c hosts a = none_there c.loop-i.i c.args.host c.args.sites.now hosts a (c.loop-i.invariant hosts a) c.loop-i-test.false

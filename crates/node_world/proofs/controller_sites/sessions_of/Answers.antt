@@ -31,5 +31,4 @@ loop-i-preserved c = elim c.if-host-lt8.branch [
 ]
 
 pub returns : goal.returns
-returns c hosts a d h =
-    numbers_are c.loop-i.i c.args.sites.now hosts c.loop-i.sessions a (c.loop-i.invariant.goes hosts a) c.loop-i-test.false d h
+returns c hosts a d h = numbers_are c.loop-i.i c.args.sites.now hosts c.loop-i.sessions a (c.loop-i.invariant.goes hosts a) c.loop-i-test.false d h

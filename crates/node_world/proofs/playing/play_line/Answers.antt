@@ -70,8 +70,7 @@ lose_line-requires-clause-state c =
     (s.0, s.1, s.2, rw c.in-Lose.is at s.3)
 
 pub returns-in-Lose-clause-stands : goal.returns-in-Lose-clause-stands
-returns-in-Lose-clause-stands c header w world may mask_is =
-    rw c.in-Lose.is (c.lose_line.ensures.stands header w world (rw c.in-Lose.is at may))
+returns-in-Lose-clause-stands c header w world may mask_is = rw c.in-Lose.is (c.lose_line.ensures.stands header w world (rw c.in-Lose.is at may))
 
 pub tick_line-requires-clause-state : goal.tick_line-requires-clause-state
 tick_line-requires-clause-state c =
@@ -79,8 +78,7 @@ tick_line-requires-clause-state c =
     (s.0, s.1, s.2, rw c.in-Tick.is at s.3)
 
 pub returns-in-Tick-clause-stands : goal.returns-in-Tick-clause-stands
-returns-in-Tick-clause-stands c header w world may mask_is =
-    rw c.in-Tick.is (c.tick_line.ensures.stands header w world (rw c.in-Tick.is at may))
+returns-in-Tick-clause-stands c header w world may mask_is = rw c.in-Tick.is (c.tick_line.ensures.stands header w world (rw c.in-Tick.is at may))
 
 pub reset_line-requires-clause-state : goal.reset_line-requires-clause-state
 reset_line-requires-clause-state c =
@@ -88,8 +86,7 @@ reset_line-requires-clause-state c =
     (s.0, s.1, s.2, rw c.in-Reset.is at s.3)
 
 pub returns-in-Reset-clause-stands : goal.returns-in-Reset-clause-stands
-returns-in-Reset-clause-stands c header w world may mask_is =
-    rw c.in-Reset.is (c.reset_line.ensures.stands header w world (rw c.in-Reset.is at may))
+returns-in-Reset-clause-stands c header w world may mask_is = rw c.in-Reset.is (c.reset_line.ensures.stands header w world (rw c.in-Reset.is at may))
 
 pub boot_line-requires-clause-state : goal.boot_line-requires-clause-state
 boot_line-requires-clause-state c =
@@ -101,8 +98,7 @@ returns-in-Boot-clause-stands c header w world may mask_is =
     rw c.in-Boot.is (c.boot_line.ensures.stands header w world (rw c.in-Boot.is at may) mask_is)
 
 pub returns-in-Cut-clause-stands : goal.returns-in-Cut-clause-stands
-returns-in-Cut-clause-stands c header w world may mask_is =
-    rw c.in-Cut.is (c.cut_line.ensures.stands header w world (rw c.in-Cut.is at may))
+returns-in-Cut-clause-stands c header w world may mask_is = rw c.in-Cut.is (c.cut_line.ensures.stands header w world (rw c.in-Cut.is at may))
 
 pub activate_line-requires-clause-state : goal.activate_line-requires-clause-state
 activate_line-requires-clause-state c =
@@ -119,8 +115,7 @@ arm_line-requires-clause-state c =
     (s.0, s.1, s.2, rw c.in-Arm.is at s.3)
 
 pub returns-in-Arm-clause-stands : goal.returns-in-Arm-clause-stands
-returns-in-Arm-clause-stands c header w world may mask_is =
-    rw c.in-Arm.is (c.arm_line.ensures.stands header w world (rw c.in-Arm.is at may))
+returns-in-Arm-clause-stands c header w world may mask_is = rw c.in-Arm.is (c.arm_line.ensures.stands header w world (rw c.in-Arm.is at may))
 
 pub returns-in-Tables-clause-stands : goal.returns-in-Tables-clause-stands
 returns-in-Tables-clause-stands c header w world may mask_is = rw c.in-Tables.is (c.tables_line.ensures.stands w world may.goes_on)

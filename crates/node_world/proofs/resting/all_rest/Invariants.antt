@@ -4,5 +4,4 @@ use Rattle.node_world.proofs.resting.all_rest.Given as goal
 
 -- the links of so many hosts are at rest there
 abbrev pub invariant-loop-i : goal.invariant-loop-i
-invariant-loop-i l =
-    (w : NodeWorld) → WorldIs l.controller l.sites w → MayGoOn w → AreTimely w → RestSoFar l.i w.sites
+invariant-loop-i l = (w : NodeWorld) → WorldIs l.controller l.sites w → MayGoOn w → AreTimely w → RestSoFar l.i w.sites

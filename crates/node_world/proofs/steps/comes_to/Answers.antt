@@ -22,13 +22,11 @@ near_comes {old} at new what before now o near comes l wires =
 
 near_refused : (at : End) (w : NodeWorld) (comes : Comes) (why : Option ResetRefused) → at.at_host ≡ false
     → why ≡ refusal_coming w.controller (link_to w.sites at.link).controller.side comes → why ≡ refusal_coming (node_at w (node_of at)) (machine_in w at) comes
-near_refused at w comes why near is =
-    rw (← controller_end_is at near) is
+near_refused at w comes why near is = rw (← controller_end_is at near) is
 
 near_becomes : {k : Power} {ks : List HostSite} {before now : List Entry} (at : End) (w : NodeWorld) (comes : Comes) → at.at_host ≡ false
     → WorldBecomes k ks before now (comes_at w (end_c at.link) comes) → WorldBecomes k ks before now (comes_at w at comes)
-near_becomes {k} {ks} {before} {now} at w comes near b =
-    rw (← controller_end_is at near) b
+near_becomes {k} {ks} {before} {now} at w comes near b = rw (← controller_end_is at near) b
 
 pub returns-in_default-clause-refusal : goal.returns-in_default-clause-refusal
 returns-in_default-clause-refusal c w world ready there = nowhere w.sites c.args.at.link there (c.in_default.ensures.place w.sites world.sites)

@@ -38,5 +38,4 @@ returns-clause-stands c s is host may =
     (c.finish_host.ensures.stands s d.step d.l d.w before d.midway)
 
 pub returns-in_default-clause-stands : goal.returns-in_default-clause-stands
-returns-in_default-clause-stands c s is host may =
-    tick_off c.args.site.now s c.args.noted.now.entries.items is (is_off is c.in_default.not-On) may
+returns-in_default-clause-stands c s is host may = tick_off c.args.site.now s c.args.noted.now.entries.items is (is_off is c.in_default.not-On) may

@@ -1,6 +1,6 @@
 -- Three words that fit their kinds.
-use Rattle.schedule_text.proofs.Names.{End, List, Some, [], arith, byte_value, common_steps, drop, end_value, get_or, length, not, refl, side_value, sym, take}
-use Rattle.schedule_text.proofs.Names.{true, words, ℕ, ◌-◌, ◌||◌, ◌∙◌, ◌∷◌, ◌≡◌}
+use Rattle.schedule_text.proofs.Names.{End, List, Some, [], arith, byte_value, common_steps, drop, end_value, get_or, length, not, refl, sym, take, true, words}
+use Rattle.schedule_text.proofs.Names.{ℕ, ◌-◌, ◌||◌, ◌∙◌, ◌∷◌, ◌≡◌}
 use Rattle.schedule_text.proofs.AtOnceLemmas.{sends, send_words, message_sizes}
 use Rattle.schedule_text.proofs.at_once.send_at_once.Goals.{then-header, else-header}
 use Rattle.schedule_text.proofs.at_once.send_at_once.Goals as goal
@@ -15,9 +15,7 @@ returns-in-Some-bytes_of c =
     let at : End = record { link = c.in-Some.link; at_host = c.in-Some-side_of.at_host } in
     let pid = c.in-Some-pair_of.pid in
     let sizes = message_sizes digits bytes c.in-Some-bytes_of.ensures (omega arith) (omega arith) in
-    let is_link : byte_value (get_or rest 1 0 ∷ get_or rest 2 0 ∷ []) ≡ Some c.in-Some.link = sym c.pair_of.ensures ∙ c.in-Some.is in
-    let is_side : side_value (get_or rest 3 0) ≡ Some c.in-Some-side_of.at_host = sym c.side_of.ensures ∙ c.in-Some-side_of.is in
-    let is_end : end_value first ≡ Some at = rw (is_link, is_side) refl in
+    let is_end : end_value first ≡ Some at = rw ((sym c.pair_of.ensures ∙ c.in-Some.is), (sym c.side_of.ensures ∙ c.in-Some-side_of.is)) refl in
     let is_byte : byte_value second ≡ Some pid = sym c.pair_of-2.ensures ∙ c.in-Some-pair_of.is in
     let may : (not c.args.header.now.hci || c.in-Some-side_of.at_host) ≡ true =
     elim c.if-header.branch [

@@ -13,5 +13,4 @@ bytes-preserved c =
     )
 
 pub returns : goal.returns
-returns c =
-    encode_done upper_digits c.args.bytes.now c.bytes.digits c.bytes.i (omega arith) (omega (arith, c.bytes.invariant.0)) c.bytes.invariant.1
+returns c = encode_done upper_digits c.args.bytes.now c.bytes.digits c.bytes.i (omega arith) (omega (arith, c.bytes.invariant.0)) c.bytes.invariant.1

@@ -1,4 +1,4 @@
-use Rattle.std.proofs.Common.{◌+◌, ◌-◌, ◌*◌, ◌<◌, nat_le, slice_index_or, drop, sym, ◌∙◌, ap, arith}
+use Rattle.std.proofs.Common.{◌+◌, nat_le, drop, sym, ◌∙◌, ap, arith}
 use Rattle.schedule_text.specs.Values.{option_if}
 use Rattle.schedule_text.proofs.NumbersLemmas.{onward_at, onward_above}
 use Rattle.schedule_text.proofs.values.number_up_to.Goals as goal
@@ -8,9 +8,8 @@ returns-then-next-from c =
     let e = c.loop-digit.invariant.0
     ∙ onward_at c.loop-digit.number c.loop-digit.digit-index c.args.word.now (omega arith)
     (sym c.is_ascii_digit.ensures.value ∙ c.if-not-is_ascii_digit.false) in
-    let over : c.args.high < c.loop-digit.number * 10 + (slice_index_or c.args.word.now c.loop-digit.digit-index 0 - 48) = omega arith in
     sym (ap (option_if (λ n. nat_le n c.args.high)) e
-    ∙ onward_above _ c.args.high (drop (c.loop-digit.digit-index + 1) c.args.word.now) over)
+    ∙ onward_above _ c.args.high (drop (c.loop-digit.digit-index + 1) c.args.word.now) (omega arith))
 
 pub loop-digit-preserved : goal.loop-digit-preserved
 loop-digit-preserved c =

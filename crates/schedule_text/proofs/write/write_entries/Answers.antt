@@ -5,8 +5,7 @@ use Rattle.schedule_text.proofs.write.write_entries.Goals as goal
 whole : (c : goal.After-finish) → HoldsText (start_in c.args.out.now.items) (entry_lines c.args.entries.now) c.write_each.new.text
 whole c =
     let start = start_in c.args.out.now.items in
-    let begun : HoldsText start [] c.begin.new.self = subst (λ v. HoldsText (start_in v.items) [] c.begin.new.self) c.out.view_is c.begin.ensures in
-    c.write_each.ensures start [] begun
+    c.write_each.ensures start [] (subst (λ v. HoldsText (start_in v.items) [] c.begin.new.self) c.out.view_is c.begin.ensures)
 
 pub returns-clause-err : goal.returns-clause-err
 returns-clause-err c =

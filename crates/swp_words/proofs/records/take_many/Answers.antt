@@ -6,8 +6,7 @@ use Rattle.swp_words.proofs.records.take_many.Goals as goal
 
 -- the first of the bytes behind a place
 further : (piece first : List ℕ) (at n : ℕ) → first ≡ take 64 (drop at piece) → n ≤ 64 → take at piece ++ take n first ≡ take (at + n) piece
-further piece first at n is h =
-    ap (λ l. take at piece ++ l) (ap (take n) is ∙ take-take n 64 (drop at piece) h) ∙ sym (take-add at n piece)
+further piece first at n is h = ap (λ l. take at piece ++ l) (ap (take n) is ∙ take-take n 64 (drop at piece) h) ∙ sym (take-add at n piece)
 
 -- what was read before these bytes, the bytes and what follows them
 around : (bytes piece first rest : List ℕ) (at : ℕ) → first ≡ take 64 (drop at piece)

@@ -8,7 +8,7 @@ returns-clause-few c = λ n h l near far. rounds_few h (rounds_to_settle n h l) 
 pub returns-clause-most : goal.returns-clause-most
 returns-clause-most c = λ n h l near far.
     let most = (first_rest link_rests (link_after_round h) n l).most in
-    omega (arith, (rounds_few h (rounds_to_settle n h l) l (record { to_controller = near; to_host = far })), most)
+    omega (arith, rounds_few h (rounds_to_settle n h l) l (record { to_controller = near; to_host = far }), most)
 
 pub returns-clause-to_controller : goal.returns-clause-to_controller
 returns-clause-to_controller c = λ causes. (bare_few causes).to_controller

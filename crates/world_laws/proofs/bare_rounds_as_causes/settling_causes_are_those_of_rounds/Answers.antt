@@ -16,4 +16,4 @@ returns-clause-ticks c = λ n h l. ticks_are h (rounds_to_settle n h l) l
 
 pub returns-clause-most : goal.returns-clause-most
 returns-clause-most c = λ n h l.
-    omega (arith, (ticks_are h (rounds_to_settle n h l) l), ((first_rest link_rests (link_after_round h) n l).most))
+    omega (arith, ticks_are h (rounds_to_settle n h l) l, (first_rest link_rests (link_after_round h) n l).most)

@@ -16,4 +16,4 @@ returns-clause-settling c = λ n w. rounds_few (world_rounds_to_settle n w) w
 
 pub returns-clause-most : goal.returns-clause-most
 returns-clause-most c = λ n w few seven.
-    omega (arith, (rounds_few (world_rounds_to_settle n w) w few seven), ((first_rest world_rests world_after_round n w).most))
+    omega (arith, rounds_few (world_rounds_to_settle n w) w few seven, (first_rest world_rests world_after_round n w).most)

@@ -10,4 +10,4 @@ returns-clause-settling c = λ n w. ticks_are (world_rounds_to_settle n w) w
 
 pub returns-clause-most : goal.returns-clause-most
 returns-clause-most c = λ n w.
-    omega (arith, (ticks_are (world_rounds_to_settle n w) w), ((first_rest world_rests world_after_round n w).most))
+    omega (arith, ticks_are (world_rounds_to_settle n w) w, (first_rest world_rests world_after_round n w).most)

@@ -43,7 +43,7 @@ of-requires-clause-some c =
     let len_is = len_says s.region.items s.next.items s.heads.items s.fresh c.args.self.now.slots view c.args.first head at in
     let room : head.len % 32 + length bytes ≤ 32 = subst (λ n. n % 32 + length bytes ≤ 32) len_is c.requires.room in
     let begun : 0 < head.len % 32 = subst (λ n. 0 < n % 32) len_is c.requires.begun in
-    omega (arith, ((c.self.invariant.0.chains c.args.first head at).some))
+    omega (arith, (c.self.invariant.0.chains c.args.first head at).some)
 
 pub of-requires-clause-few : goal.of-requires-clause-few
 of-requires-clause-few c =

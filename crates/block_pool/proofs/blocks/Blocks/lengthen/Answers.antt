@@ -20,7 +20,7 @@ invariant_of-self c =
     let s = c.self.inside in
     let room = c.self.invariant.1 in
     let some = some_fresh c in
-    let few : length s.next.items < 16384 = omega (arith, room.few, some, (sym s.next.ok.0)) in
+    let few : length s.next.items < 16384 = omega (arith, room.few, some, sym s.next.ok.0) in
     let grown = lengthened_sound s.region.items s.next.items s.heads.items s.free (sound c) (replicate 32 0) 0 refl few in (
       rw (c.add_block.ensures.items, c.push_reserved.ensures.items, c.push_reserved-2.ensures.items, c.none.ensures, c.len-block.ensures, s.next.ok.0) grown,
       record {

@@ -32,14 +32,14 @@ overflow_add-head c =
 
 pub of-requires-clause-some : goal.of-requires-clause-some
 of-requires-clause-some c =
-    omega (arith, ((c.self.invariant.0.chains c.args.first c.head_at-head.result (rw c.deref.ensures.value at c.head_at-head.ensures.head)).some))
+    omega (arith, (c.self.invariant.0.chains c.args.first c.head_at-head.result (rw c.deref.ensures.value at c.head_at-head.ensures.head)).some)
 
 pub of-requires-clause-few : goal.of-requires-clause-few
 of-requires-clause-few c =
     let s = c.self.inside in
     let head = c.head_at-head.result in
     let at : get_or s.heads.items c.args.first None ≡ Some head = rw c.deref.ensures.value at c.head_at-head.ensures.head in
-    omega (arith, (blocks_few s.region.items s.next.items s.heads.items s.free s.free_len c.self.invariant.0 c.args.first head at))
+    omega (arith, blocks_few s.region.items s.next.items s.heads.items s.free s.free_len c.self.invariant.0 c.args.first head at)
 
 pub invariant_of-self : goal.invariant_of-self
 invariant_of-self c =

@@ -19,7 +19,7 @@ of-requires-clause-few c =
     let s = c.self.inside in
     let head = c.head_at-head.result in
     let at : get_or s.heads.items c.args.first None ≡ Some head = rw c.deref.ensures.value at c.head_at-head.ensures.head in
-    omega (arith, (blocks_few s.region.items s.next.items s.heads.items s.free s.free_len c.self.invariant.0 c.args.first head at))
+    omega (arith, blocks_few s.region.items s.next.items s.heads.items s.free s.free_len c.self.invariant.0 c.args.first head at)
 
 pub invariant_of-self : goal.invariant_of-self
 invariant_of-self c =

@@ -16,7 +16,7 @@ append-requires-clause-room c =
     let all = blocks_is c.div_ceil.result (c.len-len.result + length c.args.bytes.now) c.div_ceil.ensures in
     let enough = enough_free pool c.self.invariant.0 chain.owner live.0 s.blocks.free c.self.invariant.1 in
     subst (λ n. blocks_for (n + length c.args.bytes.now) ≤ blocks_for n + s.blocks.free) len
-    (omega (arith, all, (blocks_is c.div_ceil-2.result c.len-len.result c.div_ceil-2.ensures), spare, enough, c.if-need-spare.false))
+    (omega (arith, all, blocks_is c.div_ceil-2.result c.len-len.result c.div_ceil-2.ensures, spare, enough, c.if-need-spare.false))
 
 pub invariant_of-self : goal.invariant_of-self
 invariant_of-self c =

@@ -9,8 +9,7 @@ returns-then-self-clause-stands c seen stands =
     stands_lost c.args.self.now seen (take (length c.args.bytes.now) c.args.bytes.now) c.if-self.true stands
 
 pub returns-then-self-clause-quiet : goal.returns-then-self-clause-quiet
-returns-then-self-clause-quiet c seen stands =
-    quiet_lost c.args.self.now seen (take (length c.args.bytes.now) c.args.bytes.now) c.if-self.true stands
+returns-then-self-clause-quiet c seen stands = quiet_lost c.args.self.now seen (take (length c.args.bytes.now) c.args.bytes.now) c.if-self.true stands
 
 pub returns-clause-stands : goal.returns-clause-stands
 returns-clause-stands c seen stands =

@@ -87,8 +87,7 @@ breaks c m h =
     (let e = c.in-Err.ensures.err in record { lies = e.0; owner = e.1; none = e.2; used = e.3; elsewhere = e.4 }) c.forget-in-Err.ensures c.stop.ensures.stands
 
 pub forget-requires-in-Err-clause-outbox : goal.forget-requires-in-Err-clause-outbox
-forget-requires-in-Err-clause-outbox c =
-    (fault_lies c.requires.stands.1 (broken (goal.at.forget-requires-in-Err-clause-outbox c).In-Err)).lies
+forget-requires-in-Err-clause-outbox c = (fault_lies c.requires.stands.1 (broken (goal.at.forget-requires-in-Err-clause-outbox c).In-Err)).lies
 
 pub returns-in-Err-clause-stands : goal.returns-in-Err-clause-stands
 returns-in-Err-clause-stands c m h = (breaks (goal.at.returns-in-Err-clause-stands c).After-stop m h).stands

@@ -14,8 +14,7 @@ pub returns-in-Ok-clause-stands : goal.returns-in-Ok-clause-stands
 returns-in-Ok-clause-stands c m h =
     let x : Message = (c.args.pipe, c.args.message.now) in
     let up : m.shdlc.phase ≡ Up = sym h.halfway.link.kept.phase ∙ (sym c.state.ensures.value ∙ c.in-Up.is) in
-    let fits : blocks_for (length x.1) ≤ spare m = rw (spare_is c.args.pool.now c.args.self.now m h) (c.in-Ok.ensures.room.0 refl) in
-    rw (gives m x (refused_none m x up c.if-message.false fits))
+    rw (gives m x (refused_none m x up c.if-message.false (rw (spare_is c.args.pool.now c.args.self.now m h) (c.in-Ok.ensures.room.0 refl))))
     (c.offer_more.ensures.stands _
     (message_given
     (record { before = h; up = sym c.state.ensures.value ∙ c.in-Up.is; sendable = c.requires.sendable; accepts = c.in-Ok.ensures.ok })

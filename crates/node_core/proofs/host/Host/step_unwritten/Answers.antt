@@ -17,16 +17,13 @@ step-requires g c =
     )
 
 pub returns-clause-refusal : goal.returns-clause-refusal
-returns-clause-refusal g c =
-    rw (← c.self.view_is) (λ core ports r. rw (← c.number-host.ensures) (c.in_default.ensures.refusal core ports r))
+returns-clause-refusal g c = rw (← c.self.view_is) (λ core ports r. rw (← c.number-host.ensures) (c.in_default.ensures.refusal core ports r))
 
 pub returns-in-Err-clause-refusal : goal.returns-in-Err-clause-refusal
-returns-in-Err-clause-refusal g c =
-    rw (← c.self.view_is) (λ core ports r. rw (← c.number-host.ensures) (c.in-Err.ensures.refusal core ports r))
+returns-in-Err-clause-refusal g c = rw (← c.self.view_is) (λ core ports r. rw (← c.number-host.ensures) (c.in-Err.ensures.refusal core ports r))
 
 pub returns-clause-stepped : goal.returns-clause-stepped
-returns-clause-stepped g c =
-    rw (← c.self.view_is) (λ start w b. rw (← c.number-host.ensures) (c.in_default.ensures.stepped start w b))
+returns-clause-stepped g c = rw (← c.self.view_is) (λ start w b. rw (← c.number-host.ensures) (c.in_default.ensures.stepped start w b))
 
 pub returns-in-Err-clause-unchanged : goal.returns-in-Err-clause-unchanged
 returns-in-Err-clause-unchanged g c = rw (← c.self.view_is) c.in-Err.ensures.unchanged

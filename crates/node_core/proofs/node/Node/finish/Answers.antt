@@ -55,7 +55,6 @@ returns-clause-carried g c start w u may =
     (IsInStep t.new.self (g.W.Watch.noted t.new.watch) (g.W.Watch.is_short t.new.watch) start) (settles (sync_kept s.journal.state s.tables c.args.came)) w =
     t.ensures.carried start w u in
     let live = b.stands.power ∙ ap not (ran_is t.ensures.ran c.is_done.ensures ∙ c.if-not-is_done.false) in
-    let same = settled_ports (sync_kept s.journal.state s.tables c.args.came) b live in
     let order = stays_in_order (settles_fine s.journal.state s.tables c.args.came) b live (u.power ∙ ap not c.requires.live) may.0 in
     brings_same (brings_then g.N.Nv.writes b live (c.passes-2.ensures.carried start b.after b.stands
-    (order, quiet_few b.after.ports w.ports same may.1))) (λ plan. refl)
+    (order, quiet_few b.after.ports w.ports (settled_ports (sync_kept s.journal.state s.tables c.args.came) b live) may.1))) (λ plan. refl)

@@ -38,4 +38,4 @@ loop-i-preserved g c =
 
 pub returns : goal.returns
 returns g c ports e =
-    c.loop-i.invariant.items ports e ∙ freed_all c.loop-i.i ports (omega (arith, (many_ports c.args.self.now.ends ports e), c.loop-i-test.false))
+    c.loop-i.invariant.items ports e ∙ freed_all c.loop-i.i ports (omega (arith, many_ports c.args.self.now.ends ports e, c.loop-i-test.false))

@@ -36,7 +36,6 @@ is_decided g c start w u order few got =
     let a : Handling = handling c.args.self.now m in
     let d = c.deeds_for in
     let short = c.lack-short.result in
-    let held = c.is_held-held.ensures w.ports u.ends in
     let k = u.core (u.power ∙ ap not c.requires.live) in
     let L : List Deed → Type 0 = λ ds. option_map lack_shown short ≡ lack w.ports (needs h (deeds_shown a ds)) in
     let spares = c.spares-spares.ensures w.ports u.ends (hosts_low w.ports order.hosts) in
@@ -46,7 +45,7 @@ is_decided g c start w u order few got =
     let D : List Deed → Type 0 = λ ds. IsDecided h a ds short c.is_held-held.result w in
     let A : Node g.row.N.Denot → Type 0 = λ n. IsDecided h (handling n m) c.as_slice-2.result.now short c.is_held-held.result w in (
       subst (λ n. IsInStep n (g.W.Watch.noted c.args.watch.now) (g.W.Watch.is_short c.args.watch.now) start w) (sym d.ensures.same) u,
-      subst A (sym d.ensures.same) (subst D (sym c.as_slice-2.ensures.value) (subst H (sym held) is)),
+      subst A (sym d.ensures.same) (subst D (sym c.as_slice-2.ensures.value) (subst H (sym (c.is_held-held.ensures w.ports u.ends)) is)),
     )
 
 pub returns-in_default-waits-clause-carried : goal.returns-in_default-waits-clause-carried

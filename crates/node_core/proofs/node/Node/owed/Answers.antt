@@ -40,4 +40,4 @@ loop-i-preserved g c =
 pub returns : goal.returns
 returns g c ports r e =
     let past = c.loop-i-test.false in
-    c.loop-i.invariant.items ports r e ∙ owed_all c.args.late r c.loop-i.i ports (omega (arith, (many_ports c.args.self.now.ends ports e), past))
+    c.loop-i.invariant.items ports r e ∙ owed_all c.args.late r c.loop-i.i ports (omega (arith, many_ports c.args.self.now.ends ports e, past))

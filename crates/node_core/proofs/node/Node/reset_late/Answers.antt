@@ -44,4 +44,4 @@ pub returns-clause-carried : goal.returns-clause-carried
 returns-clause-carried g c start w u few =
     let P : Work → Type 0 = λ v. IsInStep c.loop-i.self (g.W.Watch.noted c.loop-i.watch) (g.W.Watch.is_short c.loop-i.watch) start v in
     let past = c.loop-i-test.false in
-    subst P (all_reset c.loop-i.i w (omega (arith, (c.count-i-end.ensures w.ports u.ends), past))) (c.loop-i.invariant.goes start w u few)
+    subst P (all_reset c.loop-i.i w (omega (arith, c.count-i-end.ensures w.ports u.ends, past))) (c.loop-i.invariant.goes start w u few)

@@ -5,4 +5,4 @@ use Rattle.node_ends.proofs.ends.Ends.count.Goals as goal
 
 pub returns : goal.returns
 returns c ports stands =
-    omega (arith, c.len.ensures, (as_many c.self.inside.pool c.self.inside.seats.items ports (opened c.self.view_is stands).each))
+    omega (arith, c.len.ensures, as_many c.self.inside.pool c.self.inside.seats.items ports (opened c.self.view_is stands).each)

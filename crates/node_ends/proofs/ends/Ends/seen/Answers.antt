@@ -14,7 +14,7 @@ up_there p = is_up p.side.shdlc.phase
 pub push-requires : goal.push-requires
 push-requires c =
     let few = c.loop-seat.invariant.few in
-    omega (arith, (low_place c.loop-seat.seat-index c.loop-seat-test.true c.as_slice-seat-items.ensures.value c.self.invariant.1), few)
+    omega (arith, low_place c.loop-seat.seat-index c.loop-seat-test.true c.as_slice-seat-items.ensures.value c.self.invariant.1, few)
 
 pub loop-seat-preserved : goal.loop-seat-preserved
 loop-seat-preserved c =
@@ -53,7 +53,7 @@ returns-clause-seen c ports stands hosts =
     c.bit-2.ensures.small c.bit-3.ensures.small c.bit-4.ensures.small c.bit-5.ensures.small c.bit-6.ensures.small c.bit-7.ensures.small in
     let past = c.loop-seat-test.false in
     let links = all_so_far up_there false c.loop-seat.links c.loop-seat.seat-index ports (c.loop-seat.invariant.far c.self.inside.pool ports here)
-    (omega (arith, (as_many c.self.inside.pool _ ports here.each), past)) in
+    (omega (arith, as_many c.self.inside.pool _ ports here.each, past)) in
     are_seen c.self.inside.pool _ c.loop-seat.desks.items c.self.inside.seats.items ports
     (all_desks c.loop-seat.seat-index c.loop-seat.desks.items c.loop-seat.invariant.items past c.as_slice-seat-items.ensures.value)
     (λ h some most. has_bit (has_link ports) _ h some most

@@ -10,7 +10,7 @@ set_aside-requires c = subst (λ n. n < length c.args.pool.now.owners) c.require
 
 pub overflow_add-self : goal.overflow_add-self
 overflow_add-self c =
-    omega (arith, (few_aside c.args.pool.now c.args.self.now.side c.requires.stands.0 c.requires.stands.1.stands), c.requires.stands.2)
+    omega (arith, few_aside c.args.pool.now c.args.self.now.side c.requires.stands.0 c.requires.stands.1.stands, c.requires.stands.2)
 
 pub returns-in-Ok : goal.returns-in-Ok
 returns-in-Ok c =

@@ -22,8 +22,7 @@ as_slice old ks w same stands = let W : List HostSite → Type 0 = λ xs. WorldI
 written : (old : NodeWorld) (said : Line) (w : Machine) (k : Power) (ks : List HostSite) (noted : Noted) (result : Result (Option Misread) NoMemory)
     → length ks ≡ old.sites.len → IfOk result (λ other. other ≡ None → LinePlayed k ks noted.entries.items (line_step w said))
     → IfOk result (λ other. other ≡ None → LinePlayed k (with_items old.sites ks).items noted.entries.items (line_step w said))
-written old said w k ks noted result many played =
-    rw (with_items_is old.sites ks many) played
+written old said w k ks noted result many played = rw (with_items_is old.sites ks many) played
 
 pub damage_line-requires-clause-state : goal.damage_line-requires-clause-state
 damage_line-requires-clause-state c =

@@ -6,8 +6,7 @@ use Rattle.pipe_table.proofs.table.PipeTable.clear_host.Goals as goal
 pub invariant_of-self : goal.invariant_of-self
 invariant_of-self c =
     let kept = filter-from_retain _ (λ (row : PipeRow). not (joins_host row c.args.host)) _ (λ x b f' y called. search rules) _ _ c.retain.ensures.filtered in
-    let P : List PipeRow → Type 0 = ArePipeRows in
-    subst P (sym kept) (AreRows-filter pid_of 2 112 (λ row. not (joins_host row c.args.host)) c.self.inside.rows.items c.self.invariant)
+    subst ArePipeRows (sym kept) (AreRows-filter pid_of 2 112 (λ row. not (joins_host row c.args.host)) c.self.inside.rows.items c.self.invariant)
 
 pub returns : goal.returns
 returns c =

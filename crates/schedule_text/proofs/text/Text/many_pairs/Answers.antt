@@ -30,6 +30,5 @@ pieces-preserved c =
 pub returns : goal.returns
 returns c =
     λ start text h.
-    let front = c.pieces.invariant.0 in
     subst (λ bs. HoldsText start (text ++ encode_upper bs) c.few_pairs.new.self) c.pieces.invariant.1.0
-    (holds_digits start text front c.pieces.left.now _ _ refl (c.few_pairs.ensures start _ (c.pieces.invariant.1.1 start text h)))
+    (holds_digits start text c.pieces.invariant.0 c.pieces.left.now _ _ refl (c.few_pairs.ensures start _ (c.pieces.invariant.1.1 start text h)))
