@@ -3,11 +3,11 @@ use Rattle.std.specs.Prelude.{ℕ, List, [], ◌++◌, codes}
 use Rattle.std.specs.Fmt.{decimal}
 use Rattle.vcd_text.specs.declared.fault.VcdFault.{VcdFault}
 use Rattle.vcd_text.specs.declared.fault.VcdFault.TheVariants as fault
-use Rattle.swp_capture.specs.declared.status.Status.{Status}
-use Rattle.swp_capture.specs.declared.status.Status.TheVariants as status
+use Rattle.swp_capture.specs.declared.status.CaptureStatus.{CaptureStatus}
+use Rattle.swp_capture.specs.declared.status.CaptureStatus.TheVariants as status
 
 -- the exit status of a run that ended so
-abbrev pub capture_code_of : Status → ℕ
+abbrev pub capture_code_of : CaptureStatus → ℕ
 capture_code_of status.Done = 0
 capture_code_of status.BadWords = 2
 capture_code_of (status.BadCapture line fault) = 3
@@ -36,7 +36,7 @@ capture_fault_text fault.BadChange = codes "bad change"
 capture_fault_text fault.NoTime = codes "no time"
 
 -- what the program says of a status
-abbrev pub capture_line : Status → List ℕ
+abbrev pub capture_line : CaptureStatus → List ℕ
 capture_line status.Done = []
 capture_line status.BadWords = codes "usage: swp_capture vcd RATE|auto"
 capture_line (status.BadCapture line why) = codes "line " ++ (decimal line ++ (codes ": " ++ capture_fault_text why))

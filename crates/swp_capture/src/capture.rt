@@ -1,14 +1,14 @@
 //! A capture as a record.
 ghost use Rattle.std.specs.Prelude.{◌≡◌, ◌≢◌, ◌≤◌, ◌<◌, ◌^◌, ◌⊎◌, IfSome, Err};
 ghost use Rattle.swp_base.specs.Outside.{Rose};
-ghost use Rattle.swp_capture.specs.declared.status.Status.{Status};
+ghost use Rattle.swp_capture.specs.declared.status.CaptureStatus.{CaptureStatus};
 
 use crate::output::Output;
 use crate::rate::Search;
-use crate::status::Status;
+use crate::status::CaptureStatus;
 use line_capture::{CaptureFault, Change, LineReader};
 use swp_base::{Failed, Sink, Source};
-use vcd_text::{Told, VcdFault, VcdReader, VcdRefusal};
+use vcd_text::{VcdFault, VcdReader, VcdRefusal, VcdTold};
 
 /// How many bytes are read at once.
 const MOST_PIECE: usize = 8192;
@@ -29,28 +29,32 @@ struct Capture {
 /// Reads a capture to its end, and writes its record. `unit` is a sixteenth of the bit period, in femtoseconds; where there is none, it
 /// is found in the first changes, which are kept until then. What the bytes of
 /// one read make known is written before the next read, and what was known before a refusal is written too.
-pub fn record_capture<S: Source, K: Sink>(unit: Option<u64>, source: &mut S, sink: &mut K) -> Status
+pub fn record_capture<S: Source, K: Sink>(
+    unit: Option<u64>,
+    source: &mut S,
+    sink: &mut K,
+) -> CaptureStatus
     requires some { IfSome unit (λ u. 0 < u) }
     requires few { IfSome unit (λ u. u ≤ 2 ^ 32) }
-    ensures read_fault { result ≡ Status.ReadFault → Rose (S.faults source.old) (S.faults source.new) }
-    ensures write_fault { result ≡ Status.WriteFault → Rose (K.faults sink.old) (K.faults sink.new) }
+    ensures read_fault { result ≡ CaptureStatus.ReadFault → Rose (S.faults source.old) (S.faults source.new) }
+    ensures write_fault { result ≡ CaptureStatus.WriteFault → Rose (K.faults sink.old) (K.faults sink.new) }
 {
     let mut capture = Capture::new(unit);
     let mut buffer = [0; MOST_PIECE];
     'reads: for _ in 0..u64::MAX {
         match source.read(&mut buffer) {
-            Err(Failed) => return Status::ReadFault,
+            Err(Failed) => return CaptureStatus::ReadFault,
             Ok(0) => return capture.close(sink),
             Ok(n) => {
                 let answer = capture.take_all(sink, &buffer[..n]);
                 let status = capture.settled(sink, answer);
-                if status != Status::Done {
+                if status != CaptureStatus::Done {
                     return status;
                 }
             }
         }
     }
-    Status::TooLong
+    CaptureStatus::TooLong
 }
 
 impl Capture {
@@ -75,24 +79,24 @@ impl Capture {
     }
 
     /// Writes what is known, and gives how the run ended so far.
-    fn settled<K: Sink>(&mut self, sink: &mut K, answer: Result<(), Status>) -> Status
-        requires { answer ≢ Err Status.ReadFault }
+    fn settled<K: Sink>(&mut self, sink: &mut K, answer: Result<(), CaptureStatus>) -> CaptureStatus
+        requires { answer ≢ Err CaptureStatus.ReadFault }
         ensures count { K.faults sink.old ≤ K.faults sink.new }
-        ensures read { result ≢ Status.ReadFault }
-        ensures fault { result ≡ Status.WriteFault → (answer ≡ Err Status.WriteFault) ⊎ Rose (K.faults sink.old) (K.faults sink.new) }
+        ensures read { result ≢ CaptureStatus.ReadFault }
+        ensures fault { result ≡ CaptureStatus.WriteFault → (answer ≡ Err CaptureStatus.WriteFault) ⊎ Rose (K.faults sink.old) (K.faults sink.new) }
     {
         match (answer, self.output.flush(sink)) {
             (Err(status), _) => status,
             (Ok(()), Err(status)) => status,
-            (Ok(()), Ok(())) => Status::Done,
+            (Ok(()), Ok(())) => CaptureStatus::Done,
         }
     }
 
     /// Takes bytes of the text.
-    fn take_all<K: Sink>(&mut self, sink: &mut K, bytes: &[u8]) -> Result<(), Status>
+    fn take_all<K: Sink>(&mut self, sink: &mut K, bytes: &[u8]) -> Result<(), CaptureStatus>
         ensures count { K.faults sink.old ≤ K.faults sink.new }
-        ensures read { result ≢ Err Status.ReadFault }
-        ensures fault { result ≡ Err Status.WriteFault → Rose (K.faults sink.old) (K.faults sink.new) }
+        ensures read { result ≢ Err CaptureStatus.ReadFault }
+        ensures fault { result ≡ Err CaptureStatus.WriteFault → Rose (K.faults sink.old) (K.faults sink.new) }
     {
         for byte in bytes {
             self.take(sink, *byte)?;
@@ -101,30 +105,30 @@ impl Capture {
     }
 
     /// Takes a byte of the text.
-    fn take<K: Sink>(&mut self, sink: &mut K, byte: u8) -> Result<(), Status>
+    fn take<K: Sink>(&mut self, sink: &mut K, byte: u8) -> Result<(), CaptureStatus>
         ensures count { K.faults sink.old ≤ K.faults sink.new }
-        ensures read { result ≢ Err Status.ReadFault }
-        ensures fault { result ≡ Err Status.WriteFault → Rose (K.faults sink.old) (K.faults sink.new) }
+        ensures read { result ≢ Err CaptureStatus.ReadFault }
+        ensures fault { result ≡ Err CaptureStatus.WriteFault → Rose (K.faults sink.old) (K.faults sink.new) }
     {
         match self.text.take(byte) {
-            Ok(Told::Nothing) => Ok(()),
-            Ok(Told::Begins(time)) => {
+            Ok(VcdTold::Nothing) => Ok(()),
+            Ok(VcdTold::Begins(time)) => {
                 self.begin = time;
                 if self.is_known {
                     self.line = Some(LineReader::begin(self.unit, time));
                 }
                 Ok(())
             }
-            Ok(Told::Changes(change)) => self.change(sink, change),
+            Ok(VcdTold::Changes(change)) => self.change(sink, change),
             Err(refusal) => Err(refused(refusal)),
         }
     }
 
     /// Takes a change of the line.
-    fn change<K: Sink>(&mut self, sink: &mut K, change: Change) -> Result<(), Status>
+    fn change<K: Sink>(&mut self, sink: &mut K, change: Change) -> Result<(), CaptureStatus>
         ensures count { K.faults sink.old ≤ K.faults sink.new }
-        ensures read { result ≢ Err Status.ReadFault }
-        ensures fault { result ≡ Err Status.WriteFault → Rose (K.faults sink.old) (K.faults sink.new) }
+        ensures read { result ≢ Err CaptureStatus.ReadFault }
+        ensures fault { result ≡ Err CaptureStatus.WriteFault → Rose (K.faults sink.old) (K.faults sink.new) }
     {
         let Some(line) = &mut self.line else {
             return self.seek(sink, change);
@@ -136,10 +140,10 @@ impl Capture {
     }
 
     /// Keeps a change, and begins the line where the rate is known by it.
-    fn seek<K: Sink>(&mut self, sink: &mut K, change: Change) -> Result<(), Status>
+    fn seek<K: Sink>(&mut self, sink: &mut K, change: Change) -> Result<(), CaptureStatus>
         ensures count { K.faults sink.old ≤ K.faults sink.new }
-        ensures read { result ≢ Err Status.ReadFault }
-        ensures fault { result ≡ Err Status.WriteFault → Rose (K.faults sink.old) (K.faults sink.new) }
+        ensures read { result ≢ Err CaptureStatus.ReadFault }
+        ensures fault { result ≡ Err CaptureStatus.WriteFault → Rose (K.faults sink.old) (K.faults sink.new) }
     {
         self.search.note(change);
         if self.search.is_over() {
@@ -150,13 +154,13 @@ impl Capture {
     }
 
     /// Begins the line at the rate that was found, with the changes that were kept.
-    fn begin_line<K: Sink>(&mut self, sink: &mut K) -> Result<(), Status>
+    fn begin_line<K: Sink>(&mut self, sink: &mut K) -> Result<(), CaptureStatus>
         ensures count { K.faults sink.old ≤ K.faults sink.new }
-        ensures read { result ≢ Err Status.ReadFault }
-        ensures fault { result ≡ Err Status.WriteFault → Rose (K.faults sink.old) (K.faults sink.new) }
+        ensures read { result ≢ Err CaptureStatus.ReadFault }
+        ensures fault { result ≡ Err CaptureStatus.WriteFault → Rose (K.faults sink.old) (K.faults sink.new) }
     {
         let Some(unit) = self.search.unit() else {
-            return Err(Status::NoRate);
+            return Err(CaptureStatus::NoRate);
         };
         let mut line = LineReader::begin(unit, self.begin);
         'kept: for at in 0..self.search.count() {
@@ -173,19 +177,19 @@ impl Capture {
     }
 
     /// The text has ended: writes the rest.
-    fn close<K: Sink>(&mut self, sink: &mut K) -> Status
+    fn close<K: Sink>(&mut self, sink: &mut K) -> CaptureStatus
         ensures count { K.faults sink.old ≤ K.faults sink.new }
-        ensures read { result ≢ Status.ReadFault }
-        ensures fault { result ≡ Status.WriteFault → Rose (K.faults sink.old) (K.faults sink.new) }
+        ensures read { result ≢ CaptureStatus.ReadFault }
+        ensures fault { result ≡ CaptureStatus.WriteFault → Rose (K.faults sink.old) (K.faults sink.new) }
     {
         let answer = self.end(sink);
         self.settled(sink, answer)
     }
 
-    fn end<K: Sink>(&mut self, sink: &mut K) -> Result<(), Status>
+    fn end<K: Sink>(&mut self, sink: &mut K) -> Result<(), CaptureStatus>
         ensures count { K.faults sink.old ≤ K.faults sink.new }
-        ensures read { result ≢ Err Status.ReadFault }
-        ensures fault { result ≡ Err Status.WriteFault → Rose (K.faults sink.old) (K.faults sink.new) }
+        ensures read { result ≢ Err CaptureStatus.ReadFault }
+        ensures fault { result ≡ Err CaptureStatus.WriteFault → Rose (K.faults sink.old) (K.faults sink.new) }
     {
         // The last word may have no end of line behind it.
         self.take(sink, b' ')?;
@@ -209,15 +213,15 @@ impl Capture {
     }
 
     /// What a time that the line refuses is told as. The text refuses it before.
-    fn late(&self, fault: CaptureFault) -> Status
-        ensures read { result ≢ Status.ReadFault }
-        ensures write { result ≢ Status.WriteFault }
+    fn late(&self, fault: CaptureFault) -> CaptureStatus
+        ensures read { result ≢ CaptureStatus.ReadFault }
+        ensures write { result ≢ CaptureStatus.WriteFault }
     {
         let fault = match fault {
             CaptureFault::TimeBack => VcdFault::TimeBack,
             CaptureFault::TooLate => VcdFault::TimeTooLarge,
         };
-        Status::BadCapture {
+        CaptureStatus::BadCapture {
             line: self.text.line(),
             fault,
         }
@@ -225,11 +229,11 @@ impl Capture {
 }
 
 /// A refusal of the text as the end of a run.
-fn refused(refusal: VcdRefusal) -> Status
-    ensures read { result ≢ Status.ReadFault }
-    ensures write { result ≢ Status.WriteFault }
+fn refused(refusal: VcdRefusal) -> CaptureStatus
+    ensures read { result ≢ CaptureStatus.ReadFault }
+    ensures write { result ≢ CaptureStatus.WriteFault }
 {
-    Status::BadCapture {
+    CaptureStatus::BadCapture {
         line: refusal.line,
         fault: refusal.fault,
     }

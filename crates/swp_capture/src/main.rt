@@ -10,7 +10,7 @@ mod status;
 ghost use Rattle.std.specs.Prelude.{◌<◌, ◌≤◌, ◌^◌, IfOk, IfSome};
 
 use capture::record_capture;
-use status::{Status, exit_code, status_text};
+use status::{CaptureStatus, exit_code, status_text};
 use std::fs::{File, Files};
 use std::process::ExitCode;
 use std::rt::Runtime;
@@ -26,7 +26,7 @@ const RATES: (u64, u64) = (20_000, 10_000_000);
 fn main(rt: HostRuntime) -> ExitCode {
     let _kept_open = begin(&rt);
     let status = status_of_run(&rt);
-    if status != Status::Done {
+    if status != CaptureStatus::Done {
         // Where even this can't be said, the exit status still tells.
         let _ = tell(&rt, &status);
     }
@@ -34,14 +34,16 @@ fn main(rt: HostRuntime) -> ExitCode {
 }
 
 /// Runs the program over standard input and output.
-fn status_of_run<R: Runtime + Input + Print + AllocGlobal + Files<File = File>>(rt: &R) -> Status {
+fn status_of_run<R: Runtime + Input + Print + AllocGlobal + Files<File = File>>(
+    rt: &R,
+) -> CaptureStatus {
     let args = match env::args(rt) {
         Ok(args) => args,
-        Err(error) if error.kind() == io::ErrorKind::OutOfMemory => return Status::NoMemory,
-        Err(_) => return Status::BadWords,
+        Err(error) if error.kind() == io::ErrorKind::OutOfMemory => return CaptureStatus::NoMemory,
+        Err(_) => return CaptureStatus::BadWords,
     };
     let Ok(words) = words(rt.alloc(), args) else {
-        return Status::NoMemory;
+        return CaptureStatus::NoMemory;
     };
     let unit = match unit_asked(words.as_slice()) {
         Ok(unit) => unit,
@@ -53,22 +55,22 @@ fn status_of_run<R: Runtime + Input + Print + AllocGlobal + Files<File = File>>(
 }
 
 /// A sixteenth of the bit period that the words ask for, in femtoseconds; none where the rate is to be found.
-fn unit_asked(words: &[String]) -> Result<Option<u64>, Status>
+fn unit_asked(words: &[String]) -> Result<Option<u64>, CaptureStatus>
     ensures some { IfOk result (λ unit. IfSome unit (λ u. 0 < u)) }
     ensures few { IfOk result (λ unit. IfSome unit (λ u. u ≤ 2 ^ 32)) }
 {
     let [form, rate] = words else {
-        return Err(Status::BadWords);
+        return Err(CaptureStatus::BadWords);
     };
     if form.as_str() != "vcd" {
-        return Err(Status::BadWords);
+        return Err(CaptureStatus::BadWords);
     }
     if rate.as_str() == "auto" {
         return Ok(None);
     }
     match unit_of(rate.as_str()) {
         Some(unit) => Ok(Some(unit)),
-        None => Err(Status::BadWords),
+        None => Err(CaptureStatus::BadWords),
     }
 }
 
@@ -87,7 +89,7 @@ fn unit_of(rate: &str) -> Option<u64>
 }
 
 /// Says on standard error how the run ended.
-fn tell<R: Eprint + AllocGlobal>(rt: &R, status: &Status) -> io::Result<()> {
+fn tell<R: Eprint + AllocGlobal>(rt: &R, status: &CaptureStatus) -> io::Result<()> {
     match status_text(rt.alloc(), status) {
         Ok(text) => rt.eprintln(text),
         Err(_) => Ok(()),

@@ -1,9 +1,9 @@
 //! The bytes of a record on their way out.
 ghost use Rattle.std.specs.Prelude.{◌≡◌, ◌≤◌, ◌<◌, ◌⊎◌, OnOk, OnErr, Err};
 ghost use Rattle.swp_base.specs.Outside.{Rose};
-ghost use Rattle.swp_capture.specs.declared.status.Status.{Status};
+ghost use Rattle.swp_capture.specs.declared.status.CaptureStatus.{CaptureStatus};
 
-use crate::status::Status;
+use crate::status::CaptureStatus;
 use line_capture::Piece;
 use swp_base::{Failed, Sink};
 
@@ -36,10 +36,10 @@ impl Output {
     }
 
     /// Adds the bytes of a piece, and writes where there is no more room.
-    pub fn add<K: Sink>(&mut self, sink: &mut K, piece: Piece) -> Result<(), Status>
+    pub fn add<K: Sink>(&mut self, sink: &mut K, piece: Piece) -> Result<(), CaptureStatus>
         ensures count { K.faults sink.old ≤ K.faults sink.new }
-        ensures fault { result ≡ Err Status.WriteFault → Rose (K.faults sink.old) (K.faults sink.new) }
-        ensures others { OnErr result ((result ≡ Err Status.WriteFault) ⊎ (result ≡ Err Status.TooLong)) }
+        ensures fault { result ≡ Err CaptureStatus.WriteFault → Rose (K.faults sink.old) (K.faults sink.new) }
+        ensures others { OnErr result ((result ≡ Err CaptureStatus.WriteFault) ⊎ (result ≡ Err CaptureStatus.TooLong)) }
     {
         if let Some(byte) = piece.first {
             self.add_many(sink, byte, 1)?;
@@ -48,15 +48,15 @@ impl Output {
     }
 
     /// Adds one byte so many times.
-    fn add_many<K: Sink>(&mut self, sink: &mut K, byte: u8, times: u64) -> Result<(), Status>
+    fn add_many<K: Sink>(&mut self, sink: &mut K, byte: u8, times: u64) -> Result<(), CaptureStatus>
         ensures count { K.faults sink.old ≤ K.faults sink.new }
-        ensures fault { result ≡ Err Status.WriteFault → Rose (K.faults sink.old) (K.faults sink.new) }
-        ensures others { OnErr result ((result ≡ Err Status.WriteFault) ⊎ (result ≡ Err Status.TooLong)) }
+        ensures fault { result ≡ Err CaptureStatus.WriteFault → Rose (K.faults sink.old) (K.faults sink.new) }
+        ensures others { OnErr result ((result ≡ Err CaptureStatus.WriteFault) ⊎ (result ≡ Err CaptureStatus.TooLong)) }
     {
         let mut more = times;
         while more > 0 {
             if self.left == 0 {
-                return Err(Status::TooLong);
+                return Err(CaptureStatus::TooLong);
             }
             if self.len == ROOM {
                 self.flush(sink)?;
@@ -84,15 +84,15 @@ impl Output {
     }
 
     /// Writes what is not written yet.
-    pub fn flush<K: Sink>(&mut self, sink: &mut K) -> Result<(), Status>
+    pub fn flush<K: Sink>(&mut self, sink: &mut K) -> Result<(), CaptureStatus>
         ensures count { K.faults sink.old ≤ K.faults sink.new }
         ensures empty { OnOk result (self.new.len ≡ 0) }
         ensures left { self.new.left ≡ self.old.left }
         ensures fault { OnErr result (Rose (K.faults sink.old) (K.faults sink.new)) }
-        ensures others { OnErr result (result ≡ Err Status.WriteFault) }
+        ensures others { OnErr result (result ≡ Err CaptureStatus.WriteFault) }
     {
         if write_all(sink, &self.bytes[..self.len]).is_err() {
-            return Err(Status::WriteFault);
+            return Err(CaptureStatus::WriteFault);
         }
         self.len = 0;
         Ok(())

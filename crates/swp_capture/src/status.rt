@@ -7,7 +7,7 @@ use vcd_text::VcdFault;
 
 /// How a run of the program ended (this project's own).
 #[derive(Clone, Copy, Debug, PartialEq, Eq)]
-pub enum Status {
+pub enum CaptureStatus {
     /// The capture was read to its end, and its record written.
     Done,
     /// The words are no command of the program.
@@ -27,37 +27,40 @@ pub enum Status {
 }
 
 /// The exit status of the program.
-pub fn exit_code(status: &Status) -> u8
+pub fn exit_code(status: &CaptureStatus) -> u8
     ensures { result ≡ capture_code_of status.now }
 {
     match status {
-        Status::Done => 0,
-        Status::BadWords => 2,
-        Status::BadCapture { .. } => 3,
-        Status::NoRate => 4,
-        Status::ReadFault => 5,
-        Status::WriteFault => 6,
-        Status::NoMemory => 8,
-        Status::TooLong => 9,
+        CaptureStatus::Done => 0,
+        CaptureStatus::BadWords => 2,
+        CaptureStatus::BadCapture { .. } => 3,
+        CaptureStatus::NoRate => 4,
+        CaptureStatus::ReadFault => 5,
+        CaptureStatus::WriteFault => 6,
+        CaptureStatus::NoMemory => 8,
+        CaptureStatus::TooLong => 9,
     }
 }
 
 /// What the program says of a status on standard error; of `Done` it says nothing.
-pub fn status_text(alloc: Global, status: &Status) -> Result<String, AllocError>
+pub fn status_text(alloc: Global, status: &CaptureStatus) -> Result<String, AllocError>
     ensures { IfOk result (λ text. string_bytes text ≡ capture_line status.now) }
 {
     match status {
-        Status::Done => Ok(String::new(alloc)),
-        Status::BadWords => String::from_str(alloc, "usage: swp_capture vcd RATE|auto"),
-        Status::BadCapture { line, fault } => {
+        CaptureStatus::Done => Ok(String::new(alloc)),
+        CaptureStatus::BadWords => String::from_str(alloc, "usage: swp_capture vcd RATE|auto"),
+        CaptureStatus::BadCapture { line, fault } => {
             let words = fault_words(*fault);
             format!(in alloc; "line {line}: {words}")
         }
-        Status::NoRate => String::from_str(alloc, "no rate: fewer than 8 bit periods found"),
-        Status::ReadFault => String::from_str(alloc, "read failed"),
-        Status::WriteFault => String::from_str(alloc, "write failed"),
-        Status::NoMemory => String::from_str(alloc, "out of memory"),
-        Status::TooLong => String::from_str(alloc, "record too long: more than 16777216 bytes"),
+        CaptureStatus::NoRate => String::from_str(alloc, "no rate: fewer than 8 bit periods found"),
+        CaptureStatus::ReadFault => String::from_str(alloc, "read failed"),
+        CaptureStatus::WriteFault => String::from_str(alloc, "write failed"),
+        CaptureStatus::NoMemory => String::from_str(alloc, "out of memory"),
+        CaptureStatus::TooLong => String::from_str(
+            alloc,
+            "record too long: more than 16777216 bytes",
+        ),
     }
 }
 

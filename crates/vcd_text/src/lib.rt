@@ -10,4 +10,4 @@ mod reader;
 mod word;
 
 pub use fault::{VcdFault, VcdRefusal};
-pub use reader::{Told, VcdEnd, VcdReader};
+pub use reader::{VcdEnd, VcdReader, VcdTold};

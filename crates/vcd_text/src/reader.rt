@@ -3,7 +3,7 @@ ghost use Rattle.std.specs.Prelude.{◌≡◌, IfOk, IfErr, IfSome, None, Some};
 
 use crate::fault::{VcdFault, VcdRefusal};
 use crate::number::{femtoseconds_of, number_of};
-use crate::word::Word;
+use crate::word::VcdWord;
 use arrayvec::ArrayVec;
 use line_capture::{Change, MOST_TIME};
 
@@ -18,7 +18,7 @@ type Code = ArrayVec<u8, MOST_CODE>;
 
 /// What a byte tells.
 #[derive(Clone, Copy, Debug, PartialEq, Eq)]
-pub enum Told {
+pub enum VcdTold {
     /// Nothing.
     Nothing,
     /// The line begins at this time, in femtoseconds.
@@ -38,7 +38,7 @@ pub struct VcdEnd {
 
 /// Where in a text the next word stands.
 #[derive(Clone, Copy, PartialEq, Eq)]
-enum Place {
+enum VcdPlace {
     /// In front of a declaration.
     Definitions,
     /// In a line that sigrok-cli writes in front of what it converts.
@@ -63,8 +63,8 @@ enum Place {
 #[derive(Drop)]
 pub struct VcdReader {
     line: u64,
-    word: Word,
-    place: Place,
+    word: VcdWord,
+    place: VcdPlace,
     scale_text: ArrayVec<u8, SCALE_KEPT>,
     scale: Option<u64>,
     is_one_bit: bool,
@@ -89,8 +89,8 @@ impl VcdReader {
     {
         VcdReader {
             line: 1,
-            word: Word::new(),
-            place: Place::Definitions,
+            word: VcdWord::new(),
+            place: VcdPlace::Definitions,
             scale_text: ArrayVec::new(),
             scale: None,
             is_one_bit: false,
@@ -107,15 +107,15 @@ impl VcdReader {
     }
 
     /// Takes the next byte.
-    pub fn take(&mut self, byte: u8) -> Result<Told, VcdRefusal>
+    pub fn take(&mut self, byte: u8) -> Result<VcdTold, VcdRefusal>
         ensures { IfOk result FitsTold }
     {
         if !byte.is_ascii_whitespace() {
             self.word.push(byte);
-            return Ok(Told::Nothing);
+            return Ok(VcdTold::Nothing);
         }
         let told = if self.word.bytes().is_empty() {
-            Ok(Told::Nothing)
+            Ok(VcdTold::Nothing)
         } else {
             self.take_word()
         };
@@ -123,8 +123,8 @@ impl VcdReader {
         let line = self.line;
         if byte == b'\n' {
             self.line = self.line.saturating_add(1);
-            if self.place == Place::Meta {
-                self.place = Place::Definitions;
+            if self.place == VcdPlace::Meta {
+                self.place = VcdPlace::Definitions;
             }
         }
         told.map_err(|fault| VcdRefusal { line, fault })
@@ -144,7 +144,7 @@ impl VcdReader {
     {
         let line = self.line;
         match self.place {
-            Place::Changes | Place::Comment | Place::OtherCode => {}
+            VcdPlace::Changes | VcdPlace::Comment | VcdPlace::OtherCode => {}
             _ => {
                 return Err(VcdRefusal {
                     line,
@@ -165,14 +165,14 @@ impl VcdReader {
     }
 
     /// Takes a whole word.
-    fn take_word(&mut self) -> Result<Told, VcdFault>
+    fn take_word(&mut self) -> Result<VcdTold, VcdFault>
         ensures { IfOk result FitsTold }
     {
         match self.place {
-            Place::Changes => return self.take_change(),
-            Place::OtherCode => self.place = Place::Changes,
-            Place::Definitions => self.begin_declaration()?,
-            Place::Meta => {}
+            VcdPlace::Changes => return self.take_change(),
+            VcdPlace::OtherCode => self.place = VcdPlace::Changes,
+            VcdPlace::Definitions => self.begin_declaration()?,
+            VcdPlace::Meta => {}
             _ => {
                 if matches!(self.word.bytes(), b"$end") {
                     self.end_declaration()?;
@@ -181,16 +181,16 @@ impl VcdReader {
                 }
             }
         }
-        Ok(Told::Nothing)
+        Ok(VcdTold::Nothing)
     }
 
     fn begin_declaration(&mut self) -> Result<(), VcdFault> {
         self.place = match self.word.bytes() {
-            b"$timescale" => Place::Timescale,
-            b"$var" => Place::Variable(0),
-            b"$enddefinitions" => Place::EndDefinitions,
-            b"META" if self.line == 1 => Place::Meta,
-            [b'$', ..] => Place::Other,
+            b"$timescale" => VcdPlace::Timescale,
+            b"$var" => VcdPlace::Variable(0),
+            b"$enddefinitions" => VcdPlace::EndDefinitions,
+            b"META" if self.line == 1 => VcdPlace::Meta,
+            [b'$', ..] => VcdPlace::Other,
             _ => return Err(VcdFault::NoVcd),
         };
         Ok(())
@@ -199,25 +199,25 @@ impl VcdReader {
     /// A declaration, or a comment among the changes, ends.
     fn end_declaration(&mut self) -> Result<(), VcdFault> {
         match self.place {
-            Place::Timescale => {
+            VcdPlace::Timescale => {
                 self.scale = femtoseconds_of(self.scale_text.as_slice());
                 if self.scale.is_none() {
                     return Err(VcdFault::BadTimescale);
                 }
             }
-            Place::Variable(words) if words < 4 => return Err(VcdFault::BadVariable),
-            Place::EndDefinitions => {
+            VcdPlace::Variable(words) if words < 4 => return Err(VcdFault::BadVariable),
+            VcdPlace::EndDefinitions => {
                 self.check_declared()?;
-                self.place = Place::Changes;
+                self.place = VcdPlace::Changes;
                 return Ok(());
             }
-            Place::Comment => {
-                self.place = Place::Changes;
+            VcdPlace::Comment => {
+                self.place = VcdPlace::Changes;
                 return Ok(());
             }
             _ => {}
         }
-        self.place = Place::Definitions;
+        self.place = VcdPlace::Definitions;
         Ok(())
     }
 
@@ -237,7 +237,7 @@ impl VcdReader {
     /// A word inside a declaration.
     fn go_on(&mut self) -> Result<(), VcdFault> {
         match self.place {
-            Place::Timescale => {
+            VcdPlace::Timescale => {
                 for byte in self.word.bytes() {
                     if self.scale_text.try_push(*byte).is_err() {
                         return Err(VcdFault::BadTimescale);
@@ -245,7 +245,7 @@ impl VcdReader {
                 }
                 Ok(())
             }
-            Place::Variable(words) => self.take_variable(words),
+            VcdPlace::Variable(words) => self.take_variable(words),
             _ => Ok(()),
         }
     }
@@ -264,7 +264,7 @@ impl VcdReader {
             _ => {}
         }
         if words < 4 {
-            self.place = Place::Variable(words + 1);
+            self.place = VcdPlace::Variable(words + 1);
         }
         Ok(())
     }
@@ -294,7 +294,7 @@ impl VcdReader {
     }
 
     /// A word among the changes.
-    fn take_change(&mut self) -> Result<Told, VcdFault>
+    fn take_change(&mut self) -> Result<VcdTold, VcdFault>
         ensures { IfOk result FitsTold }
     {
         match self.word.bytes() {
@@ -303,12 +303,12 @@ impl VcdReader {
                 let is_up = matches!(level, b'1' | b'h' | b'H');
                 self.take_level(is_up);
             }
-            [b'b' | b'B' | b'r' | b'R' | b's' | b'S', ..] => self.place = Place::OtherCode,
-            b"$comment" => self.place = Place::Comment,
+            [b'b' | b'B' | b'r' | b'R' | b's' | b'S', ..] => self.place = VcdPlace::OtherCode,
+            b"$comment" => self.place = VcdPlace::Comment,
             [b'$', ..] => {}
             _ => return Err(VcdFault::BadChange),
         }
-        Ok(Told::Nothing)
+        Ok(VcdTold::Nothing)
     }
 
     /// The signal whose code stands behind the first byte of the word has this level.
@@ -327,7 +327,7 @@ impl VcdReader {
     }
 
     /// The time goes on.
-    fn take_time(&mut self) -> Result<Told, VcdFault>
+    fn take_time(&mut self) -> Result<VcdTold, VcdFault>
         ensures { IfOk result FitsTold }
     {
         let count = count_of(self.word.bytes(), self.word.is_longer())?;
@@ -338,21 +338,21 @@ impl VcdReader {
         };
         let Some(now) = self.last_time else {
             self.last_time = Some(time);
-            return Ok(Told::Begins(time));
+            return Ok(VcdTold::Begins(time));
         };
         if time < now {
             return Err(VcdFault::TimeBack);
         }
         if time == now {
-            return Ok(Told::Nothing);
+            return Ok(VcdTold::Nothing);
         }
         let change = self.change_at(now);
         self.last_time = Some(time);
         self.told_s1 = self.s1;
         self.told_s2 = self.s2;
         match change {
-            Some(change) => Ok(Told::Changes(change)),
-            None => Ok(Told::Nothing),
+            Some(change) => Ok(VcdTold::Changes(change)),
+            None => Ok(VcdTold::Nothing),
         }
     }
 

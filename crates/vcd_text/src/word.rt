@@ -6,15 +6,15 @@ pub(crate) const KEPT: usize = 33;
 
 /// A word so far: its first bytes, and whether there are more.
 #[derive(Drop)]
-pub(crate) struct Word {
+pub(crate) struct VcdWord {
     bytes: ArrayVec<u8, KEPT>,
     is_longer: bool,
 }
 
-impl Word {
+impl VcdWord {
     /// No byte yet.
     pub(crate) fn new() -> Self {
-        Word {
+        VcdWord {
             bytes: ArrayVec::new(),
             is_longer: false,
         }
